@@ -9,5 +9,11 @@ pub mod compare;
 pub mod excerpt;
 pub mod steps;
 
-pub use compare::{Change, Comparison, NewChanges, Numbers, SetWires, WireSource, changed_stimuli, find_near, rests_near};
-pub use steps::{OldWire, put_change, put_old_changes, put_to_sleep, seat_bits, seat_data, take_changes, turn_copies_on, turn_on};
+pub use compare::{
+    Change, Comparison, NewChanges, Numbers, SetWires, WireSource, changed_stimuli, find_near,
+    rests_near,
+};
+pub use steps::{
+    OldWire, put_change, put_old_changes, put_to_sleep, seat_bits, seat_data, take_changes,
+    turn_copies_on, turn_on,
+};

@@ -3,10 +3,10 @@ ghost use Rattle.std.specs.Prelude.{◌≡◌, ◌≤◌, length, IfOk, IfSome, 
 ghost use Rattle.mp_commands.specs.Names.{lines_of, first_part, lines_of_each, opening_of};
 ghost use Rattle.mp_commands.specs.Desks.{IsDeskText, blocks_of, has_valid_desk};
 
+use crate::command_runs::{Command, Options, RunFault, opened};
 use crate::meeting_faults::fault_of_meeting;
 use crate::met_lines::put_met;
 use crate::sessions::Sessions;
-use crate::command_runs::{Command, Options, RunFault, opened};
 use mp_desk::DeskSize;
 use mp_phase::Crew;
 use mp_streams::{Out, Sink};
@@ -19,11 +19,11 @@ use std::thread::Threads;
 /// time, each in turn, while viewers read. Then a line for each designer is written, a line for each viewer, and the lines of the waves of
 /// the netlist to which the accepted edits led.
 #[derive(Drop)]
-pub struct Desk<P: Sessions + Drop> {
+pub struct DeskCommand<P: Sessions + Drop> {
     pub sessions: P,
 }
 
-impl<P: Sessions + Drop> Command for Desk<P> {
+impl<P: Sessions + Drop> Command for DeskCommand<P> {
     ghost opening = { λ _ input options. opening_of (first_part (lines_of input)) (has_valid_desk (length (blocks_of input)) options) };
 
     ghost IsText = { λ _ input options n text. IsDeskText n (blocks_of input) options.viewers text };

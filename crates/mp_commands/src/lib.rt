@@ -8,7 +8,6 @@
 mod answers;
 mod command_runs;
 mod desk;
-mod keeper;
 pub mod laws;
 mod live;
 mod meeting_faults;
@@ -17,13 +16,17 @@ mod play;
 mod player;
 mod replies;
 mod script_opening;
+mod script_session;
 mod sessions;
 mod views;
 
-pub use answers::{Snapshot, put_accepted, put_answer, put_coded, put_refused, put_too_long, put_unread};
-pub use command_runs::{Command, Options, RunFault, Viewed, exit_status, fault_line, opened, read_opening, run_command};
-pub use desk::Desk;
-pub use keeper::Keeper;
+pub use answers::{
+    Snapshot, put_accepted, put_answer, put_coded, put_refused, put_too_long, put_unread,
+};
+pub use command_runs::{
+    Command, Options, RunFault, Viewed, exit_status, fault_line, opened, read_opening, run_command,
+};
+pub use desk::DeskCommand;
 pub use live::{Prompted, SeatScribe, fault_of_talk};
 pub use meeting_faults::fault_of_meeting;
 pub use met_lines::put_met;
@@ -31,5 +34,10 @@ pub use play::Play;
 pub use player::Player;
 pub use replies::put_reply;
 pub use script_opening::open_keeper;
+pub use script_session::ScriptSession;
 pub use sessions::Sessions;
-pub use views::{AskedPicture, Charset, Drawing, DumpText, Evaluated, GraphText, MAX_COLUMNS, MeasureLines, PathLines, PictureText, ReportLines, TimeRange, USUAL_COLUMNS, VerilogText, View, WaitLines, WaveLines, WhyLines, put_wave_line, put_wave_lines};
+pub use views::{
+    AskedPicture, Charset, Drawing, DumpText, Evaluated, GraphText, MAX_COLUMNS, MeasureLines,
+    PathLines, PictureText, ReportLines, TimeRange, USUAL_COLUMNS, VerilogText, View, WaitLines,
+    WaveLines, WhyLines, put_wave_line, put_wave_lines,
+};

@@ -3,16 +3,16 @@ ghost use Rattle.std.specs.Prelude.{◌≡◌, ℕ, List, Ok};
 ghost use Rattle.mp_commands.specs.Names.{replay, present, Writes, lines_from};
 ghost use Rattle.mp_commands.specs.Desks.{tally_line, viewer_line, met_text};
 
-use mp_desk::{Met, Tally};
+use crate::views::{Evaluated, put_wave_lines};
+use mp_desk::{DeskOutcome, Tally};
 use mp_phase::Crew;
 use mp_streams::{Failed, Out, Sink, Text};
 use mp_version::EditSession;
-use crate::views::{Evaluated, put_wave_lines};
 
 /// Writes a line for each designer, a line for each viewer, and the lines of the waves after the meeting.
 pub fn put_met<S: EditSession, T: Sink>(
     out: &mut Out<T>,
-    met: &Met<S>,
+    met: &DeskOutcome<S>,
     crew: Crew,
 ) -> Result<(), Failed>
     ensures replayed { replay (S.story met.now.session).base (S.story met.now.session).edits ≡ Ok (present (S.story met.now.session)) }

@@ -4,10 +4,10 @@ ghost use Rattle.mp_commands.specs.Names.{lines_of, first_part, later_parts, has
 ghost use Rattle.mp_commands.specs.Keepers.{opened as opened_kept};
 ghost use Rattle.mp_commands.specs.Plays.{AreReplies, PutsReplies};
 
-use crate::keeper::Keeper;
-use crate::replies::put_reply;
-use crate::sessions::Sessions;
 use crate::command_runs::{Command, Options, RunFault, opened};
+use crate::replies::put_reply;
+use crate::script_session::ScriptSession;
+use crate::sessions::Sessions;
 use mp_streams::{Out, Sink, WriteError};
 use mp_text::{divided, first_line};
 use std::alloc::Global;
@@ -39,7 +39,7 @@ impl<P: Sessions + Drop> Command for Play<P> {
         let text = input.as_slice();
         let (front, script) = divided(alloc, text)?;
         let (netlist, crew) = opened(alloc, front, options.crew())?;
-        let mut keeper = Keeper::new(&self.sessions, rt, alloc, &netlist, crew)?;
+        let mut keeper = ScriptSession::new(&self.sessions, rt, alloc, &netlist, crew)?;
         Ok(put_replies(rt, alloc, out, &mut keeper, script)?)
     }
 }
@@ -49,7 +49,7 @@ fn put_replies<R: Threads + Wait + Sync, T: Sink, P: Sessions>(
     rt: &R,
     alloc: Global,
     out: &mut Out<T>,
-    keeper: &mut Keeper<P>,
+    keeper: &mut ScriptSession<P>,
     script: &[u8],
 ) -> Result<(), WriteError>
     ensures { PutsReplies result out.old out.new keeper.old (lines_of script.now) }

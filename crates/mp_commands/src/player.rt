@@ -1,11 +1,11 @@
 //! Who answers the lines of a script.
-use crate::keeper::Keeper;
-use crate::replies::put_reply;
-use crate::sessions::Sessions;
 use crate::answers::put_too_long;
-use mp_text::LineReader;
-use mp_streams::{Out, Sink, Source, WriteError};
+use crate::replies::put_reply;
+use crate::script_session::ScriptSession;
+use crate::sessions::Sessions;
 use mp_seats::{Answerer, TalkFault, converse};
+use mp_streams::{Out, Sink, Source, WriteError};
+use mp_text::LineReader;
 use std::alloc::Global;
 use std::marker::Model;
 use std::sync::Wait;
@@ -16,7 +16,7 @@ use std::thread::Threads;
 #[derive(Drop)]
 pub struct Player<P: Sessions> {
     alloc: Global,
-    keeper: Keeper<P>,
+    keeper: ScriptSession<P>,
 }
 
 impl<P: Sessions> Model for Player<P> {
@@ -34,7 +34,7 @@ impl<P: Sessions> Player<P> {
     ghost use Rattle.mp_commands.specs.LineAnswers.{IsAnswer};
 
     /// Who edits what is kept.
-    pub fn new(alloc: Global, keeper: Keeper<P>) -> Self
+    pub fn new(alloc: Global, keeper: ScriptSession<P>) -> Self
         ensures { result ≡ keeper }
     {
         Player { alloc, keeper }

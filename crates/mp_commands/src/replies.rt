@@ -3,9 +3,9 @@ ghost use Rattle.std.specs.Prelude.{◌≡◌, Ok};
 ghost use Rattle.mp_commands.specs.Names.{line_at};
 ghost use Rattle.mp_commands.specs.Replies.{PutsReply, PutsEdit};
 
-use crate::keeper::Keeper;
-use crate::sessions::Sessions;
 use crate::answers::{put_accepted, put_answer, put_refused, put_unread};
+use crate::script_session::ScriptSession;
+use crate::sessions::Sessions;
 use mp_netlist::Edit;
 use mp_streams::{Failed, Out, Sink, WriteError};
 use mp_text::{Line, LineError, read_line};
@@ -18,7 +18,7 @@ pub fn put_reply<R: Threads + Wait + Sync, T: Sink, P: Sessions>(
     rt: &R,
     alloc: Global,
     out: &mut Out<T>,
-    keeper: &mut Keeper<P>,
+    keeper: &mut ScriptSession<P>,
     line: &[u8],
 ) -> Result<(), WriteError>
     ensures { PutsReply result out.old out.new keeper.old keeper.new (line_at line.now) }
@@ -35,7 +35,7 @@ fn put_line_reply<R: Threads + Wait + Sync, T: Sink, P: Sessions>(
     rt: &R,
     alloc: Global,
     out: &mut Out<T>,
-    keeper: &mut Keeper<P>,
+    keeper: &mut ScriptSession<P>,
     line: Line,
 ) -> Result<(), WriteError>
     ensures { PutsReply result out.old out.new keeper.old keeper.new (Ok line) }
@@ -51,7 +51,7 @@ fn put_line_reply<R: Threads + Wait + Sync, T: Sink, P: Sessions>(
 fn put_change<R: Threads + Wait + Sync, T: Sink, P: Sessions>(
     rt: &R,
     out: &mut Out<T>,
-    keeper: &mut Keeper<P>,
+    keeper: &mut ScriptSession<P>,
     edit: Edit,
 ) -> Result<(), Failed>
     ensures { PutsEdit result out.old out.new keeper.old keeper.new edit }

@@ -4,9 +4,9 @@ ghost use Rattle.mp_commands.specs.command_runs.RunFaults.{counted_reads};
 ghost use Rattle.mp_commands.specs.command_runs.Runs.{TakesInput};
 ghost use Rattle.mp_commands.specs.ScriptOpenings.{OpensAs, StaysShut};
 
-use crate::keeper::Keeper;
-use crate::sessions::Sessions;
 use crate::command_runs::{Options, RunFault, read_opening};
+use crate::script_session::ScriptSession;
+use crate::sessions::Sessions;
 use mp_streams::Source;
 use std::alloc::Global;
 use std::sync::Wait;
@@ -20,12 +20,12 @@ pub fn open_keeper<R: Threads + Wait + Sync, S: Source, P: Sessions>(
     alloc: Global,
     source: &mut S,
     options: &Options,
-) -> Result<Keeper<P>, RunFault>
+) -> Result<ScriptSession<P>, RunFault>
     ensures opened { IfOk result (λ keeper. OpensAs (S.left source.old) options.now keeper) }
     ensures refused { IfErr result (StaysShut (S.left source.old) options.now) }
     ensures taken { TakesInput (S.left source.old) (S.left source.new) }
     ensures read_faults { S.fault_count source.new ≡ counted_reads result (S.fault_count source.old) }
 {
     let (netlist, crew) = read_opening(alloc, source, options.crew())?;
-    Ok(Keeper::new(sessions, rt, alloc, &netlist, crew)?)
+    Ok(ScriptSession::new(sessions, rt, alloc, &netlist, crew)?)
 }

@@ -4,11 +4,11 @@ ghost use Rattle.std.specs.Thread.{IsSync};
 ghost use Rattle.mp_depend.specs.declared.work.work_entry.WorkEntry.{WorkEntry};
 ghost use Rattle.mp_commands.specs.Names.{RefusedBy, lines_of_each, opening, one_more, present, judged, IsWork, IsMeeting};
 
-use mp_desk::{DeskSize, MeetingFault, Met};
+use mp_depend::Work;
+use mp_desk::{DeskOutcome, DeskSize, MeetingFault};
 use mp_netlist::{Edit, EditError, Netlist};
 use mp_phase::Crew;
 use mp_version::EditSession;
-use mp_depend::Work;
 use std::alloc::{AllocError, Global};
 use std::sync::Wait;
 use std::thread::Threads;
@@ -60,7 +60,7 @@ pub trait Sessions {
         session: Self::Session,
         blocks: &[&[u8]],
         size: DeskSize,
-    ) -> Result<Met<Self::Session>, MeetingFault>
+    ) -> Result<DeskOutcome<Self::Session>, MeetingFault>
         requires shared { IsSync R.row }
         requires fresh { Self.Session.story session ≡ opening (Self.Session.story session).base }
         requires designers { size.designers ≡ length blocks.now }

@@ -1,2 +1,2 @@
 pub mod work
-pub mod history
+pub mod recording

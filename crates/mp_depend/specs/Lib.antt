@@ -2,4 +2,4 @@ pub mod Touched
 pub mod Drivers
 pub mod SetAlike
 pub mod work
-pub mod history
+pub mod recording

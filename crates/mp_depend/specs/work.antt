@@ -1,5 +1,5 @@
 pub mod Revisions
 pub mod Stays
 pub mod Work
-pub mod Stretches
+pub mod WorkSpans
 pub mod Merges

@@ -5,13 +5,13 @@
 #![tactic(auto)]
 
 mod drivers;
-mod history;
+mod recording;
 mod set_alike;
 mod touch;
 pub mod work;
 
 pub use drivers::drivers_of;
-pub use history::{Finished, History, old_state};
+pub use recording::{Finished, RerunRecorder, old_state};
 pub use set_alike::is_set_alike;
 pub use touch::{is_touched, touched};
-pub use work::{Stretch, Work, WorkEntries, WorkEntry, block_of, window_end};
+pub use work::{Work, WorkEntries, WorkEntry, WorkSpan, block_of, window_end};

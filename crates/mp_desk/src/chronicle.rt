@@ -8,7 +8,7 @@ use mp_version::Version;
 use std::sync::Arc;
 
 /// An entry of the history: a version, and the number of the designer who made its last edit. No value of it is made.
-pub(crate) struct Entry {
+pub(crate) struct HistoryEntry {
     version: Version,
     author: usize,
 }
@@ -16,7 +16,7 @@ pub(crate) struct Entry {
 /// The rule of the history.
 pub(crate) struct Law;
 
-impl Rule<Entry, u64> for Law {
+impl Rule<HistoryEntry, u64> for Law {
     ghost use Rattle.std.specs.Prelude.{[]};
     ghost use base.Fml.{ftrue};
     ghost use Rattle.mp_desk.specs.Chronicles.{IsKept};
@@ -37,7 +37,7 @@ impl Rule<Entry, u64> for Law {
 /// Callers trade nothing.
 pub(crate) struct Nothing;
 
-impl Gain<Entry, u64> for Nothing {
+impl Gain<HistoryEntry, u64> for Nothing {
     ghost use base.Fml.{ftrue};
 
     ghost after = { λ names about answer. ftrue };
@@ -46,7 +46,7 @@ impl Gain<Entry, u64> for Nothing {
 /// A step that adds an entry.
 pub(crate) struct Add;
 
-impl Play<Entry, u64> for Add {
+impl Play<HistoryEntry, u64> for Add {
     ghost use Rattle.mp_desk.specs.Chronicles.{Adds};
 
     ghost then = { Adds };
@@ -59,7 +59,7 @@ struct Signing<'a> {
     author: usize,
 }
 
-impl<'a> Plain<Signing<'a>, Entry, u64> for Add {
+impl<'a> Plain<Signing<'a>, HistoryEntry, u64> for Add {
     ghost use Rattle.std.specs.Prelude.{None};
     ghost use Rattle.std.specs.Arc.{arc_value};
     ghost use Rattle.mp_desk.specs.Chronicles.{entry};
@@ -71,12 +71,12 @@ impl<'a> Plain<Signing<'a>, Entry, u64> for Add {
 
 /// Adds a version with its author where the word is the one expected. It gives the history up to there.
 pub(crate) fn added(
-    word: &Word<Entry, u64, Law>,
-    seen: Seen<Entry, u64, Law>,
+    word: &Word<HistoryEntry, u64, Law>,
+    seen: Seen<HistoryEntry, u64, Law>,
     old: u64,
     version: &Arc<Version>,
     author: usize,
-) -> Option<Seen<Entry, u64, Law>>
+) -> Option<Seen<HistoryEntry, u64, Law>>
     requires word { word.now ≡ writer_of seen.book }
     requires old { old ≡ mark seen.log }
     requires follows { MayAdd seen.log (arc_value version.now) }
@@ -85,7 +85,9 @@ pub(crate) fn added(
 {
     let mut seen = seen;
     let signing = Signing { version, author };
-    let mut offer: Offer<Entry, u64, Law, Nothing> = seen.plain::<Nothing, Signing, Add>(&signing);
+    let mut offer: Offer<HistoryEntry, u64, Law, Nothing> = seen.plain::<Nothing, Signing, Add>(
+        &signing,
+    );
     let mut pen = seen.no_pen();
     let next = version.number() as u64 + 1;
     let found = word.compare_exchange::<Add, Nothing>(old, next, &mut seen, &mut offer, &mut pen);

@@ -36,7 +36,7 @@ pub use desk::Desk;
 pub use desk_parts::DeskParts;
 pub use desk_refused::{DeskCause, DeskRefused};
 pub use desk_size::{BadDeskSize, DeskSize, MAX_DESIGNERS, MAX_VIEWERS};
-pub use meeting::{MeetingFault, Met, Sitting, Tally, adjourn, meet, start_all};
+pub use meeting::{DesignerTally, DeskOutcome, MeetingFault, Tally, adjourn, meet, start_all};
 pub use name::DeskName;
 pub use notice::Notice;
 pub use pass::ReadError;

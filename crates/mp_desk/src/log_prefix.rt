@@ -1,14 +1,14 @@
 //! How far a history has come.
 ghost use Rattle.std.specs.Prelude.{◌≡◌};
 
-use crate::chronicle::{Entry, Law};
+use crate::chronicle::{HistoryEntry, Law};
 use logbook::Seen;
 use std::marker::Model;
 
 /// A story that the history has reached. It has no bytes.
 #[derive(Drop)]
 pub(crate) struct LogPrefix {
-    pub seen: Seen<Entry, u64, Law>,
+    pub seen: Seen<HistoryEntry, u64, Law>,
 }
 
 impl Model for LogPrefix {

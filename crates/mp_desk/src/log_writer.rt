@@ -4,7 +4,7 @@ ghost use Rattle.std.specs.Arc.{arc_value};
 ghost use Rattle.mp_desk.specs.Chronicles.{unsigned};
 
 use crate::authors::Authors;
-use crate::chronicle::{Entry, Law, added};
+use crate::chronicle::{HistoryEntry, Law, added};
 use crate::log_prefix::LogPrefix;
 use logbook::{Seen, Start, Word};
 use mp_version::Version;
@@ -15,8 +15,8 @@ use std::sync::Arc;
 /// which history it is, its story and the authors of its edits.
 #[derive(Drop)]
 pub(crate) struct LogWriter {
-    word: Word<Entry, u64, Law>,
-    seen: Seen<Entry, u64, Law>,
+    word: Word<HistoryEntry, u64, Law>,
+    seen: Seen<HistoryEntry, u64, Law>,
 }
 
 impl Model for LogWriter {

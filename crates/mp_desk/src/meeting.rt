@@ -1,15 +1,15 @@
 //! Several designers and viewers at one desk, on threads of their own: each designer submits a block of lines, and viewers read meanwhile.
 
+mod designer_tally;
 mod meeting;
 mod meeting_fault;
 mod race;
 mod reading;
 mod seats;
-mod sitting;
 mod tally;
 
-pub use meeting::{Met, adjourn, meet};
+pub use designer_tally::DesignerTally;
+pub use meeting::{DeskOutcome, adjourn, meet};
 pub use meeting_fault::MeetingFault;
 pub use seats::start_all;
-pub use sitting::Sitting;
 pub use tally::Tally;

@@ -15,12 +15,12 @@ use Rattle.mp_simulation.proofs.lemmas.bits.WholeLemmas.{undriven}
 use Rattle.mp_simulation.specs.units.DataLevels.{is_data}
 use Rattle.mp_simulation.specs.declared.run.stimuli.StimulusChange.{StimulusChange}
 use Rattle.mp_partition.specs.runs.Marks.{is_marked}
-use Rattle.mp_partition.specs.regions.Regions.{home_of, region}
+use Rattle.mp_partition.specs.regions.Regions.{partition_of, region}
 use Rattle.mp_partition.specs.regions.Divisions.{heard_by, IsDivision}
 use Rattle.mp_partition.proofs.lemmas.regions.DivisionLemmas.{divided_apart, divided_closed}
 use Rattle.mp_partition.proofs.lemmas.regions.PartLemmas.{heard_driver, region_level}
 use Rattle.mp_partition.proofs.lemmas.regions.RegionLemmas.{has_stimuli}
-use Rattle.mp_engine.specs.letters.Letters.{AreTold, IsToldOnce}
+use Rattle.mp_engine.specs.messages.Messages.{AreTold, IsToldOnce}
 use Rattle.mp_engine.specs.region_runs.RegionRuns.{AreTidings, is_set}
 use Rattle.mp_engine.proofs.lemmas.region_runs.OwnStimuliLemmas.{by_width}
 
@@ -53,10 +53,10 @@ module _ (n : Circuit) (ok : IsCircuit n) (homes wires : List ℕ) (heards : Lis
   set_there w None none marked = absurd (let some = (is.heard part w marked).stands in let no : ⊥ = cc in no)
   set_there w (Some record_of) stands marked = ap is_stimulus (heard_driver n ok homes part (heard_by heards part) (divided_apart n homes wires heards parts part is) w record_of marked stands)
 
-  once : (bys : List ℕ) (w u : ℕ) → IsToldOnce n wires (heard_by heards part) bys → is_marked (heard_by heards part) w ≡ true → change_at n w u ≡ true → listed (home_of wires w) bys ≡ 1
+  once : (bys : List ℕ) (w u : ℕ) → IsToldOnce n wires (heard_by heards part) bys → is_marked (heard_by heards part) w ≡ true → change_at n w u ≡ true → listed (partition_of wires w) bys ≡ 1
   once bys w u told marked change = by (driven_by n w)
     where
-      by : ((m p : ℕ) × Drives n m p w) ⊎ (driver n w ≡ stimulus_driver (stimulus_at n w)) → listed (home_of wires w) bys ≡ 1
+      by : ((m p : ℕ) × Drives n m p w) ⊎ (driver n w ≡ stimulus_driver (stimulus_at n w)) → listed (partition_of wires w) bys ≡ 1
       by (inl found) = told found.0 found.1 w found.2 marked
       by (inr none) =
           let nothing : driver n w ≡ Nothing = none ∙ ap stimulus_driver (is.heard part w marked).unset in
@@ -82,13 +82,13 @@ module _ (n : Circuit) (ok : IsCircuit n) (homes wires : List ℕ) (heards : Lis
   }
     where
       by : (w u : ℕ) → u < until → (mark : Bool) → is_marked (heard_by heards part) w ≡ mark →
-          cond (change_at n w u && is_marked (heard_by heards part) w) (listed (home_of wires w) bys) 0 ≡ bit (is_set (region n homes part (heard_by heards part)) (is_marked (heard_by heards part)) w u)
+          cond (change_at n w u && is_marked (heard_by heards part) w) (listed (partition_of wires w) bys) 0 ≡ bit (is_set (region n homes part (heard_by heards part)) (is_marked (heard_by heards part)) w u)
       by w u before true marked =
-          some_heard (change_at n w u) (is_stimulus (driver r w)) (is_marked heard w) (set_there w (wire_at n w) refl marked) marked (listed (home_of wires w) bys) (once bys w u told marked)
+          some_heard (change_at n w u) (is_stimulus (driver r w)) (is_marked heard w) (set_there w (wire_at n w) refl marked) marked (listed (partition_of wires w) bys) (once bys w u told marked)
           ∙ ap (λ c. bit ((c && is_stimulus (driver r w)) && is_marked heard w)) (sym (same_change w u marked (omega (arith, before, low))))
-      by w u before false marked = none_heard (change_at n w u) (change_at r w u && is_stimulus (driver r w)) (is_marked heard w) (listed (home_of wires w) bys) marked
+      by w u before false marked = none_heard (change_at n w u) (change_at r w u && is_stimulus (driver r w)) (is_marked heard w) (listed (partition_of wires w) bys) marked
 
--- what holds of what letters are about holds of the netlist as it is divided, and the other way round
+-- what holds of what messages are about holds of the netlist as it is divided, and the other way round
 pub renamed : {n m : Circuit} {ws vs : List ℕ} {hs gs : List (List Bool)} {p q : ℕ} → n ≡ m → ws ≡ vs → hs ≡ gs → p ≡ q → (P : Circuit → List ℕ → List (List Bool) → ℕ → Type 0) → P n ws hs p → P m vs gs q
 renamed {n} {m} {ws} {vs} {hs} {gs} {p} {q} netlist wires heards part P is =
     subst (λ k. P m vs gs k) part (subst (λ (h : List (List Bool)). P m vs h p) heards (subst (λ (w : List ℕ). P m w hs p) wires (subst (λ (c : Circuit). P c ws hs p) netlist is)))

@@ -1,2 +1,2 @@
 pub mod region_runs
-pub mod letters
+pub mod messages

@@ -6,12 +6,12 @@ use Rattle.mp_partition.specs.regions.Regions.{region}
 use Rattle.mp_partition.specs.regions.Divisions.{heard_by, IsCrossing, IsDivision}
 use Rattle.mp_partition.specs.declared.merging.part_run.PartRun.{PartRun}
 use Rattle.mp_partition.specs.merging.PartRuns.{IsPartRun, AreRuns}
-use Rattle.mp_engine.specs.declared.letters.letter.Subject.{Ghosts}
-use Rattle.mp_engine.specs.declared.letters.mail.Mail.{Mail}
+use Rattle.mp_engine.specs.declared.messages.message.Subject.{Ghosts}
+use Rattle.mp_engine.specs.declared.messages.channels.Channels.{Channels}
 use Rattle.mp_engine.specs.declared.part_of.PartOf.{PartOf}
 use Rattle.mp_engine.specs.declared.part_of.Divided.{Divided}
 
--- the part is one of a netlist that is so divided, about which letters are
+-- the part is one of a netlist that is so divided, about which messages are
 pub record IsPartOf (n : Circuit) (wires : List ℕ) (heards : List (List Bool)) (it : PartOf) : Type 0 where
   pub division : IsDivision it.netlist.now it.division.now.homes.items it.division.now.wires.items it.division.now.heard.items it.division.now.parts
   pub crossing : IsCrossing it.netlist.now it.division.now.heard.items it.division.now.delay
@@ -25,8 +25,8 @@ IsFirst n wires heards it = IsPartOf n wires heards it × (it.part ≡ 0)
 
 module _ {J : Type 0} {subject : Ghosts J} where
   -- the mail is the part's
-  abbrev pub IsMailOf : Circuit → List ℕ → List (List Bool) → PartOf → Mail J subject → Type 0
-  IsMailOf n wires heards it mail = IsPartOf n wires heards it × (mail.part ≡ it.part)
+  abbrev pub IsMailOf : Circuit → List ℕ → List (List Bool) → PartOf → Channels J subject → Type 0
+  IsMailOf n wires heards it channels = IsPartOf n wires heards it × (channels.part ≡ it.part)
 
 -- the run of the part
 abbrev pub IsRunOf : PartOf → PartRun → Type 0

@@ -1,10 +1,10 @@
 //! A netlist that is divided, and a part of it as a thread of its own runs it.
 
-use crate::letters::{GivenUp, Mail, Subject, Window};
-use mp_partition::{Division, PartRun, Region, heard_by};
-use mp_netlist::Netlist;
-use mp_phase::Gate;
+use crate::messages::{Channels, GivenUp, Subject, Window};
 use crate::region_runs::RegionRun;
+use mp_netlist::Netlist;
+use mp_partition::{Division, PartRun, Region, heard_by};
+use mp_phase::Gate;
 use std::alloc::Global;
 use std::sync::Wait;
 use std::thread::Promise;
@@ -44,10 +44,10 @@ impl<'a> PartOf<'a> {
         rt: &R,
         alloc: Global,
         gate: &G,
-        mail: Mail<J>,
+        channels: Channels<J>,
     ) -> Result<PartRun, GivenUp>
         requires open { IsOpen (G.may gate.now) }
-        requires mail { IsMailOf J.netlist J.wires J.heards self mail }
+        requires channels { IsMailOf J.netlist J.wires J.heards self channels }
         ensures { IfOk result (IsRunOf self.entry) }
     {
         let PartOf {
@@ -65,8 +65,8 @@ impl<'a> PartOf<'a> {
         while from < horizon {
             let until = from.saturating_add(span).min(horizon);
             let window = Window { from, until };
-            mail.tell(rt, alloc, division, &run.simulation, window)?;
-            run.hear(mail.hear(rt, alloc, window)?);
+            channels.send(rt, alloc, division, &run.simulation, window)?;
+            run.receive(channels.receive(rt, alloc, window)?);
             run.run_units(rt, &region, gate, from, until)?;
             from = until;
         }

@@ -2,19 +2,19 @@
 ghost use Rattle.std.specs.Prelude.{IfOk, IfSome, OnOk};
 ghost use Rattle.mp_partition.specs.runs.Runs.{IsRun};
 ghost use Rattle.mp_phase.specs.Allowed.{IsOpen};
-ghost use Rattle.mp_engine.specs.Looks.{IsLookedAt};
+ghost use Rattle.mp_engine.specs.ActivityProbes.{IsLookedAt};
 
+use crate::activity_probe::{ActivityProbe, LookPlan, Rate};
 use crate::evaluation::{run_of, run_to_end};
-use crate::looking::{Looks, Pace, Plan};
-use mp_partition::{Region, Run};
-use mp_netlist::Netlist;
-use mp_phase::Gate;
 use crate::region_runs::RegionRun;
+use mp_netlist::Netlist;
+use mp_partition::{Region, Run};
+use mp_phase::Gate;
 use std::alloc::{AllocError, Global};
 use std::sync::Wait;
 
 /// It is looked at when a 128th of the time is over, and up to a quarter.
-const PLAN: Plan = Plan {
+const PLAN: LookPlan = LookPlan {
     first: 128,
     sure: 6,
     most: 6,
@@ -36,8 +36,8 @@ pub(crate) fn run_quiet<R: Wait, G: Gate>(
     let horizon = netlist.horizon();
     let region = Region::whole(netlist);
     let mut run = RegionRun::begin(rt, alloc, netlist, &region, gate, true)?;
-    let mut looks = Looks::new(PLAN);
-    let pace = Pace {
+    let mut looks = ActivityProbe::new(PLAN);
+    let pace = Rate {
         count: least as usize,
         units: delay,
     };
@@ -55,8 +55,8 @@ fn look_at<R: Wait, G: Gate>(
     rt: &R,
     region: &Region<'_>,
     gate: &G,
-    looks: &mut Looks,
-    pace: Pace,
+    looks: &mut ActivityProbe,
+    pace: Rate,
 ) -> Result<(), AllocError>
     requires open { IsOpen (G.may gate.now) }
     requires before { IsLookedAt region.now looks.old.to run.old }

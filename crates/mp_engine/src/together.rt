@@ -1,12 +1,12 @@
 //! Parts of a netlist that hear of each other, each on a thread of its own.
 ghost use Rattle.std.specs.Prelude.{◌≡◌, ◌+◌, None, IfOk, IfSome, IsErr, length, map};
 ghost use Rattle.mp_partition.specs.regions.Divisions.{IsCrossing, IsDivision};
-ghost use Rattle.mp_engine.specs.declared.letters.given_up.GivenUp.TheVariants.{NoMemory};
+ghost use Rattle.mp_engine.specs.declared.messages.given_up.GivenUp.TheVariants.{NoMemory};
 ghost use Rattle.mp_phase.specs.Allowed.{IsOpen};
 ghost use Rattle.mp_engine.specs.PartsOf.{AreOthers, ArePartRuns, AreRunsOf, GiveRuns, IsFirst, IsMailOf, IsRunOf};
 
+use crate::messages::{GivenUp, Lines, Subject};
 use crate::part_of::{Divided, PartOf};
-use crate::letters::{GivenUp, Lines, Subject};
 use mp_partition::PartRun;
 use mp_phase::{Gate, lookers};
 use std::alloc::{AllocError, Global};
@@ -30,7 +30,7 @@ pub(crate) fn run_together<R: Threads + Wait + Sync, G: Gate + Sync>(
     run_apart::<Brand, R, G>(rt, alloc, gate, divided)
 }
 
-/// The same, where letters are about the netlist as it is divided.
+/// The same, where messages are about the netlist as it is divided.
 fn run_apart<J: Subject + Send + Sync, R: Threads + Wait + Sync, G: Gate + Sync>(
     rt: &R,
     alloc: Global,
@@ -69,10 +69,10 @@ fn run_apart<J: Subject + Send + Sync, R: Threads + Wait + Sync, G: Gate + Sync>
             let Some(others) = start_others(rt, alloc, scope, gate, first, &mut lines)? else {
                 return Ok(None);
             };
-            let Some(mail) = lines.take_last(alloc) else {
+            let Some(channels) = lines.take_last(alloc) else {
                 return Ok(None);
             };
-            match first.run(rt, alloc, gate, mail) {
+            match first.run(rt, alloc, gate, channels) {
                 Ok(run) => join_others(rt, alloc, run, others),
                 Err(cause) => give_up(rt, cause, others),
             }
@@ -109,15 +109,15 @@ fn start_others<
     let mut part = first.division.parts;
     while part > 1 {
         part -= 1;
-        let Some(mail) = lines.take_last(alloc) else {
+        let Some(channels) = lines.take_last(alloc) else {
             return Ok(None);
         };
         let it = PartOf { part, ..first };
         let run = move || -> Result<PartRun, GivenUp>
             requires open { IsOpen (G.may gate.now) }
-            requires mail { IsMailOf J.netlist J.wires J.heards it mail }
+            requires channels { IsMailOf J.netlist J.wires J.heards it channels }
             ensures { IfOk result (IsRunOf it.entry) }
-        { it.run(rt, alloc, gate, mail) };
+        { it.run(rt, alloc, gate, channels) };
         match scope.spawn_with(it, run) {
             Ok(handle) => others.push(handle)?,
             Err(_) => return Ok(None),

@@ -12,7 +12,7 @@ use Rattle.mp_text.specs.declared.text_code.TextCode.{TextCode}
 use Rattle.mp_text.specs.declared.text_code.TextCode.TheVariants as texts
 use Rattle.mp_explain.specs.declared.seat_code.SeatCode.{SeatCode}
 use Rattle.mp_explain.specs.declared.seat_code.SeatCode.TheVariants as seats
-use Rattle.mp_explain.specs.declared.subject.Subject.TheVariants.{Text, Edit, Seat, Finding, Kind as OfKind}
+use Rattle.mp_explain.specs.declared.topic.Topic.TheVariants.{Text, Edit, Seat, Finding, Kind as OfKind}
 use Rattle.mp_explain.specs.Laws.{TellsOfEach, titles}
 use Rattle.mp_explain.specs.Subjects.{title}
 

@@ -1,7 +1,7 @@
 -- What the guide has.
 use Rattle.std.specs.Prelude.{ℕ, List, map}
 use Rattle.std.specs.List.{Contains}
-use Rattle.mp_explain.specs.declared.subject.Subject.{Subject}
+use Rattle.mp_explain.specs.declared.topic.Topic.{Topic}
 use Rattle.mp_explain.specs.Subjects.{subjects, title}
 
 abbrev pub titles : List (List ℕ)
@@ -9,4 +9,4 @@ titles = map title subjects
 
 -- each code, whatever it holds, and each kind of module is told of under its title
 abbrev pub TellsOfEach : Type 0
-TellsOfEach = (subject : Subject) → Contains titles (title subject)
+TellsOfEach = (subject : Topic) → Contains titles (title subject)

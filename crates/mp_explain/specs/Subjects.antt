@@ -16,14 +16,14 @@ use Rattle.mp_text.specs.TextCodes as text_codes
 use Rattle.mp_explain.specs.declared.seat_code.SeatCode.{SeatCode}
 use Rattle.mp_explain.specs.declared.seat_code.SeatCode.TheVariants as seats
 use Rattle.mp_explain.specs.SeatCodes as seat_codes
-use Rattle.mp_explain.specs.declared.subject.Subject.{Subject}
-use Rattle.mp_explain.specs.declared.subject.Subject.TheVariants.{Text, Edit, Seat, Finding, Kind as OfKind}
+use Rattle.mp_explain.specs.declared.topic.Topic.{Topic}
+use Rattle.mp_explain.specs.declared.topic.Topic.TheVariants.{Text, Edit, Seat, Finding, Kind as OfKind}
 
 abbrev pub edit_name : EditError → List ℕ
 edit_name error = unwrap_or (name_of (number_of error)) []
 
 -- as `edit 1 NameTaken` or `kind C`
-abbrev pub title : Subject → List ℕ
+abbrev pub title : Topic → List ℕ
 title (Text code) = codes "text " ++ (decimal (text_codes.number_of code) ++ (codes " " ++ text_codes.name_of code))
 title (Edit error) = codes "edit " ++ (decimal (number_of error) ++ (codes " " ++ edit_name error))
 title (Seat code) = codes "seat " ++ (decimal (seat_codes.number_of code) ++ (codes " " ++ seat_codes.name_of code))
@@ -34,7 +34,7 @@ abbrev pub is_one_of : List ℕ → ℕ → List ℕ → Bool
 is_one_of word number name = bytes_eq word name || bytes_eq word (decimal number)
 
 -- whether a word is the name of a subject or, of a code, its number
-abbrev pub is_called : List ℕ → Subject → Bool
+abbrev pub is_called : List ℕ → Topic → Bool
 is_called word (Text code) = is_one_of word (text_codes.number_of code) (text_codes.name_of code)
 is_called word (Edit error) = is_one_of word (number_of error) (edit_name error)
 is_called word (Seat code) = is_one_of word (seat_codes.number_of code) (seat_codes.name_of code)
@@ -64,5 +64,5 @@ all_kinds =
     ∷ kinds.Sum ∷ kinds.Bit ∷ []
 
 -- all that can be explained
-abbrev pub subjects : List Subject
+abbrev pub subjects : List Topic
 subjects = map Text text_faults ++ (map Edit refusals ++ (map Seat seat_refusals ++ (map Finding by_number ++ map OfKind all_kinds)))

@@ -1,10 +1,10 @@
 //! The kinds of module that hold data and compute on data.
 use crate::entry::Entry;
-use crate::subject::Subject;
+use crate::topic::Topic;
 use mp_modules::Kind;
 
 pub(crate) const REG: Entry = Entry {
-    subject: Subject::Kind(Kind::Reg),
+    subject: Topic::Kind(Kind::Reg),
     text: "
   parameters:
     INIT, below `2^w`
@@ -40,7 +40,7 @@ pub(crate) const REG: Entry = Entry {
 };
 
 pub(crate) const ADDC: Entry = Entry {
-    subject: Subject::Kind(Kind::AddC),
+    subject: Topic::Kind(Kind::AddC),
     text: "
   parameters:
     k, below `2^w`
@@ -65,7 +65,7 @@ pub(crate) const ADDC: Entry = Entry {
 };
 
 pub(crate) const XORC: Entry = Entry {
-    subject: Subject::Kind(Kind::XorC),
+    subject: Topic::Kind(Kind::XorC),
     text: "
   parameters:
     k, below `2^w`
@@ -90,7 +90,7 @@ pub(crate) const XORC: Entry = Entry {
 };
 
 pub(crate) const SUM: Entry = Entry {
-    subject: Subject::Kind(Kind::Sum),
+    subject: Topic::Kind(Kind::Sum),
     text: "
   parameters:
     none
@@ -118,7 +118,7 @@ pub(crate) const SUM: Entry = Entry {
 };
 
 pub(crate) const BIT: Entry = Entry {
-    subject: Subject::Kind(Kind::Bit),
+    subject: Topic::Kind(Kind::Bit),
     text: "
   parameters:
     k, below `w`

@@ -2,16 +2,29 @@
 ghost use Rattle.std.specs.Prelude.{◌≡◌, IfOk, map};
 ghost use Rattle.mp_modules.specs.Findings.{by_number};
 ghost use Rattle.mp_explain.specs.Subjects.{all_kinds, refusals, seat_refusals, subjects, text_faults};
-ghost use Rattle.mp_explain.specs.declared.subject.Subject.TheVariants.{Text, Edit, Seat, Finding, Kind};
+ghost use Rattle.mp_explain.specs.declared.topic.Topic.TheVariants.{Text, Edit, Seat, Finding, Kind};
 
 use crate::data_kinds::{ADDC, BIT, REG, SUM, XORC};
 use crate::entry::Entry;
 use crate::event_kinds::{ARBITER, BUF, C, CALL, NOT, SELECT, TOGGLE, XOR};
-use crate::findings::{ACK_WHILE_IDLE, CALL_OVERLAP, CAPTURE_WHILE_HELD, DATA_AT_CAPTURE, DATA_WHILE_BUSY, DONE_WITHOUT_CALL, DONE_WITHOUT_GRANT, MERGE_COLLISION, PASS_WHILE_OPEN, REPEAT_REQUEST, REQUEST_WHILE_BUSY, SELECT_UNSTABLE, SETUP, WITHDRAWN};
-use crate::refusals_of_names::{ALREADY_DRIVEN, BAD_NAME, HISTORY_FULL, NAME_TAKEN, NO_SUCH_BUNDLE, NO_SUCH_MODULE, NO_SUCH_WIRE, OUT_OF_MEMORY, STILL_USED, TABLE_FULL};
-use crate::refusals_of_values::{BAD_BATCH, BAD_DELAY, BAD_LEVEL, BAD_PARAM, BAD_PORT, BAD_STIMULUS, BAD_WIDTH, IN_BATCH, NO_STIMULUS, WIDTH_MISMATCH, WRONG_PORTS};
-use crate::seat_refusals::{NOT_A_DESIGNER, NO_WORK};
-use crate::text_faults::{BAD_FORMAT, BAD_NUMBER, LINE_OUT_OF_MEMORY, NOT_ASCII, NO_HORIZON, REFUSED, SECOND_HORIZON, TOO_LONG, UNKNOWN_STATEMENT, WORD_COUNT};
+use crate::findings::{
+    ACK_WHILE_IDLE, CALL_OVERLAP, CAPTURE_WHILE_HELD, DATA_AT_CAPTURE, DATA_WHILE_BUSY,
+    DONE_WITHOUT_CALL, DONE_WITHOUT_GRANT, MERGE_COLLISION, PASS_WHILE_OPEN, REPEAT_REQUEST,
+    REQUEST_WHILE_BUSY, SELECT_UNSTABLE, SETUP, WITHDRAWN,
+};
+use crate::refusals_of_names::{
+    ALREADY_DRIVEN, BAD_NAME, HISTORY_FULL, NAME_TAKEN, NO_SUCH_BUNDLE, NO_SUCH_MODULE,
+    NO_SUCH_WIRE, OUT_OF_MEMORY, STILL_USED, TABLE_FULL,
+};
+use crate::refusals_of_values::{
+    BAD_BATCH, BAD_DELAY, BAD_LEVEL, BAD_PARAM, BAD_PORT, BAD_STIMULUS, BAD_WIDTH, IN_BATCH,
+    NO_STIMULUS, WIDTH_MISMATCH, WRONG_PORTS,
+};
+use crate::seat_refusals::{NO_WORK, NOT_A_DESIGNER};
+use crate::text_faults::{
+    BAD_FORMAT, BAD_NUMBER, LINE_OUT_OF_MEMORY, NO_HORIZON, NOT_ASCII, REFUSED, SECOND_HORIZON,
+    TOO_LONG, UNKNOWN_STATEMENT, WORD_COUNT,
+};
 use std::alloc::{AllocError, Global};
 
 /// All that can be explained: each code of a text, of an edit, of a seat and of a finding, by number, and each kind of module. `AllocError` comes where

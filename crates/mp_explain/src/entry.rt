@@ -2,7 +2,7 @@
 ghost use Rattle.mp_streams.specs.Outgoing.{Writes};
 ghost use Rattle.mp_explain.specs.Explanations.{entry_text};
 
-use crate::subject::Subject;
+use crate::topic::Topic;
 use mp_streams::{Failed, Out, Sink, Text};
 
 /// What is told of a code or a kind of module.
@@ -12,7 +12,7 @@ use mp_streams::{Failed, Out, Sink, Text};
 /// the ports and the table, what may be found at it, and an example.
 #[derive(Clone, Copy, Debug)]
 pub struct Entry {
-    pub subject: Subject,
+    pub subject: Topic,
     /// What stands behind the subject's title, from the line feed on.
     pub text: &'static str,
 }

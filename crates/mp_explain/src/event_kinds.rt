@@ -1,10 +1,10 @@
 //! The kinds of module that steer events.
 use crate::entry::Entry;
-use crate::subject::Subject;
+use crate::topic::Topic;
 use mp_modules::Kind;
 
 pub(crate) const BUF: Entry = Entry {
-    subject: Subject::Kind(Kind::Buf),
+    subject: Topic::Kind(Kind::Buf),
     text: "
   parameters:
     none
@@ -29,7 +29,7 @@ pub(crate) const BUF: Entry = Entry {
 };
 
 pub(crate) const NOT: Entry = Entry {
-    subject: Subject::Kind(Kind::Not),
+    subject: Topic::Kind(Kind::Not),
     text: "
   parameters:
     none
@@ -54,7 +54,7 @@ pub(crate) const NOT: Entry = Entry {
 };
 
 pub(crate) const XOR: Entry = Entry {
-    subject: Subject::Kind(Kind::Xor),
+    subject: Topic::Kind(Kind::Xor),
     text: "
   parameters:
     none
@@ -83,7 +83,7 @@ pub(crate) const XOR: Entry = Entry {
 };
 
 pub(crate) const C: Entry = Entry {
-    subject: Subject::Kind(Kind::C),
+    subject: Topic::Kind(Kind::C),
     text: "
   parameters:
     INIT, BUBA, BUBB, each 0 or 1
@@ -114,7 +114,7 @@ pub(crate) const C: Entry = Entry {
 };
 
 pub(crate) const TOGGLE: Entry = Entry {
-    subject: Subject::Kind(Kind::Toggle),
+    subject: Topic::Kind(Kind::Toggle),
     text: "
   parameters:
     none
@@ -142,7 +142,7 @@ pub(crate) const TOGGLE: Entry = Entry {
 };
 
 pub(crate) const SELECT: Entry = Entry {
-    subject: Subject::Kind(Kind::Select),
+    subject: Topic::Kind(Kind::Select),
     text: "
   parameters:
     none
@@ -173,7 +173,7 @@ pub(crate) const SELECT: Entry = Entry {
 };
 
 pub(crate) const CALL: Entry = Entry {
-    subject: Subject::Kind(Kind::Call),
+    subject: Topic::Kind(Kind::Call),
     text: "
   parameters:
     none
@@ -215,7 +215,7 @@ pub(crate) const CALL: Entry = Entry {
 };
 
 pub(crate) const ARBITER: Entry = Entry {
-    subject: Subject::Kind(Kind::Arbiter),
+    subject: Topic::Kind(Kind::Arbiter),
     text: "
   parameters:
     none

@@ -1,10 +1,10 @@
 //! What may be found at modules and bundles, told code by code.
 use crate::entry::Entry;
-use crate::subject::Subject;
+use crate::topic::Topic;
 use mp_modules::FindingCode;
 
 pub(crate) const MERGE_COLLISION: Entry = Entry {
-    subject: Subject::Finding(FindingCode::MergeCollision),
+    subject: Topic::Finding(FindingCode::MergeCollision),
     text: "
   meaning:
     both inputs of a XOR change
@@ -24,7 +24,7 @@ pub(crate) const MERGE_COLLISION: Entry = Entry {
 };
 
 pub(crate) const WITHDRAWN: Entry = Entry {
-    subject: Subject::Finding(FindingCode::Withdrawn),
+    subject: Topic::Finding(FindingCode::Withdrawn),
     text: "
   meaning:
     an input of a C changes that, behind its bubble, differed from the output
@@ -45,7 +45,7 @@ pub(crate) const WITHDRAWN: Entry = Entry {
 };
 
 pub(crate) const SELECT_UNSTABLE: Entry = Entry {
-    subject: Subject::Finding(FindingCode::SelectUnstable),
+    subject: Topic::Finding(FindingCode::SelectUnstable),
     text: "
   meaning:
     the diamond of a SELECT changes, and `a` changes
@@ -65,7 +65,7 @@ pub(crate) const SELECT_UNSTABLE: Entry = Entry {
 };
 
 pub(crate) const CALL_OVERLAP: Entry = Entry {
-    subject: Subject::Finding(FindingCode::CallOverlap),
+    subject: Topic::Finding(FindingCode::CallOverlap),
     text: "
   meaning:
     an event of `r1` or `r2` of a CALL was ignored
@@ -87,7 +87,7 @@ pub(crate) const CALL_OVERLAP: Entry = Entry {
 };
 
 pub(crate) const DONE_WITHOUT_CALL: Entry = Entry {
-    subject: Subject::Finding(FindingCode::DoneWithoutCall),
+    subject: Topic::Finding(FindingCode::DoneWithoutCall),
     text: "
   meaning:
     an event of `d` of a CALL was ignored
@@ -107,7 +107,7 @@ pub(crate) const DONE_WITHOUT_CALL: Entry = Entry {
 };
 
 pub(crate) const REPEAT_REQUEST: Entry = Entry {
-    subject: Subject::Finding(FindingCode::RepeatRequest),
+    subject: Topic::Finding(FindingCode::RepeatRequest),
     text: "
   meaning:
     a request event of an ARBITER was ignored
@@ -128,7 +128,7 @@ pub(crate) const REPEAT_REQUEST: Entry = Entry {
 };
 
 pub(crate) const DONE_WITHOUT_GRANT: Entry = Entry {
-    subject: Subject::Finding(FindingCode::DoneWithoutGrant),
+    subject: Topic::Finding(FindingCode::DoneWithoutGrant),
     text: "
   meaning:
     a done event of an ARBITER was ignored
@@ -149,7 +149,7 @@ pub(crate) const DONE_WITHOUT_GRANT: Entry = Entry {
 };
 
 pub(crate) const CAPTURE_WHILE_HELD: Entry = Entry {
-    subject: Subject::Finding(FindingCode::CaptureWhileHeld),
+    subject: Topic::Finding(FindingCode::CaptureWhileHeld),
     text: "
   meaning:
     `c` of a REG changes that was held before
@@ -169,7 +169,7 @@ pub(crate) const CAPTURE_WHILE_HELD: Entry = Entry {
 };
 
 pub(crate) const PASS_WHILE_OPEN: Entry = Entry {
-    subject: Subject::Finding(FindingCode::PassWhileOpen),
+    subject: Topic::Finding(FindingCode::PassWhileOpen),
     text: "
   meaning:
     `p` of a REG changes that was open before
@@ -189,7 +189,7 @@ pub(crate) const PASS_WHILE_OPEN: Entry = Entry {
 };
 
 pub(crate) const DATA_AT_CAPTURE: Entry = Entry {
-    subject: Subject::Finding(FindingCode::DataAtCapture),
+    subject: Topic::Finding(FindingCode::DataAtCapture),
     text: "
   meaning:
     `d` of a REG changes that was open before and is held now
@@ -210,7 +210,7 @@ pub(crate) const DATA_AT_CAPTURE: Entry = Entry {
 };
 
 pub(crate) const DATA_WHILE_BUSY: Entry = Entry {
-    subject: Subject::Finding(FindingCode::DataWhileBusy),
+    subject: Topic::Finding(FindingCode::DataWhileBusy),
     text: "
   meaning:
     the data of a bundle changes that was busy before
@@ -232,7 +232,7 @@ pub(crate) const DATA_WHILE_BUSY: Entry = Entry {
 };
 
 pub(crate) const SETUP: Entry = Entry {
-    subject: Subject::Finding(FindingCode::Setup),
+    subject: Topic::Finding(FindingCode::Setup),
     text: "
   meaning:
     the data of a bundle changes with a request event, or no longer before one
@@ -254,7 +254,7 @@ pub(crate) const SETUP: Entry = Entry {
 };
 
 pub(crate) const REQUEST_WHILE_BUSY: Entry = Entry {
-    subject: Subject::Finding(FindingCode::RequestWhileBusy),
+    subject: Topic::Finding(FindingCode::RequestWhileBusy),
     text: "
   meaning:
     a request event of a bundle that was busy before
@@ -274,7 +274,7 @@ pub(crate) const REQUEST_WHILE_BUSY: Entry = Entry {
 };
 
 pub(crate) const ACK_WHILE_IDLE: Entry = Entry {
-    subject: Subject::Finding(FindingCode::AckWhileIdle),
+    subject: Topic::Finding(FindingCode::AckWhileIdle),
     text: "
   meaning:
     an acknowledge event of a bundle that was not busy before

@@ -12,11 +12,11 @@ mod refusals_of_names;
 mod refusals_of_values;
 mod seat_code;
 mod seat_refusals;
-mod subject;
 mod text_faults;
+mod topic;
 
 pub use entries::guide;
 pub use entry::Entry;
 pub use explaining::{put_explanation, put_titles};
 pub use seat_code::SeatCode;
-pub use subject::Subject;
+pub use topic::Topic;

@@ -1,10 +1,10 @@
 //! Why an edit is refused for what it names, or for want of room, told code by code.
 use crate::entry::Entry;
-use crate::subject::Subject;
+use crate::topic::Topic;
 use mp_records::EditError;
 
 pub(crate) const NAME_TAKEN: Entry = Entry {
-    subject: Subject::Edit(EditError::NameTaken),
+    subject: Topic::Edit(EditError::NameTaken),
     text: "
   meaning:
     a thing of that kind that stands has the name
@@ -23,7 +23,7 @@ pub(crate) const NAME_TAKEN: Entry = Entry {
 };
 
 pub(crate) const BAD_NAME: Entry = Entry {
-    subject: Subject::Edit(EditError::BadName),
+    subject: Topic::Edit(EditError::BadName),
     text: "
   meaning:
     not a name: a letter, then letters, digits and `_`, of 32 bytes at most
@@ -39,7 +39,7 @@ pub(crate) const BAD_NAME: Entry = Entry {
 };
 
 pub(crate) const NO_SUCH_WIRE: Entry = Entry {
-    subject: Subject::Edit(EditError::NoSuchWire),
+    subject: Topic::Edit(EditError::NoSuchWire),
     text: "
   meaning:
     no wire has the name
@@ -57,7 +57,7 @@ pub(crate) const NO_SUCH_WIRE: Entry = Entry {
 };
 
 pub(crate) const NO_SUCH_MODULE: Entry = Entry {
-    subject: Subject::Edit(EditError::NoSuchModule),
+    subject: Topic::Edit(EditError::NoSuchModule),
     text: "
   meaning:
     no module has the name
@@ -75,7 +75,7 @@ pub(crate) const NO_SUCH_MODULE: Entry = Entry {
 };
 
 pub(crate) const NO_SUCH_BUNDLE: Entry = Entry {
-    subject: Subject::Edit(EditError::NoSuchBundle),
+    subject: Topic::Edit(EditError::NoSuchBundle),
     text: "
   meaning:
     no bundle has the name
@@ -92,7 +92,7 @@ pub(crate) const NO_SUCH_BUNDLE: Entry = Entry {
 };
 
 pub(crate) const ALREADY_DRIVEN: Entry = Entry {
-    subject: Subject::Edit(EditError::AlreadyDriven),
+    subject: Topic::Edit(EditError::AlreadyDriven),
     text: "
   meaning:
     an output's wire has a stimulus, or another port drives it, or two outputs
@@ -114,7 +114,7 @@ pub(crate) const ALREADY_DRIVEN: Entry = Entry {
 };
 
 pub(crate) const STILL_USED: Entry = Entry {
-    subject: Subject::Edit(EditError::StillUsed),
+    subject: Topic::Edit(EditError::StillUsed),
     text: "
   meaning:
     a module or a bundle names the wire
@@ -133,7 +133,7 @@ pub(crate) const STILL_USED: Entry = Entry {
 };
 
 pub(crate) const TABLE_FULL: Entry = Entry {
-    subject: Subject::Edit(EditError::TableFull),
+    subject: Topic::Edit(EditError::TableFull),
     text: "
   meaning:
     8,192 wires, 4,096 modules or 1,024 bundles were added already, removed
@@ -149,7 +149,7 @@ pub(crate) const TABLE_FULL: Entry = Entry {
 };
 
 pub(crate) const HISTORY_FULL: Entry = Entry {
-    subject: Subject::Edit(EditError::HistoryFull),
+    subject: Topic::Edit(EditError::HistoryFull),
     text: "
   meaning:
     4,096 edits of the script were accepted already
@@ -165,7 +165,7 @@ pub(crate) const HISTORY_FULL: Entry = Entry {
 };
 
 pub(crate) const OUT_OF_MEMORY: Entry = Entry {
-    subject: Subject::Edit(EditError::OutOfMemory),
+    subject: Topic::Edit(EditError::OutOfMemory),
     text: "
   meaning:
     memory ran out; for a batch this may come in place of 18 and 21

@@ -1,10 +1,10 @@
 //! Why an edit is refused for its numbers and its shape, told code by code.
 use crate::entry::Entry;
-use crate::subject::Subject;
+use crate::topic::Topic;
 use mp_records::EditError;
 
 pub(crate) const BAD_WIDTH: Entry = Entry {
-    subject: Subject::Edit(EditError::BadWidth),
+    subject: Topic::Edit(EditError::BadWidth),
     text: "
   meaning:
     a width that isn't 1 to 64
@@ -20,7 +20,7 @@ pub(crate) const BAD_WIDTH: Entry = Entry {
 };
 
 pub(crate) const BAD_LEVEL: Entry = Entry {
-    subject: Subject::Edit(EditError::BadLevel),
+    subject: Topic::Edit(EditError::BadLevel),
     text: "
   meaning:
     a level that isn't below `2^width`
@@ -36,7 +36,7 @@ pub(crate) const BAD_LEVEL: Entry = Entry {
 };
 
 pub(crate) const BAD_DELAY: Entry = Entry {
-    subject: Subject::Edit(EditError::BadDelay),
+    subject: Topic::Edit(EditError::BadDelay),
     text: "
   meaning:
     an output's delay that isn't 1 to 65,535, also of one without a wire; an
@@ -57,7 +57,7 @@ pub(crate) const BAD_DELAY: Entry = Entry {
 };
 
 pub(crate) const BAD_PORT: Entry = Entry {
-    subject: Subject::Edit(EditError::BadPort),
+    subject: Topic::Edit(EditError::BadPort),
     text: "
   meaning:
     no such port
@@ -76,7 +76,7 @@ pub(crate) const BAD_PORT: Entry = Entry {
 };
 
 pub(crate) const WRONG_PORTS: Entry = Entry {
-    subject: Subject::Edit(EditError::WrongPorts),
+    subject: Topic::Edit(EditError::WrongPorts),
     text: "
   meaning:
     not as many inputs or outputs as the kind has
@@ -94,7 +94,7 @@ pub(crate) const WRONG_PORTS: Entry = Entry {
 };
 
 pub(crate) const BAD_PARAM: Entry = Entry {
-    subject: Subject::Edit(EditError::BadParam),
+    subject: Topic::Edit(EditError::BadParam),
     text: "
   meaning:
     not as many parameters as the kind has, or one out of its range; a setup
@@ -113,7 +113,7 @@ pub(crate) const BAD_PARAM: Entry = Entry {
 };
 
 pub(crate) const WIDTH_MISMATCH: Entry = Entry {
-    subject: Subject::Edit(EditError::WidthMismatch),
+    subject: Topic::Edit(EditError::WidthMismatch),
     text: "
   meaning:
     a wire hasn't the width of its port; a bundle's request and acknowledge
@@ -133,7 +133,7 @@ pub(crate) const WIDTH_MISMATCH: Entry = Entry {
 };
 
 pub(crate) const BAD_STIMULUS: Entry = Entry {
-    subject: Subject::Edit(EditError::BadStimulus),
+    subject: Topic::Edit(EditError::BadStimulus),
     text: "
   meaning:
     a time that is 0 or not below the horizon, times that don't rise strictly,
@@ -152,7 +152,7 @@ pub(crate) const BAD_STIMULUS: Entry = Entry {
 };
 
 pub(crate) const NO_STIMULUS: Entry = Entry {
-    subject: Subject::Edit(EditError::NoStimulus),
+    subject: Topic::Edit(EditError::NoStimulus),
     text: "
   meaning:
     the wire has none
@@ -170,7 +170,7 @@ pub(crate) const NO_STIMULUS: Entry = Entry {
 };
 
 pub(crate) const BAD_BATCH: Entry = Entry {
-    subject: Subject::Edit(EditError::BadBatch),
+    subject: Topic::Edit(EditError::BadBatch),
     text: "
   meaning:
     a batch without edits or with more than 256
@@ -185,7 +185,7 @@ pub(crate) const BAD_BATCH: Entry = Entry {
 };
 
 pub(crate) const IN_BATCH: Entry = Entry {
-    subject: Subject::Edit(EditError::InBatch {
+    subject: Topic::Edit(EditError::InBatch {
         place: 2,
         number: 16,
     }),

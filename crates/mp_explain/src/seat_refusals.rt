@@ -1,10 +1,10 @@
 //! Why a line is refused at a seat alone, told code by code.
 use crate::entry::Entry;
 use crate::seat_code::SeatCode;
-use crate::subject::Subject;
+use crate::topic::Topic;
 
 pub(crate) const NOT_A_DESIGNER: Entry = Entry {
-    subject: Subject::Seat(SeatCode::NotADesigner),
+    subject: Topic::Seat(SeatCode::NotADesigner),
     text: "
   meaning:
     an edit at a viewer's seat, or in the desk's own input
@@ -23,7 +23,7 @@ pub(crate) const NOT_A_DESIGNER: Entry = Entry {
 };
 
 pub(crate) const NO_WORK: Entry = Entry {
-    subject: Subject::Seat(SeatCode::NoWork),
+    subject: Topic::Seat(SeatCode::NoWork),
     text: "
   meaning:
     `work` at a seat: what was evaluated for an edit is known in `play` alone

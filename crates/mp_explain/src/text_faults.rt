@@ -1,11 +1,11 @@
 //! What is wrong with a netlist's text or a line of a script, told code by code.
 use crate::entry::Entry;
-use crate::subject::Subject;
+use crate::topic::Topic;
 use mp_records::EditError;
 use mp_text::{LineError, TextCode};
 
 pub(crate) const NOT_ASCII: Entry = Entry {
-    subject: Subject::Text(TextCode::Line(LineError::NotAscii)),
+    subject: Topic::Text(TextCode::Line(LineError::NotAscii)),
     text: "
   meaning:
     a byte that isn't allowed, also in a comment
@@ -20,7 +20,7 @@ pub(crate) const NOT_ASCII: Entry = Entry {
 };
 
 pub(crate) const UNKNOWN_STATEMENT: Entry = Entry {
-    subject: Subject::Text(TextCode::Line(LineError::UnknownStatement)),
+    subject: Topic::Text(TextCode::Line(LineError::UnknownStatement)),
     text: "
   meaning:
     in a netlist: the first word is no statement
@@ -43,7 +43,7 @@ pub(crate) const UNKNOWN_STATEMENT: Entry = Entry {
 };
 
 pub(crate) const WORD_COUNT: Entry = Entry {
-    subject: Subject::Text(TextCode::Line(LineError::WordCount)),
+    subject: Topic::Text(TextCode::Line(LineError::WordCount)),
     text: "
   meaning:
     too few or too many words, or a `module` without `:`, `>`, an input or an
@@ -61,7 +61,7 @@ pub(crate) const WORD_COUNT: Entry = Entry {
 };
 
 pub(crate) const BAD_NUMBER: Entry = Entry {
-    subject: Subject::Text(TextCode::Line(LineError::BadNumber)),
+    subject: Topic::Text(TextCode::Line(LineError::BadNumber)),
     text: "
   meaning:
     a word that should be a number, `OUT/DELAY` or `T=V` and isn't; an input
@@ -84,7 +84,7 @@ pub(crate) const BAD_NUMBER: Entry = Entry {
 };
 
 pub(crate) const NO_HORIZON: Entry = Entry {
-    subject: Subject::Text(TextCode::NoHorizon),
+    subject: Topic::Text(TextCode::NoHorizon),
     text: "
   meaning:
     in a netlist: another statement before the first `horizon`
@@ -100,7 +100,7 @@ pub(crate) const NO_HORIZON: Entry = Entry {
 };
 
 pub(crate) const SECOND_HORIZON: Entry = Entry {
-    subject: Subject::Text(TextCode::SecondHorizon),
+    subject: Topic::Text(TextCode::SecondHorizon),
     text: "
   meaning:
     in a netlist: a `horizon` after the first
@@ -115,7 +115,7 @@ pub(crate) const SECOND_HORIZON: Entry = Entry {
 };
 
 pub(crate) const REFUSED: Entry = Entry {
-    subject: Subject::Text(TextCode::Refused(EditError::NameTaken)),
+    subject: Topic::Text(TextCode::Refused(EditError::NameTaken)),
     text: "
   meaning:
     in a netlist: the edit is refused, with a code of its own
@@ -131,7 +131,7 @@ pub(crate) const REFUSED: Entry = Entry {
 };
 
 pub(crate) const TOO_LONG: Entry = Entry {
-    subject: Subject::Text(TextCode::TooLong),
+    subject: Topic::Text(TextCode::TooLong),
     text: "
   meaning:
     in a netlist: line 0: the text is longer than 4,194,304 bytes, or with
@@ -148,7 +148,7 @@ pub(crate) const TOO_LONG: Entry = Entry {
 };
 
 pub(crate) const LINE_OUT_OF_MEMORY: Entry = Entry {
-    subject: Subject::Text(TextCode::Line(LineError::OutOfMemory)),
+    subject: Topic::Text(TextCode::Line(LineError::OutOfMemory)),
     text: "
   meaning:
     in a netlist: memory ran out at this line; the program answers
@@ -164,7 +164,7 @@ pub(crate) const LINE_OUT_OF_MEMORY: Entry = Entry {
 };
 
 pub(crate) const BAD_FORMAT: Entry = Entry {
-    subject: Subject::Text(TextCode::BadFormat),
+    subject: Topic::Text(TextCode::BadFormat),
     text: "
   meaning:
     in a netlist: a `format` that isn't on the first line with words, whatever

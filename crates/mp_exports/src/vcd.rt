@@ -1,21 +1,21 @@
 //! Value change dumps, as in IEEE Std 1364.
 
-mod agenda;
-mod batch;
+mod change_queue;
 mod code;
 mod division;
+mod dump_batch;
 mod dumping;
 mod first_places;
 pub mod laws;
 mod limited;
 mod lines;
 mod parts;
-mod passage;
 mod portion;
 mod preamble;
 mod recorded;
 mod room;
 mod sharing;
+mod time_chunk;
 mod units;
 mod value_lines;
 mod wave_changes;

@@ -1,4 +1,4 @@
 pub mod automata
 pub mod events
-pub mod calendar
+pub mod timers
 pub mod datapath

@@ -9,5 +9,5 @@ mod regions;
 mod runs;
 
 pub use merging::{PartRun, merged, merged_waves};
-pub use regions::{Division, Heard, Region, divide, heard_by, home_of, is_heard};
+pub use regions::{Division, InboundWires, Region, divide, heard_by, is_heard, partition_of};
 pub use runs::{Checkpoint, Checkpoints, Run};

@@ -3,12 +3,12 @@
 mod crossing;
 mod division;
 mod groups;
-mod heard;
 mod home;
+mod inbound_wires;
 mod neighbors;
 mod region;
 
 pub use division::{Division, divide};
-pub use heard::{Heard, heard_by, is_heard};
-pub use home::home_of;
+pub use home::partition_of;
+pub use inbound_wires::{InboundWires, heard_by, is_heard};
 pub use region::Region;

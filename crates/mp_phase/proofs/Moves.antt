@@ -6,7 +6,7 @@ use Rattle.crossbeam_channel.specs.Fifo.{Pushes, Pops, Forks, Merges}
 use Rattle.atomic_table.proofs.Lists.{at_set}
 use Rattle.mp_phase.specs.declared.side.Side.{Side}
 use Rattle.mp_phase.specs.declared.side.Side.TheVariants.{Idle, Asks, Owes, Spent}
-use Rattle.mp_phase.specs.Told.{Stage, idle, out, back, held, Answer, IsAnswerTo, IsIdle, IsAsked, IsOut, Fits, Kept, Taken}
+use Rattle.mp_phase.specs.AnswerProtocols.{Stage, idle, out, back, held, Answer, IsAnswerTo, IsIdle, IsAsked, IsOut, Fits, Kept, Taken}
 
 module _ {T X : Type 0} where
   idle_items : (s : Stage T X) → IsIdle s → held s ≡ []

@@ -1,4 +1,4 @@
--- What lines were asked for.
+-- What mailboxes were asked for.
 use Rattle.std.specs.Prelude.{◌≡◌, ℕ, ◌<◌, List, [], ◌∷◌, ◌++◌, Option, Some, None, length, slice_index_or}
 use Rattle.crossbeam_channel.specs.Claims.{Pass, view}
 use Rattle.mp_phase.specs.declared.now.Now.{Now}
@@ -29,16 +29,16 @@ module _ {T : Type 0} where
   IsLine Out side = (tasks : List T) × (side ≡ Asks tasks)
   IsLine (Here leave) side = side ≡ Idle
 
-  -- the tasks of a line
+  -- the tasks of a mailbox
   abbrev pub tasks_of : Option (List T) → List T
   tasks_of None = []
   tasks_of (Some tasks) = tasks
 
-  -- the tasks of all lines, in the lines' order
+  -- the tasks of all mailboxes, in the mailboxes' order
   abbrev pub all_asked : List (Option (List T)) → List T
   all_asked [] = []
-  all_asked (line ∷ lines) = tasks_of line ++ all_asked lines
+  all_asked (mailbox ∷ mailboxes) = tasks_of mailbox ++ all_asked mailboxes
 
-  -- no line was asked for anything
+  -- no mailbox was asked for anything
   abbrev pub AreFree : List (Option (List T)) → Type 0
-  AreFree lines = (k : ℕ) (d : Option (List T)) → k < length lines → slice_index_or lines k d ≡ None
+  AreFree mailboxes = (k : ℕ) (d : Option (List T)) → k < length mailboxes → slice_index_or mailboxes k d ≡ None

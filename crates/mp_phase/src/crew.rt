@@ -2,11 +2,11 @@
 
 use crate::bad_count::BadCount;
 use crate::gate::Gate;
-use crate::hands::Hands;
 use crate::one_phase::OnePhase;
 use crate::plan::Plan;
 use crate::work::Work;
 use crate::worker::{LOOKS, work};
+use crate::workers::Workers;
 use std::alloc::{AllocError, Global};
 use std::sync::Wait;
 use std::thread;
@@ -53,7 +53,7 @@ impl Crew {
 
     /// Carries the plan out with workers that wait for tasks until it ends. Where memory is refused, the plan isn't begun. A worker
     /// whose thread can't be started has its share done on the calling thread.
-    pub fn hold<R: Threads + Wait + Sync, G: Gate + Sync, P: Plan>(
+    pub fn with_workers<R: Threads + Wait + Sync, G: Gate + Sync, P: Plan>(
         &self,
         rt: &R,
         alloc: Global,
@@ -76,14 +76,14 @@ impl Crew {
                 requires allowed { P.needs plan (G.may gate.now) }
                 ensures { IfOk result (λ outcome. P.ends_in plan outcome) }
             {
-                let mut hands = Hands::none(alloc, gate, least);
+                let mut workers = Workers::none(alloc, gate, least);
                 for place in 1..count {
-                    let jobs = hands.add()?;
+                    let jobs = workers.add()?;
                     let looks = if (place as usize) < lookers { LOOKS } else { 0 };
                     let _ = scope.spawn(move || work(rt, alloc, &jobs, looks));
                 }
-                let outcome = plan.carry_out(rt, &mut hands);
-                drop(hands);
+                let outcome = plan.carry_out(rt, &mut workers);
+                drop(workers);
                 Ok(outcome)
             },
         )
@@ -103,7 +103,7 @@ impl Crew {
         requires allowed { AreAllowed T.enters (G.may gate.now) tasks.items }
         ensures { IfOk result (λ dones. AreDone T.gives tasks.items dones.items) }
     {
-        self.hold(rt, alloc, gate, OnePhase { tasks })?
+        self.with_workers(rt, alloc, gate, OnePhase { tasks })?
     }
 }
 

@@ -4,12 +4,12 @@ ghost use Rattle.std.specs.Prelude.{◌≡◌, List, IfOk, IfErr, IfSome, IfNone
 ghost use Rattle.crossbeam_channel.specs.Claims.{view, IsSeatAt};
 ghost use Rattle.crossbeam_channel.specs.Ends.{sends_on, receives_on};
 ghost use Rattle.mp_phase.specs.declared.side.Side.TheVariants.{Idle, Asks};
-ghost use Rattle.mp_phase.specs.Told.{IsAnswerTo, Taken};
+ghost use Rattle.mp_phase.specs.AnswerProtocols.{IsAnswerTo, Taken};
 
+use crate::answer_protocol::{Answer, Answers, Replier, Takes, Token, ask, take_back};
 use crate::gate::Gate;
 use crate::job::Job;
 use crate::leave::Leave;
-use crate::told::{Answer, Answers, Replier, Takes, Token, ask, take_back};
 use crate::work::Work;
 use crate::worker::LOOKS;
 use crossbeam_channel::{Sender, TryRecvError};

@@ -5,9 +5,9 @@ ghost use Rattle.crossbeam_channel.specs.Claims.{view, IsSeatAt};
 ghost use Rattle.crossbeam_channel.specs.Ends.{sends_on};
 ghost use Rattle.mp_phase.specs.declared.side.Side.TheVariants.{Owes};
 
+use crate::answer_protocol::{Replier, Token};
 use crate::gate::Gate;
 use crate::leave::Leave;
-use crate::told::{Replier, Token};
 use crate::work::Work;
 
 /// Tasks, with what it takes to answer them.

@@ -5,9 +5,9 @@ ghost use Rattle.mp_phase.specs.Allowed.{AreAllowed};
 ghost use Rattle.mp_phase.specs.Phase.{AreDone};
 
 use crate::gate::Gate;
-use crate::hands::Hands;
 use crate::plan::Plan;
 use crate::work::Work;
+use crate::workers::Workers;
 use std::alloc::AllocError;
 use std::sync::Wait;
 
@@ -29,9 +29,9 @@ impl<T: Work> Plan for OnePhase<T> {
     fn carry_out<R: Wait, G: Gate>(
         self,
         rt: &R,
-        hands: &mut Hands<'_, T, G>,
+        workers: &mut Workers<'_, T, G>,
     ) -> Result<Vec<T::Done>, AllocError> {
         let OnePhase { tasks } = self;
-        hands.run(rt, tasks)
+        workers.run(rt, tasks)
     }
 }

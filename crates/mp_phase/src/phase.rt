@@ -1,39 +1,39 @@
-//! One list of tasks, shared out over the lines to workers and the calling thread.
+//! One list of tasks, shared out over the mailboxes to workers and the calling thread.
 
 ghost use Rattle.std.specs.Prelude.{◌≡◌, ◌++◌, List, IfOk};
 ghost use Rattle.mp_phase.specs.Allowed.{AreAllowed};
 ghost use Rattle.mp_phase.specs.Lines.{AreFree, all_asked};
-ghost use Rattle.mp_phase.specs.Told.{IsAnswerTo};
+ghost use Rattle.mp_phase.specs.AnswerProtocols.{IsAnswerTo};
 
+use crate::answer_protocol::Answer;
 use crate::gate::Gate;
 use crate::leave::Leave;
-use crate::line::Line;
+use crate::mailbox::Mailbox;
 use crate::share::run_here;
-use crate::told::Answer;
 use crate::work::Work;
 use std::alloc::{AllocError, Global};
 use std::sync::Wait;
 
-/// Asks each line for its share of the tasks, the last line for the last tasks, and gives the first share back. The shares differ by
+/// Asks each mailbox for its share of the tasks, the last mailbox for the last tasks, and gives the first share back. The shares differ by
 /// one task at most.
 fn ask_all<'a, T: Work, R: Wait, G: Gate>(
     rt: &R,
     gate: &'a G,
-    lines: &mut [Line<'a, T, G>],
+    mailboxes: &mut [Mailbox<'a, T, G>],
     tasks: Vec<T>,
 ) -> Result<Vec<T>, AllocError>
-    requires free { AreFree lines.old }
+    requires free { AreFree mailboxes.old }
     requires allowed { AreAllowed T.enters (G.may gate.now) tasks.items }
-    ensures asked { IfOk result (λ own. own.items ++ all_asked lines.new ≡ tasks.items) }
+    ensures asked { IfOk result (λ own. own.items ++ all_asked mailboxes.new ≡ tasks.items) }
     ensures allowed { IfOk result (λ own. AreAllowed T.enters (G.may gate.now) own.items) }
 {
     let mut rest = tasks;
-    let mut place = lines.len();
+    let mut place = mailboxes.len();
     while place > 0 {
         let share = rest.len() / (place + 1);
         place -= 1;
         let part = rest.split_off(rest.len() - share)?;
-        lines[place].ask(rt, Leave { gate, tasks: part });
+        mailboxes[place].ask(rt, Leave { gate, tasks: part });
     }
     Ok(rest)
 }
@@ -48,45 +48,45 @@ fn join<T: Work>(all: Answer<T::Done>, more: Answer<T::Done>) -> Answer<T::Done>
     Ok(all)
 }
 
-/// What was made of the calling thread's share, and of all that the lines were asked for. Each line has answered then.
+/// What was made of the calling thread's share, and of all that the mailboxes were asked for. Each mailbox has answered then.
 fn answer_all<T: Work, R: Wait, G: Gate>(
     rt: &R,
     alloc: Global,
-    lines: &mut [Line<'_, T, G>],
+    mailboxes: &mut [Mailbox<'_, T, G>],
     own: Answer<T::Done>,
 ) -> Answer<T::Done>
-    ensures done { (tasks : List T) → IsAnswerTo T.gives tasks own → IsAnswerTo T.gives (tasks ++ all_asked lines.old) result }
-    ensures free { AreFree lines.new }
+    ensures done { (tasks : List T) → IsAnswerTo T.gives tasks own → IsAnswerTo T.gives (tasks ++ all_asked mailboxes.old) result }
+    ensures free { AreFree mailboxes.new }
 {
     let mut all = own;
-    for place in 0..lines.len() {
-        let more = lines[place].answer(rt, alloc, all.is_err());
+    for place in 0..mailboxes.len() {
+        let more = mailboxes[place].answer(rt, alloc, all.is_err());
         all = join::<T>(all, more);
     }
     all
 }
 
-/// Does the tasks, each line and the calling thread a share of them. After want of memory no further share is begun, and those that
+/// Does the tasks, each mailbox and the calling thread a share of them. After want of memory no further share is begun, and those that
 /// are out are waited for.
 pub fn phase<'a, T: Work, R: Wait, G: Gate>(
     rt: &R,
     alloc: Global,
     gate: &'a G,
-    lines: &mut [Line<'a, T, G>],
+    mailboxes: &mut [Mailbox<'a, T, G>],
     tasks: Vec<T>,
 ) -> Answer<T::Done>
-    requires free { AreFree lines.old }
+    requires free { AreFree mailboxes.old }
     requires allowed { AreAllowed T.enters (G.may gate.now) tasks.items }
     ensures done { IsAnswerTo T.gives tasks.items result }
-    ensures free { AreFree lines.new }
+    ensures free { AreFree mailboxes.new }
 {
-    match ask_all(rt, gate, lines, tasks) {
+    match ask_all(rt, gate, mailboxes, tasks) {
         Ok(own) => {
             let own = run_here(rt, alloc, gate, own);
-            answer_all(rt, alloc, lines, own)
+            answer_all(rt, alloc, mailboxes, own)
         }
         Err(refused) => {
-            let _ = answer_all(rt, alloc, lines, Err(refused));
+            let _ = answer_all(rt, alloc, mailboxes, Err(refused));
             Err(AllocError)
         }
     }

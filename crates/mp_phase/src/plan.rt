@@ -1,8 +1,8 @@
 //! What is done with a crew.
 
 use crate::gate::Gate;
-use crate::hands::Hands;
 use crate::work::Work;
+use crate::workers::Workers;
 use std::sync::Wait;
 
 /// What is done while a crew is held.
@@ -25,8 +25,8 @@ pub trait Plan: Drop {
     fn carry_out<R: Wait, G: Gate>(
         self,
         rt: &R,
-        hands: &mut Hands<'_, Self::Task, G>,
+        workers: &mut Workers<'_, Self::Task, G>,
     ) -> Self::Outcome
-        requires allowed { needs self (G.may hands.old.gate.now) }
+        requires allowed { needs self (G.may workers.old.gate.now) }
         ensures { ends_in self result };
 }

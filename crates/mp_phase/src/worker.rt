@@ -1,10 +1,10 @@
 //! What a worker's thread does.
 
+use crate::answer_protocol::Replies;
 use crate::gate::Gate;
 use crate::job::Job;
 use crate::leave::Leave;
 use crate::share::run_here;
-use crate::told::Replies;
 use crate::work::Work;
 use crossbeam_channel::{Receiver, TryRecvError};
 use std::alloc::Global;

@@ -11,7 +11,7 @@ use Rattle.mp_model.specs.declared.finding.Finding.{Finding}
 use Rattle.mp_report.specs.Lines.{finding_lines}
 use Rattle.mp_text.specs.Written.{wire_name}
 use Rattle.mp_picture.specs.declared.columns.Columns.{Columns}
-use Rattle.mp_picture.specs.declared.layout.Layout.{Layout}
+use Rattle.mp_picture.specs.declared.layout.DiagramLayout.{DiagramLayout}
 use Rattle.mp_picture.specs.declared.mark.Charset.{Charset}
 use Rattle.mp_picture.specs.Cells.{cells}
 use Rattle.mp_picture.specs.Found.{place_name, place_row, place_rows, within}
@@ -27,15 +27,15 @@ abbrev pub margin : Circuit → List WireId → List Place → ℕ
 margin n wires places = max (longest (map (wire_name n) wires)) (longest (map (place_name n) places)) + 2
 
 -- the row of what stands in a wire's slot
-abbrev pub slot_row : Circuit → Layout → ℕ → Option WireRecord → List ℕ
+abbrev pub slot_row : Circuit → DiagramLayout → ℕ → Option WireRecord → List ℕ
 slot_row n layout w None = []
 slot_row n layout w (Some r) = wire_row layout r (cells (level n w) layout.columns)
 
-abbrev pub wire_line : Circuit → Layout → WireId → List ℕ
+abbrev pub wire_line : Circuit → DiagramLayout → WireId → List ℕ
 wire_line n layout wire = slot_row n layout wire.0 (wire_at n wire.0)
 
 -- the times, the wires, the places with findings, and the report's lines of these findings
-abbrev pub rows : Circuit → Layout → List WireId → List Finding → List ℕ
+abbrev pub rows : Circuit → DiagramLayout → List WireId → List Finding → List ℕ
 rows n layout wires found =
     ruler layout
     ++ (flat_map (wire_line n layout) wires

@@ -8,7 +8,7 @@ use Rattle.mp_model.specs.declared.finding.Place.{Place}
 use Rattle.mp_model.specs.declared.finding.Place.TheVariants.{Module, Bundle}
 use Rattle.mp_model.specs.declared.finding.Finding.{Finding}
 use Rattle.mp_picture.specs.declared.columns.Columns.{Columns}
-use Rattle.mp_picture.specs.declared.layout.Layout.{Layout}
+use Rattle.mp_picture.specs.declared.layout.DiagramLayout.{DiagramLayout}
 use Rattle.mp_picture.specs.Columns.{numbers, column_of}
 use Rattle.mp_picture.specs.Rows.{padded}
 
@@ -71,5 +71,5 @@ place_name n (Module m) = module_name (module_at n m.0)
 place_name n (Bundle b) = bundle_name (bundle_at n b.0)
 
 -- the name, filled to the width of the names, the marks and a line feed
-abbrev pub place_row : Circuit → Layout → Place → List Finding → List ℕ
+abbrev pub place_row : Circuit → DiagramLayout → Place → List Finding → List ℕ
 place_row n layout place found = padded layout.margin (place_name n place) ++ (trimmed (marks layout.columns place found) ++ (10 ∷ []))

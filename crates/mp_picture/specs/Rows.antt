@@ -7,7 +7,7 @@ use Rattle.mp_picture.specs.declared.cell.Cell.{Cell}
 use Rattle.mp_picture.specs.declared.cell.Events.{Events}
 use Rattle.mp_picture.specs.declared.cell.Events.TheVariants.{None, One, More}
 use Rattle.mp_picture.specs.declared.columns.Columns.{Columns}
-use Rattle.mp_picture.specs.declared.layout.Layout.{Layout}
+use Rattle.mp_picture.specs.declared.layout.DiagramLayout.{DiagramLayout}
 use Rattle.mp_picture.specs.declared.mark.Charset.{Charset}
 use Rattle.mp_picture.specs.declared.mark.Mark.TheVariants.{Flat, Cross}
 use Rattle.mp_picture.specs.Columns.{count, begin}
@@ -36,7 +36,7 @@ abbrev pub tick : Columns → ℕ → List ℕ
 tick c i = decimal (begin c (tick_step c * i))
 
 -- blanks in place of a name, and the times, each filled up to the next but the last
-abbrev pub ruler : Layout → List ℕ
+abbrev pub ruler : DiagramLayout → List ℕ
 ruler layout =
     let c = layout.columns in
     repeat layout.margin (32 ∷ []) ++ (flat_map (λ i. padded (tick_step c) (tick c i)) (range_with_len 0 (last_tick c)) ++ (tick c (last_tick c) ++ (10 ∷ [])))
@@ -84,9 +84,9 @@ run_text charset level room = fitting level room ++ repeat (room - length (fitti
 
 -- ---- a wire
 
-abbrev pub row_text : Layout → ℕ → List Cell → List ℕ
+abbrev pub row_text : DiagramLayout → ℕ → List Cell → List ℕ
 row_text layout width cells = if width == 1 then narrow_text layout.charset layout.columns.units cells else wide_text layout.charset cells
 
 -- its name, filled to the width of the names, a character a column and a line feed
-abbrev pub wire_row : Layout → WireRecord → List Cell → List ℕ
+abbrev pub wire_row : DiagramLayout → WireRecord → List Cell → List ℕ
 wire_row layout wire cells = padded layout.margin wire.name ++ (row_text layout wire.width cells ++ (10 ∷ []))

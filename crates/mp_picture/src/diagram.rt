@@ -10,7 +10,7 @@ ghost use Rattle.mp_picture.specs.Found.{is_within, place_row};
 ghost use Rattle.mp_picture.specs.Rows.{ruler};
 
 use crate::found::{found_within, push_place_row, rows_of};
-use crate::layout::Layout;
+use crate::layout::DiagramLayout;
 use crate::margin::margin_of;
 use crate::mark::Charset;
 use crate::picture::Picture;
@@ -43,7 +43,7 @@ pub fn put_diagram<S: Sink>(
     let found = found_within(alloc, picture.findings, columns)?;
     let places = rows_of(alloc, found.as_slice())?;
     let margin = margin_of(picture.netlist, picture.wires, places.as_slice());
-    let layout = Layout {
+    let layout = DiagramLayout {
         columns,
         charset,
         margin,
@@ -65,7 +65,11 @@ pub fn put_diagram<S: Sink>(
 }
 
 /// Writes the line of times. Every row is made in the same room.
-fn put_ruler<S: Sink>(out: &mut Out<S>, row: &mut Vec<u8>, layout: Layout) -> Result<(), WriteError>
+fn put_ruler<S: Sink>(
+    out: &mut Out<S>,
+    row: &mut Vec<u8>,
+    layout: DiagramLayout,
+) -> Result<(), WriteError>
     ensures { Writes result out.old out.new (ruler layout) }
 {
     row.clear();
@@ -79,7 +83,7 @@ fn put_wires<S: Sink>(
     out: &mut Out<S>,
     row: &mut Vec<u8>,
     picture: &Picture,
-    layout: Layout,
+    layout: DiagramLayout,
 ) -> Result<(), WriteError>
     requires waves { AreWavesOf picture.now.netlist.now picture.now.waves.now }
     requires within { layout.columns.to ≤ picture.now.netlist.now.horizon }
@@ -95,7 +99,7 @@ fn put_wire<S: Sink>(
     out: &mut Out<S>,
     row: &mut Vec<u8>,
     picture: &Picture,
-    layout: Layout,
+    layout: DiagramLayout,
     wire: WireId,
 ) -> Result<(), WriteError>
     requires waves { AreWavesOf picture.now.netlist.now picture.now.waves.now }
@@ -113,7 +117,7 @@ fn put_places<S: Sink>(
     out: &mut Out<S>,
     row: &mut Vec<u8>,
     netlist: &Netlist,
-    layout: Layout,
+    layout: DiagramLayout,
     places: &[Place],
     found: &[Finding],
 ) -> Result<(), WriteError>
@@ -130,7 +134,7 @@ fn put_place<S: Sink>(
     out: &mut Out<S>,
     row: &mut Vec<u8>,
     netlist: &Netlist,
-    layout: Layout,
+    layout: DiagramLayout,
     place: Place,
     found: &[Finding],
 ) -> Result<(), WriteError>

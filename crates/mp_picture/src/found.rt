@@ -5,7 +5,7 @@ ghost use Rattle.std.specs.List.{list_any};
 ghost use Rattle.mp_picture.specs.Found.{is_within, is_place, is_module, within, places_of, place_rows, marks, trimmed, place_name, place_row};
 
 use crate::columns::Columns;
-use crate::layout::Layout;
+use crate::layout::DiagramLayout;
 use crate::repeated::push_padded;
 use mp_model::{Finding, Place};
 use mp_netlist::Netlist;
@@ -108,7 +108,7 @@ fn is_module(place: Place) -> bool
 pub fn push_place_row(
     row: &mut Vec<u8>,
     netlist: &Netlist,
-    layout: Layout,
+    layout: DiagramLayout,
     place: Place,
     found: &[Finding],
 ) -> Result<(), AllocError>

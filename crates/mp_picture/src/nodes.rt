@@ -29,11 +29,11 @@ impl<'a> Text for Id<'a> {
 
 /// Numbers, each behind a space.
 #[derive(Clone, Copy)]
-struct Params<'a> {
+struct ParamTexts<'a> {
     params: &'a [u64],
 }
 
-impl<'a> Text for Params<'a> {
+impl<'a> Text for ParamTexts<'a> {
     ghost use Rattle.mp_picture.specs.Graphs.{params_text};
 
     ghost text = { λ numbers. params_text numbers.params.now };
@@ -78,7 +78,7 @@ fn put_module<S: Sink>(out: &mut Out<S>, part: &ModuleRecord) -> Result<(), Fail
     ensures { Writes result out.old out.new (module_node (Some part.now)) }
 {
     let (kind, name) = ("module ", part.name.as_str());
-    let params = Params {
+    let params = ParamTexts {
         params: part.params.as_slice(),
     };
     let inputs = input_cells(part.kind);

@@ -8,7 +8,7 @@ ghost use Rattle.mp_picture.specs.Diagrams.{wire_line};
 ghost use Rattle.mp_picture.specs.Rows.{is_still, narrow_text, wide_text, run_text, row_text, wire_row};
 
 use crate::cell::{Cell, Events, cells};
-use crate::layout::Layout;
+use crate::layout::DiagramLayout;
 use crate::mark::{Charset, Mark};
 use crate::repeated::{push_padded, push_repeated};
 use itoa::Buffer;
@@ -23,7 +23,7 @@ pub fn push_wire_line(
     row: &mut Vec<u8>,
     netlist: &Netlist,
     waves: &Waves,
-    layout: Layout,
+    layout: DiagramLayout,
     wire: WireId,
 ) -> Result<(), AllocError>
     requires waves { AreWavesOf netlist.now waves.now }
@@ -38,7 +38,7 @@ pub fn push_wire_line(
 
 fn push_wave_row(
     row: &mut Vec<u8>,
-    layout: Layout,
+    layout: DiagramLayout,
     wire: &WireRecord,
     wave: &Wave,
 ) -> Result<(), AllocError>
@@ -53,7 +53,7 @@ fn push_wave_row(
 
 fn push_cells(
     row: &mut Vec<u8>,
-    layout: Layout,
+    layout: DiagramLayout,
     width: u32,
     cells: &[Cell],
 ) -> Result<(), AllocError>

@@ -5,7 +5,7 @@ ghost use Rattle.mp_picture.specs.Columns.{count};
 ghost use Rattle.mp_picture.specs.Rows.{ruler, padded, tick, tick_step, last_tick, touches};
 
 use crate::columns::Columns;
-use crate::layout::Layout;
+use crate::layout::DiagramLayout;
 use crate::repeated::{push_number, push_padded, push_repeated};
 use itoa::Buffer;
 use std::alloc::AllocError;
@@ -18,7 +18,7 @@ const TEN_DIGITS: u32 = 1_000_000_000;
 
 /// Puts the line of times behind the text: at each tenth column, or at each twentieth where two would touch, the time at which it
 /// begins. No blanks stand behind the last.
-pub fn push_ruler(row: &mut Vec<u8>, layout: Layout) -> Result<(), AllocError>
+pub fn push_ruler(row: &mut Vec<u8>, layout: DiagramLayout) -> Result<(), AllocError>
     ensures { OnOk result (row.new.items ≡ row.old.items ++ ruler layout) }
 {
     let columns = layout.columns;

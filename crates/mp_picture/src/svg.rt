@@ -1,6 +1,5 @@
 //! Timing diagrams as SVG.
 
-mod drawing;
 mod drawn;
 mod elements;
 mod found_groups;
@@ -12,6 +11,7 @@ mod leads;
 mod mark_rows;
 mod style;
 mod svg;
+mod svg_drawing;
 mod value_group;
 mod wire_group;
 

@@ -2,21 +2,21 @@
 
 mod apart;
 mod busy;
-mod ears;
+mod client_watch;
+mod delayed_input;
 mod events;
 mod extremes;
 mod figures;
-mod heard;
+mod input_ports;
 pub mod laws;
 mod lines;
 mod margins;
 mod marks;
 mod measure;
-mod moment;
 mod range;
 mod trail;
+mod wait_moment;
 mod waits;
-mod watch;
 
 pub use extremes::Extremes;
 pub use measure::put_measure;

@@ -1,6 +1,6 @@
 pub mod Parts
 pub mod PartLevels
 pub mod PartWork
-pub mod PartStretches
+pub mod PartWorkSpans
 pub mod RunSlots
 pub mod PartRuns

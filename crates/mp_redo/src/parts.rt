@@ -1,12 +1,12 @@
 //! A change of a netlist is evaluated again part by part, where the netlist falls into groups of modules that no wire connects.
 
-mod change;
+mod changed_part;
 mod driven;
 mod least;
-mod part;
 mod part_netlist;
 mod part_run;
 mod partition;
+mod parts_change;
 mod reached;
 mod redoing;
 mod redone;

@@ -2,7 +2,6 @@
 
 mod activation;
 mod activity;
-mod ahead;
 mod border;
 mod change;
 mod coming;
@@ -15,10 +14,11 @@ mod join;
 mod joining;
 mod joining_states;
 mod last_wave;
-mod means;
+mod next_step;
 mod old_state;
 mod redoing;
 mod rerun;
+mod rerun_context;
 mod resting;
 mod returning;
 mod setting;

@@ -8,12 +8,12 @@ pub(crate) struct ArgumentForm {
     pub name: &'static str,
     pub value: &'static str,
     pub help: &'static str,
-    pub takes: Takes,
+    pub takes: ArgumentKind,
 }
 
 /// What an argument takes.
 #[derive(Clone, Copy)]
-pub(crate) enum Takes {
+pub(crate) enum ArgumentKind {
     /// A word by its place, which may be left out.
     Word,
     /// A word by its place.
@@ -40,16 +40,16 @@ impl ArgumentForm {
     /// The argument of this form.
     pub(crate) fn argument<'a>(&self, alloc: Global) -> Result<Arg<'a>, AllocError> {
         match self.takes {
-            Takes::Word => self.word(alloc),
-            Takes::NeededWord => self.needed_word(alloc),
-            Takes::NeededTime => self.needed_time(alloc),
-            Takes::Number(default) => self.number(alloc, default),
-            Takes::NumberWith(other) => self.count(alloc).requires_arg(other),
-            Takes::WordWith(other) => self.valued(alloc).requires_arg(other),
-            Takes::OptionalWord => Ok(self.valued(alloc)),
-            Takes::Time => self.time(alloc),
-            Takes::Words => self.words(alloc),
-            Takes::Nothing => self.flag(alloc),
+            ArgumentKind::Word => self.word(alloc),
+            ArgumentKind::NeededWord => self.needed_word(alloc),
+            ArgumentKind::NeededTime => self.needed_time(alloc),
+            ArgumentKind::Number(default) => self.number(alloc, default),
+            ArgumentKind::NumberWith(other) => self.count(alloc).requires_arg(other),
+            ArgumentKind::WordWith(other) => self.valued(alloc).requires_arg(other),
+            ArgumentKind::OptionalWord => Ok(self.valued(alloc)),
+            ArgumentKind::Time => self.time(alloc),
+            ArgumentKind::Words => self.words(alloc),
+            ArgumentKind::Nothing => self.flag(alloc),
         }
     }
 

@@ -1,5 +1,5 @@
 //! The arguments of the commands.
-use crate::argument_form::{ArgumentForm, Takes};
+use crate::argument_form::{ArgumentForm, ArgumentKind};
 
 /// Arguments that stand together.
 #[derive(Clone, Copy)]
@@ -43,19 +43,19 @@ static INPUT: [ArgumentForm; 3] = [
         name: "file",
         value: "FILE",
         help: "The file to read; `-` or no FILE: standard input",
-        takes: Takes::Word,
+        takes: ArgumentKind::Word,
     },
     ArgumentForm {
         name: "workers",
         value: "N",
         help: "How many workers there are, 1 to 16",
-        takes: Takes::Number("2"),
+        takes: ArgumentKind::Number("2"),
     },
     ArgumentForm {
         name: "least",
         value: "N",
         help: "With fewer modules than these the workers are not called on, 1 to 4096",
-        takes: Takes::Number("256"),
+        takes: ArgumentKind::Number("256"),
     },
 ];
 
@@ -64,13 +64,13 @@ static RANGE: [ArgumentForm; 2] = [
         name: "from",
         value: "T",
         help: "The first time, 0 where none is given",
-        takes: Takes::Time,
+        takes: ArgumentKind::Time,
     },
     ArgumentForm {
         name: "to",
         value: "T",
         help: "The end of the times, which isn't in it; the horizon where none is given",
-        takes: Takes::Time,
+        takes: ArgumentKind::Time,
     },
 ];
 
@@ -79,31 +79,31 @@ static DRAWING: [ArgumentForm; 5] = [
         name: "columns",
         value: "N",
         help: "How many columns there are at most, 1 to 10000",
-        takes: Takes::Number("72"),
+        takes: ArgumentKind::Number("72"),
     },
     ArgumentForm {
         name: "wire",
         value: "NAME",
         help: "A wire that is shown, in the order in which they are named; none: all wires",
-        takes: Takes::Words,
+        takes: ArgumentKind::Words,
     },
     ArgumentForm {
         name: "ascii",
         value: "",
         help: "Draw with characters of ASCII alone",
-        takes: Takes::Nothing,
+        takes: ArgumentKind::Nothing,
     },
     ArgumentForm {
         name: "svg",
         value: "",
         help: "Write an SVG file, of at most 1200 columns",
-        takes: Takes::Nothing,
+        takes: ArgumentKind::Nothing,
     },
     ArgumentForm {
         name: "unit",
         value: "TEXT",
         help: "What stands above the times of an SVG file; `time in units` where none is given",
-        takes: Takes::OptionalWord,
+        takes: ArgumentKind::OptionalWord,
     },
 ];
 
@@ -111,21 +111,21 @@ static WIRE: [ArgumentForm; 1] = [ArgumentForm {
     name: "wire",
     value: "WIRE",
     help: "The wire's name",
-    takes: Takes::NeededWord,
+    takes: ArgumentKind::NeededWord,
 }];
 
 static MOMENT: [ArgumentForm; 1] = [ArgumentForm {
     name: "time",
     value: "TIME",
     help: "The time; one at or above the horizon is the last one below it",
-    takes: Takes::NeededTime,
+    takes: ArgumentKind::NeededTime,
 }];
 
 static CHAIN: [ArgumentForm; 1] = [ArgumentForm {
     name: "steps",
     value: "N",
     help: "How many steps are written at most, 1 to 1048576",
-    takes: Takes::Number("20"),
+    takes: ArgumentKind::Number("20"),
 }];
 
 static DESK: [ArgumentForm; 3] = [
@@ -133,19 +133,19 @@ static DESK: [ArgumentForm; 3] = [
         name: "at",
         value: "FOLDER",
         help: "Serve designers and viewers at the named pipes of this folder",
-        takes: Takes::WordWith("file"),
+        takes: ArgumentKind::WordWith("file"),
     },
     ArgumentForm {
         name: "designers",
         value: "N",
         help: "How many designers there are with --at, 1 to 8; 2 where none is given",
-        takes: Takes::NumberWith("at"),
+        takes: ArgumentKind::NumberWith("at"),
     },
     ArgumentForm {
         name: "viewers",
         value: "N",
         help: "How many viewers there are, 1 to 32, and with --at 0 to 24",
-        takes: Takes::Number("2"),
+        takes: ArgumentKind::Number("2"),
     },
 ];
 
@@ -153,5 +153,5 @@ static WORD: [ArgumentForm; 1] = [ArgumentForm {
     name: "word",
     value: "WORD",
     help: "The number or name of a code, or a kind of module; none: the list of all",
-    takes: Takes::Word,
+    takes: ArgumentKind::Word,
 }];

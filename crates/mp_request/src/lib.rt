@@ -3,8 +3,8 @@
 
 mod argument_form;
 mod arguments;
-mod asked;
 mod command_form;
+mod command_line;
 mod help;
 mod parser;
 mod picture_words;
@@ -12,7 +12,7 @@ mod reading;
 mod request;
 mod telling;
 
-pub use asked::Asked;
+pub use command_line::CommandLine;
 pub use picture_words::PictureWords;
 pub use reading::{read_words, unknown_word};
 pub use request::{Command, Request};

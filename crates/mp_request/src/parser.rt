@@ -1,7 +1,11 @@
 //! The commands and their options, as `clap` parses them.
 use crate::arguments::Arguments;
 use crate::command_form::CommandForm;
-use crate::help::{ABOUT, DESK, DESK_LONG, DUMP, DUMP_LONG, EXPLAIN, EXPLAIN_LONG, GRAPH, GRAPH_LONG, MEASURE, MEASURE_LONG, PATH, PATH_LONG, PLAY, PLAY_LONG, REPORT, REPORT_LONG, SHOW, SHOW_LONG, STATUS, VERILOG, VERILOG_LONG, WAITS, WAITS_LONG, WAVES, WAVES_LONG, WHY, WHY_LONG};
+use crate::help::{
+    ABOUT, DESK, DESK_LONG, DUMP, DUMP_LONG, EXPLAIN, EXPLAIN_LONG, GRAPH, GRAPH_LONG, MEASURE,
+    MEASURE_LONG, PATH, PATH_LONG, PLAY, PLAY_LONG, REPORT, REPORT_LONG, SHOW, SHOW_LONG, STATUS,
+    VERILOG, VERILOG_LONG, WAITS, WAITS_LONG, WAVES, WAVES_LONG, WHY, WHY_LONG,
+};
 use clap::Command as Parser;
 use std::alloc::{AllocError, Global};
 

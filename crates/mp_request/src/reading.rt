@@ -4,7 +4,7 @@ ghost use Rattle.clap.specs.Values.{kind_of};
 ghost use Rattle.clap.specs.declared.error.kind.ErrorKind.TheVariants as kinds;
 ghost use Rattle.mp_request.specs.Asking.{file_of};
 
-use crate::asked::Asked;
+use crate::command_line::CommandLine;
 use crate::parser::{explain, parser};
 use crate::picture_words::PictureWords;
 use crate::request::{Command, Request};
@@ -17,7 +17,7 @@ const STANDARD_INPUT: &str = "-";
 
 /// What the words ask for, of which the first is the program's name. The error is what is told in its
 /// place: help, the version, what is wrong with the words, or want of memory.
-pub fn read_words<'a>(alloc: Global, words: &'a [String]) -> Result<Asked<'a>, Error>
+pub fn read_words<'a>(alloc: Global, words: &'a [String]) -> Result<CommandLine<'a>, Error>
     ensures { IfOk result (λ asked. IfSome (file_of asked) (λ path. path.now ≢ codes "-")) }
 {
     let matches = parser(alloc)?.try_get_matches_from(words)?;
@@ -25,17 +25,17 @@ pub fn read_words<'a>(alloc: Global, words: &'a [String]) -> Result<Asked<'a>, E
 }
 
 /// What the words ask for that were found so.
-fn asked<'a>(alloc: Global, matches: &ArgMatches<'a>) -> Result<Asked<'a>, Error>
+fn asked<'a>(alloc: Global, matches: &ArgMatches<'a>) -> Result<CommandLine<'a>, Error>
     ensures { IfOk result (λ asked. IfSome (file_of asked) (λ path. path.now ≢ codes "-")) }
 {
     let Some((word, found)) = matches.subcommand() else {
         return Err(no_command(alloc));
     };
     if word == "explain" {
-        return Ok(Asked::Explain(found.get_str("word")));
+        return Ok(CommandLine::Explain(found.get_str("word")));
     }
     match command_of(alloc, word, found)? {
-        Some(command) => Ok(Asked::Run(request(command, found))),
+        Some(command) => Ok(CommandLine::Run(request(command, found))),
         None => Err(no_command(alloc)),
     }
 }

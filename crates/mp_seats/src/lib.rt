@@ -4,20 +4,20 @@
 //! `pipes` has their named pipes. Begin with `seat.rt`.
 #![tactic(auto)]
 
-mod guest;
 pub mod hosting;
+mod occupant;
 mod pipes;
 mod refusal;
 mod reply;
-mod scribe;
+mod reply_writer;
 mod seat;
 mod talk;
 
-pub use guest::Guest;
-pub use hosting::{Door, Ended, Exit, Hall, HostFault, Place, Places, SeatName, host};
+pub use hosting::{Door, Ended, Exit, Hall, HostFault, Places, SeatName, SeatPlace, host};
+pub use occupant::Occupant;
 pub use pipes::Pipes;
 pub use refusal::Refusal;
 pub use reply::Reply;
-pub use scribe::Scribe;
+pub use reply_writer::ReplyWriter;
 pub use seat::Seat;
 pub use talk::{Answerer, TalkFault, converse};

@@ -1,14 +1,14 @@
 //! A seat of a desk.
 ghost use Rattle.std.specs.Prelude.{◌≡◌};
 
-use crate::guest::Guest;
+use crate::occupant::Occupant;
 use crate::refusal::Refusal;
 use crate::reply::Reply;
-use crate::scribe::Scribe;
-use mp_text::{Line, LineError, LineReader, Question, read_line};
+use crate::reply_writer::ReplyWriter;
+use crate::talk::{Answerer, TalkFault, converse};
 use mp_netlist::{Edit, EditError};
 use mp_streams::{Out, Sink, Source, WriteError};
-use crate::talk::{Answerer, TalkFault, converse};
+use mp_text::{Line, LineError, LineReader, Question, read_line};
 use std::alloc::Global;
 use std::marker::Model;
 use std::sync::Wait;
@@ -16,13 +16,13 @@ use std::thread::Threads;
 
 /// A seat of a desk, with the one who sits there, and how replies are written. A contract sees the one who sits.
 #[derive(Drop)]
-pub struct Seat<B: Scribe, G: Guest> {
+pub struct Seat<B: ReplyWriter, G: Occupant> {
     alloc: Global,
     scribe: B,
     guest: G,
 }
 
-impl<B: Scribe, G: Guest> Model for Seat<B, G> {
+impl<B: ReplyWriter, G: Occupant> Model for Seat<B, G> {
     ghost use Rattle.mp_seats.specs.Steps.{Seated};
 
     ghost Value = { Seated };
@@ -30,7 +30,7 @@ impl<B: Scribe, G: Guest> Model for Seat<B, G> {
     ghost view = { λ seat. G.seated seat.guest };
 }
 
-impl<B: Scribe, G: Guest> Seat<B, G> {
+impl<B: ReplyWriter, G: Occupant> Seat<B, G> {
     ghost use Rattle.std.specs.Prelude.{◌≡◌, Some, []};
     ghost use Rattle.mp_desk.specs.Extending.{Extends};
     ghost use Rattle.mp_streams.specs.WriteErrors.{Writes};
@@ -140,7 +140,7 @@ impl<B: Scribe, G: Guest> Seat<B, G> {
     }
 }
 
-impl<B: Scribe, G: Guest> Answerer for Seat<B, G> {
+impl<B: ReplyWriter, G: Occupant> Answerer for Seat<B, G> {
     ghost use Rattle.mp_seats.specs.Steps.{IsStep};
 
     ghost Answers = { IsStep (record { answer = B.answer_text; reply = B.reply_text }) G.edits };

@@ -2,11 +2,11 @@
 ghost use Rattle.std.specs.Prelude.{◌≡◌, IsTrue, ◌↔◌};
 
 use crate::session::Session;
-use mp_partition::Run;
+use mp_depend::Work;
 use mp_netlist::Edit;
+use mp_partition::Run;
 use mp_phase::Gate;
 use mp_version::Version;
-use mp_depend::Work;
 use std::alloc::Global;
 use std::marker::Model;
 use std::sync::Arc;

@@ -2,14 +2,14 @@
 ghost use Rattle.std.specs.Prelude.{◌≡◌, IfOk};
 
 use crate::prepared::Prepared;
-use mp_engine::evaluate;
-use mp_partition::Run;
-use mp_netlist::{Edit, EditError, Netlist};
-use mp_redo::redo;
-use mp_phase::{Crew, Gate};
-use mp_version::{MAX_EDITS, Version};
 use mp_depend::Work;
 use mp_depend::work::laws::edits_revise;
+use mp_engine::evaluate;
+use mp_netlist::{Edit, EditError, Netlist};
+use mp_partition::Run;
+use mp_phase::{Crew, Gate};
+use mp_redo::redo;
+use mp_version::{MAX_EDITS, Version};
 use std::alloc::{AllocError, Global};
 use std::marker::Model;
 use std::sync::{Arc, Wait};

@@ -9,5 +9,8 @@ mod run;
 pub mod units;
 
 pub use bits::{DelayedCopies, Simulation, Simulator};
-pub use run::{HeardChanges, Layout, Stimuli, StimulusChange, WavesRun, WiredInputs, Wiring, all_outputs, begin, data_module, found_waves, is_narrow};
+pub use run::{
+    HeardChanges, Layout, Stimuli, StimulusChange, WavesRun, WiredInputs, Wiring, all_outputs,
+    begin, data_module, found_waves, is_narrow,
+};
 pub use units::{DataModules, DataWires, NetlistSimulation};

@@ -12,4 +12,3 @@ mod parts;
 mod rerun;
 mod seats;
 mod sessions;
-

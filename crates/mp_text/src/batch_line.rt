@@ -2,11 +2,11 @@
 ghost use Rattle.std.specs.Prelude.{◌≡◌, ◌∷◌};
 ghost use Rattle.mp_text.specs.Clauses.{IfOk, All, slice_split, byte, OutOfMemory, Gives, texts, AreAscii, is_mark, part_edit, each_part, batch_of, part_texts};
 
+use crate::lexing::LineError;
 use crate::script_edit::single_edit;
 use crate::single_word::SingleWord;
 use crate::stated_edit::is_mark;
 use mp_netlist::{Batch, SingleEdit};
-use crate::lexing::LineError;
 use std::alloc::{AllocError, Global};
 
 /// The batch of the words behind `batch`.

@@ -34,7 +34,11 @@ mod writing;
 mod written_lines;
 
 pub use edit_lines::EditText;
-pub use lexing::{Changes, LineError, ShortChanges, Toggles, Worded, divided, each_word, first_line, first_word, is_plain, name_of, number_word, parts, read_line_words, wire_or_none, word_at, word_count, words};
+pub use lexing::{
+    ChangeTexts, LineError, ShortChanges, ToggleTexts, Worded, divided, each_word, first_line,
+    first_word, is_plain, name_of, number_word, parts, read_line_words, wire_or_none, word_at,
+    word_count, words,
+};
 pub use lines::{LINE_BYTES, LineReader, TooLong};
 pub use question::Question;
 pub use reading::{read_lines, read_netlist};

@@ -1,9 +1,9 @@
 //! A source read line by line.
 
-mod chunk;
 mod line_reader;
 mod line_room;
 mod reading;
+mod source_chunk;
 mod too_long;
 
 pub use line_reader::LineReader;

@@ -2,13 +2,13 @@
 ghost use Rattle.std.specs.Prelude.{◌≤◌};
 ghost use Rattle.mp_text.specs.Clauses.{IfErr, length, lines_of, Fresh, max_text, text_at, after_lines, GivesText, IsReached, IsReachedIn};
 
+use crate::lexing::first_line;
 use crate::statement::line;
 use crate::text_code::TextCode;
 use crate::text_error::TextError;
 use crate::text_size::text_limit;
 use crate::text_state::TextState;
 use mp_netlist::Netlist;
-use crate::lexing::first_line;
 use std::alloc::Global;
 
 /// The netlist of a text of `horizon`, `wire`, `module`, `stim` and `bundle` statements, one a

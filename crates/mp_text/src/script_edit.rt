@@ -2,10 +2,10 @@
 ghost use Rattle.std.specs.Prelude.{◌≡◌};
 ghost use Rattle.mp_text.specs.Clauses.{IfOk, IsAscii, OutOfMemory, Gives, wire_or_none, texts, AreAscii, removal, port_change, single_edit};
 
+use crate::lexing::{LineError, name_of, number_word, wire_or_none};
 use crate::single_word::SingleWord;
 use crate::stated_edit::stated_edit;
 use mp_netlist::{Boxed, Name, SingleEdit};
-use crate::lexing::{LineError, name_of, number_word, wire_or_none};
 use std::alloc::{AllocError, Global};
 
 /// The edit of a first word and the words behind it.

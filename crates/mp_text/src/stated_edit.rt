@@ -3,9 +3,11 @@ ghost use Rattle.std.specs.Prelude.{◌≡◌, ◌<◌};
 ghost use Rattle.mp_text.specs.Clauses.{IsAscii, IfOk, IfSome, length, position, before_first, after_first, OutOfMemory, Gives, texts, AreAscii, stated_edit, parts_edit, module_edit, is_mark, AddModule};
 
 use crate::edit_word::EditWord;
-use mp_modules::Kind;
-use mp_netlist::{Boxed, Changes, InputNames, Name, NewBundle, NewModule, OutputNames, Params, SingleEdit};
 use crate::lexing::{LineError, each_word, name_of, number_word};
+use mp_modules::Kind;
+use mp_netlist::{
+    Boxed, Changes, InputNames, Name, NewBundle, NewModule, OutputNames, Params, SingleEdit,
+};
 use std::alloc::{AllocError, Global};
 
 /// The edit of a first word and the words behind it.

@@ -3,12 +3,12 @@ ghost use Rattle.std.specs.Prelude.{◌≡◌};
 ghost use Rattle.mp_text.specs.Clauses.{IfErr, OutOfMemory, Gives, texts, AreAscii, HasForm, batch_of, single_edit, stated_question, line_at, stated_line, single_line, batch_line, question_line};
 
 use crate::batch_line::batch;
+use crate::lexing::{LineError, first_word, is_plain, word_count, words};
 use crate::line_word::LineWord;
 use crate::script_edit::single_edit;
 use crate::script_line::Line;
 use crate::stated_question::stated_question;
 use mp_netlist::Edit;
-use crate::lexing::{LineError, first_word, is_plain, word_count, words};
 use std::alloc::Global;
 
 /// What a line of a script says, which is given without its line feed: an edit, as in a netlist's

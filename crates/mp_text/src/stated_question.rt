@@ -2,10 +2,10 @@
 ghost use Rattle.std.specs.Prelude.{◌≡◌};
 ghost use Rattle.mp_text.specs.Clauses.{IfOk, IsAscii, OutOfMemory, Gives, texts, AreAscii, stated_question, steps_word, chain_question};
 
+use crate::lexing::{LineError, name_of, number_word};
 use crate::question::Question;
 use crate::question_word::QuestionWord;
 use crate::wire_names::WireNames;
-use crate::lexing::{LineError, name_of, number_word};
 use std::alloc::{AllocError, Global};
 
 /// How many steps of a chain may be asked for.

@@ -5,12 +5,12 @@ ghost use Rattle.std.specs.Prelude.{◌≡◌};
 ghost use Rattle.mp_text.specs.Clauses.{OutOfMemory, max_horizon, Gives, texts, AreAscii, Line, Refused, Open, stated_number, stated_edit, Format, Start, Change, statement_of, begun, after_statement, after_line, told};
 
 use crate::edit_word::EditWord;
+use crate::lexing::{LineError, number_word, read_line_words};
 use crate::stated_edit::{stated_edit, stated_module};
 use crate::text_code::TextCode;
 use crate::text_format::TextFormat;
 use crate::text_state::TextState;
 use mp_netlist::{Edit, EditError, Netlist, NewError};
-use crate::lexing::{LineError, number_word, read_line_words};
 use std::alloc::Global;
 
 /// Makes of the text so far what a line says, whose words are read in place of those of the line

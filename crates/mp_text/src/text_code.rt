@@ -2,8 +2,8 @@
 ghost use Rattle.std.specs.Prelude.{◌≡◌};
 ghost use Rattle.mp_text.specs.Clauses.{Line};
 
-use mp_netlist::EditError;
 use crate::lexing::LineError;
+use mp_netlist::EditError;
 use thiserror::Error;
 
 /// What is wrong with a line of a netlist's text.

@@ -2,11 +2,11 @@
 ghost use Rattle.std.specs.Prelude.{◌≡◌};
 ghost use Rattle.mp_text.specs.Clauses.{Some, Writes, wire_line, module_line, stimulus_line, bundle_line};
 
+use crate::lexing::ChangeTexts;
 use crate::port_texts::{Ports, wire_word};
 use crate::spaced::Spaced;
 use mp_netlist::{BundleRecord, ModuleRecord, Netlist, WireRecord};
 use mp_streams::{Failed, Out, Sink, Text};
-use crate::lexing::Changes;
 
 /// Writes the line of a wire.
 #[tactic(auto, using(crate::proofs::WriteLemmas::put_line_steps))]
@@ -48,7 +48,7 @@ pub fn put_stimulus<S: Sink>(out: &mut Out<S>, wire: &WireRecord) -> Result<(), 
     let Some(stimulus) = &wire.stimulus else {
         return Ok(());
     };
-    let changes = Changes {
+    let changes = ChangeTexts {
         changes: stimulus.as_slice(),
     };
     ("stim ", wire.name.as_str(), changes, "\n").put_to(out)

@@ -3,7 +3,9 @@ ghost use Rattle.std.specs.Prelude.{◌≡◌, IsTrue, ◌↔◌};
 ghost use Rattle.mp_records.specs.declared.single_edit.SingleEdit.TheVariants.{AddWire, RemoveWire, AddModule, RemoveModule, AddBundle, RemoveBundle, RewireInput, RewireOutput, SetInputDelay, SetDelay, SetStimulus, ClearStimulus};
 
 use crate::same::{Same, same_list, same_option};
-use mp_netlist::{Boxed, Changes, Edit, InputName, Name, NewBundle, NewModule, OutputName, SingleEdit};
+use mp_netlist::{
+    Boxed, Changes, Edit, InputName, Name, NewBundle, NewModule, OutputName, SingleEdit,
+};
 
 impl Same for Boxed<Name> {
     fn same(&self, other: &Self) -> bool {

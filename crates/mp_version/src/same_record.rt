@@ -2,7 +2,10 @@
 ghost use Rattle.std.specs.Prelude.{◌≡◌, IsTrue, ◌↔◌};
 
 use crate::same::{Same, same_list, same_option, same_place};
-use mp_netlist::{BundleId, BundleRecord, Input, ModuleId, ModuleRecord, Name, Netlist, Output, Stimulus, WireId, WireRecord};
+use mp_netlist::{
+    BundleId, BundleRecord, Input, ModuleId, ModuleRecord, Name, Netlist, Output, Stimulus, WireId,
+    WireRecord,
+};
 
 impl Same for Name {
     fn same(&self, other: &Self) -> bool {

@@ -1,13 +1,15 @@
 //! A desk that serves designers and viewers at named pipes.
 ghost use Rattle.std.specs.Prelude.{◌≡◌, ◌<◌, ◌≤◌, [], IfSome};
 
-use mp_commands::{Options, RunFault, SeatScribe, fault_of_meeting, fault_of_talk, put_met, read_opening};
-use mp_seats::{HostFault, Pipes, Places};
-use mp_text::LineReader;
+use mp_commands::{
+    Options, RunFault, SeatScribe, fault_of_meeting, fault_of_talk, put_met, read_opening,
+};
 use mp_netlist::Netlist;
 use mp_phase::{Crew, OpenGate};
+use mp_seats::{HostFault, Pipes, Places};
 use mp_session::Session;
 use mp_streams::{Out, ReadSource, Sink, Source, WriteSink};
+use mp_text::LineReader;
 use std::io;
 use std::rt::Runtime;
 use std::sync::Wait;

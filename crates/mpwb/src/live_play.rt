@@ -3,8 +3,8 @@ ghost use Rattle.std.specs.Prelude.{◌≡◌, []};
 
 use crate::open_sessions::OpenSessions;
 use mp_commands::{Options, Player, Prompted, RunFault, fault_of_talk, open_keeper};
-use mp_text::LineReader;
 use mp_streams::{Out, ReadSource, Source, WriteSink};
+use mp_text::LineReader;
 use std::io;
 use std::rt::Runtime;
 use std::sync::Wait;

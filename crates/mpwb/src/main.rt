@@ -14,7 +14,7 @@ use crate::live_play::run_live_play;
 use crate::running::run_on;
 use crate::telling::{fault_of_telling, tell_fault};
 use mp_commands::{Options, RunFault, exit_status};
-use mp_request::{Asked, Command, Request, read_words, tell};
+use mp_request::{Command, CommandLine, Request, read_words, tell};
 use mp_streams::{ReadSource, Source};
 use std::env;
 use std::fs::File;
@@ -62,8 +62,8 @@ fn answer_words<R: Runtime + Threads + Wait + Sync + AllocGlobal>(
     is_typed: bool,
 ) -> Result<u8, RunFault> {
     match read_words(rt.alloc(), words) {
-        Ok(Asked::Explain(word)) => explain(rt, word),
-        Ok(Asked::Run(request)) => Ok(run_told(files, rt, &request, is_typed)),
+        Ok(CommandLine::Explain(word)) => explain(rt, word),
+        Ok(CommandLine::Run(request)) => Ok(run_told(files, rt, &request, is_typed)),
         Err(error) => tell(rt, &error).map_err(fault_of_telling),
     }
 }

@@ -1,10 +1,10 @@
 //! The sessions of this program.
 use mp_commands::Sessions;
-use mp_desk::{DeskSize, MeetingFault, Met, meet};
+use mp_depend::Work;
+use mp_desk::{DeskOutcome, DeskSize, MeetingFault, meet};
 use mp_netlist::{Edit, EditError, Netlist};
 use mp_phase::{Crew, OpenGate};
 use mp_session::Session;
-use mp_depend::Work;
 use std::alloc::{AllocError, Global};
 use std::sync::Wait;
 use std::thread::Threads;
@@ -46,7 +46,7 @@ impl Sessions for OpenSessions {
         session: Session<OpenGate>,
         blocks: &[&[u8]],
         size: DeskSize,
-    ) -> Result<Met<Session<OpenGate>>, MeetingFault> {
+    ) -> Result<DeskOutcome<Session<OpenGate>>, MeetingFault> {
         meet(rt, alloc, session, blocks, size)
     }
 }

@@ -2,7 +2,11 @@
 ghost use Rattle.std.specs.Prelude.{◌≡◌, []};
 
 use crate::open_sessions::OpenSessions;
-use mp_commands::{AskedPicture, Charset, Desk, Drawing, DumpText, GraphText, MeasureLines, Options, PathLines, PictureText, Play, ReportLines, RunFault, TimeRange, VerilogText, View, Viewed, WaitLines, WaveLines, WhyLines, run_command};
+use mp_commands::{
+    AskedPicture, Charset, DeskCommand, Drawing, DumpText, GraphText, MeasureLines, Options,
+    PathLines, PictureText, Play, ReportLines, RunFault, TimeRange, VerilogText, View, Viewed,
+    WaitLines, WaveLines, WhyLines, run_command,
+};
 use mp_netlist::Name;
 use mp_request::{Command, PictureWords, Request};
 use mp_streams::{Out, Sink, Source, WriteSink};
@@ -68,7 +72,14 @@ fn run_named<R: Threads + Wait + Sync + AllocGlobal, S: Source, T: Sink>(
         }
         Command::Desk => {
             let sessions = OpenSessions;
-            run_command(rt, rt.alloc(), source, out, options, &Desk { sessions })
+            run_command(
+                rt,
+                rt.alloc(),
+                source,
+                out,
+                options,
+                &DeskCommand { sessions },
+            )
         }
         // its netlist is in a file, since its standard input has lines
         Command::LiveDesk { .. } => Err(RunFault::ReadFailed),

@@ -7,7 +7,7 @@ use Rattle.mp_netlist.specs.declared.driver.Driver.TheVariants.{Port}
 use Rattle.mp_netlist.specs.Circuit.{Circuit, IsCircuit, module_at}
 use Rattle.mp_netlist.specs.Drivers.{driver, is_port}
 use Rattle.mp_model.specs.Waves.{level}
-use Rattle.mp_kernel.specs.calendar.Calendars.{never}
+use Rattle.mp_kernel.specs.timers.TimerWheels.{never}
 use Rattle.mp_depend.specs.work.Revisions.{IsRevision, IsDrivenAlike}
 use Rattle.mp_active.specs.agreement.Sleeping.{AreSleeping}
 

@@ -5,7 +5,7 @@ use Rattle.mp_wave.specs.Waveform.{Waveform, IsWaveform, level_of}
 use Rattle.mp_wave.specs.Faults.{pair_at}
 use Rattle.mp_kernel.specs.automata.Codes.{bit}
 use Rattle.mp_kernel.specs.events.Adding.{listed}
-use Rattle.mp_kernel.specs.calendar.Calendars.{never, time_of, IsCalendar}
+use Rattle.mp_kernel.specs.timers.TimerWheels.{never, time_of, IsTimerWheel}
 use Rattle.mp_kernel.specs.declared.datapath.level_change.LevelChange.{LevelChange}
 use Rattle.mp_partition.specs.runs.Outcomes.{Outcome, wave_of}
 use Rattle.mp_active.specs.declared.compare.numbers.Numbers.{Numbers}
@@ -80,7 +80,7 @@ pub record IsShaped (c : Comparison) : Type 0 where
   pub next : length c.numbers.next.items ≡ length c.numbers.wires.items
   pub have_data : length c.numbers.have_data.items ≡ length c.sources.items
   pub asleep : length c.asleep.items ≡ length c.numbers.wires.items
-  pub times : length c.calendar.times.items ≡ length c.numbers.wires.items
+  pub times : length c.timers.times.items ≡ length c.numbers.wires.items
   pub places : length c.places.items ≡ length c.numbers.wires.items
   pub seen : length c.seen.items ≡ length c.numbers.wires.items
   pub few : length c.sources.items ≤ length c.numbers.wires.items
@@ -111,23 +111,23 @@ change_time run c x k = (pair_at (changes_at run c x) k).0 + delay_of c.numbers 
 
 -- the numbers that are listed for a time have an old change then
 abbrev pub ArePlaced : Outcome → ℕ → Comparison → Type 0
-ArePlaced run time c = (x : ℕ) → time_of c.calendar x ≡ time → place_at c x < length (changes_at run c x)
+ArePlaced run time c = (x : ℕ) → time_of c.timers x ≡ time → place_at c x < length (changes_at run c x)
 
 -- the levels before a change are those of the run, up to a time
 abbrev pub IsOldRun : (ℕ → ℕ → ℕ) → Outcome → ℕ → Type 0
 IsOldRun before run last = (w u : ℕ) → u ≤ last → before w u ≡ level_of (old_wave run w) u
 
--- after the unit t, when these numbers are taken out of the calendar: a number that is listed is listed for its first old change after t, and a
+-- after the unit t, when these numbers are taken out of the timer wheel: a number that is listed is listed for its first old change after t, and a
 -- number that is taken out for one at t or later
 pub record HasCursors (run : Outcome) (t : ℕ) (taken : List ℕ) (c : Comparison) : Type 0 where
   pub shape : IsShaped c
   pub form : (w : ℕ) → IsWaveform (old_wave run w)
-  pub calendar : IsCalendar t taken c.calendar
+  pub timers : IsTimerWheel t taken c.timers
   pub room : (x k : ℕ) → x < length c.numbers.wires.items → k < length (changes_at run c x) → change_time run c x k < never
-  pub place : (x : ℕ) → time_of c.calendar x ≢ never → place_at c x < length (changes_at run c x)
-  pub time : (x : ℕ) → time_of c.calendar x ≢ never → time_of c.calendar x ≡ change_time run c x (place_at c x)
-  pub over : (x k : ℕ) → time_of c.calendar x ≢ never → k < place_at c x → change_time run c x k ≤ t
-  pub later : (x : ℕ) → time_of c.calendar x ≢ never → t < time_of c.calendar x + listed x taken
+  pub place : (x : ℕ) → time_of c.timers x ≢ never → place_at c x < length (changes_at run c x)
+  pub time : (x : ℕ) → time_of c.timers x ≢ never → time_of c.timers x ≡ change_time run c x (place_at c x)
+  pub over : (x k : ℕ) → time_of c.timers x ≢ never → k < place_at c x → change_time run c x k ≤ t
+  pub later : (x : ℕ) → time_of c.timers x ≢ never → t < time_of c.timers x + listed x taken
 
 -- no change in the new run was seen at a time or later
 abbrev pub AreUnseen : ℕ → Comparison → Type 0
@@ -135,7 +135,7 @@ AreUnseen time c = (x : ℕ) → seen_at c x < time
 
 -- the number is listed, or has no old change after t
 abbrev pub IsListed : Outcome → ℕ → Comparison → ℕ → Type 0
-IsListed run t c x = time_of c.calendar x ≡ never → (k : ℕ) → k < length (changes_at run c x) → change_time run c x k ≤ t
+IsListed run t c x = time_of c.timers x ≡ never → (k : ℕ) → k < length (changes_at run c x) → change_time run c x k ≤ t
 
 -- the numbers are listed of wires that follow their old waves, and those that are tracked in the next unit
 abbrev pub IsComplete : Outcome → ℕ → Comparison → Type 0

@@ -6,7 +6,7 @@ use Rattle.mp_netlist.specs.Circuit.{Circuit}
 use Rattle.mp_netlist.specs.Drivers.{driver}
 use Rattle.mp_partition.specs.runs.Marks.{is_marked}
 use Rattle.mp_depend.specs.work.Revisions.{IsDrivenAlike}
-use Rattle.mp_kernel.specs.calendar.Calendars.{never, time_of, IsCalendar}
+use Rattle.mp_kernel.specs.timers.TimerWheels.{never, time_of, IsTimerWheel}
 use Rattle.mp_active.specs.declared.compare.wire_source.WireSource.{WireSource}
 use Rattle.mp_active.specs.declared.compare.comparison.Comparison.{Comparison}
 use Rattle.mp_active.specs.compare.Comparing.{off, renewed, source_at, asleep_at, seen_at}
@@ -39,10 +39,10 @@ IsNeverOrZero source = (source.until ≡ never) ⊎ (source.until ≡ 0)
 -- nobody is known to read a number, and nothing is listed
 pub record IsUnread (c : Comparison) : Type 0 where
   pub asleep : length c.asleep.items ≡ length c.numbers.wires.items
-  pub times : length c.calendar.times.items ≡ length c.numbers.wires.items
+  pub times : length c.timers.times.items ≡ length c.numbers.wires.items
   pub places : length c.places.items ≡ length c.numbers.wires.items
   pub seen : length c.seen.items ≡ length c.numbers.wires.items
   pub none : (x : ℕ) → asleep_at c x ≡ 0
   pub unseen : (x : ℕ) → seen_at c x ≡ 0
-  pub free : (x : ℕ) → time_of c.calendar x ≡ never
-  pub calendar : (t : ℕ) → IsCalendar t [] c.calendar
+  pub free : (x : ℕ) → time_of c.timers x ≡ never
+  pub timers : (t : ℕ) → IsTimerWheel t [] c.timers

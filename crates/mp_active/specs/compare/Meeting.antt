@@ -3,7 +3,7 @@ use Rattle.std.specs.Prelude.{◌≡◌, ◌==◌, ℕ, ◌+◌, Bool, not, nat_
 use Rattle.std.specs.List.{count_by}
 use Rattle.mp_wave.specs.Faults.{pair_at}
 use Rattle.mp_kernel.specs.events.Adding.{listed}
-use Rattle.mp_kernel.specs.calendar.Calendars.{time_of, coming}
+use Rattle.mp_kernel.specs.timers.TimerWheels.{time_of, coming}
 use Rattle.mp_kernel.specs.declared.datapath.level_change.LevelChange.{LevelChange}
 use Rattle.mp_partition.specs.runs.Outcomes.{Outcome}
 use Rattle.mp_active.specs.compare.Comparing.{changes_at, place_at, seen_at, is_tracked, changes_of, AreUnseen}
@@ -15,7 +15,7 @@ old_level run c x = (pair_at (changes_at run c x) (place_at c x)).1
 
 -- a number is listed for a time
 abbrev pub is_due : Comparison → ℕ → ℕ → Bool
-is_due c x time = time_of c.calendar x == time
+is_due c x time = time_of c.timers x == time
 
 -- how often a number has another level among changes than the one that it comes to in the old run
 abbrev pub others_of : Outcome → Comparison → ℕ → List LevelChange → ℕ
@@ -41,4 +41,4 @@ is_old_alone c time x = is_due c x time && (not (seen_at c x == time) && is_trac
 -- the numbers that come up are met: those are gathered that weren't seen
 pub record HasMetOld (time : ℕ) (was is : Comparison) : Type 0 where
   pub kept : is ≡ record was { departing = is.departing }
-  pub departing : (x : ℕ) → listed x is.departing.items ≡ listed x was.departing.items + (if is_old_alone was time x then listed x (coming was.calendar) else 0)
+  pub departing : (x : ℕ) → listed x is.departing.items ≡ listed x was.departing.items + (if is_old_alone was time x then listed x (coming was.timers) else 0)

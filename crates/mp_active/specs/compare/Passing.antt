@@ -2,7 +2,7 @@
 use Rattle.std.specs.Prelude.{◌≡◌, ◌==◌, ℕ, ◌+◌, ◌-◌, Bool, true, false, not, ◌&&◌, ◌||◌, List, [], ◌∷◌, ◌++◌, All, slice_index_or, if◌then◌else◌}
 use Rattle.mp_kernel.specs.automata.Codes.{bit}
 use Rattle.mp_kernel.specs.events.Adding.{listed}
-use Rattle.mp_kernel.specs.calendar.Calendars.{time_of}
+use Rattle.mp_kernel.specs.timers.TimerWheels.{time_of}
 use Rattle.mp_kernel.specs.declared.datapath.level_change.LevelChange.{LevelChange}
 use Rattle.mp_partition.specs.runs.Outcomes.{Outcome}
 use Rattle.mp_active.specs.declared.compare.set_wires.SetWires.{SetWires}
@@ -40,6 +40,6 @@ pub record HasSet (run : Outcome) (time number : ℕ) (c : Comparison) (was is :
 -- a number that was taken out is listed again, or left out: others stay, and it is listed if its changes are needed
 pub record HasPassed (run : Outcome) (time number : ℕ) (was is : Comparison) : Type 0 where
   pub cursors : (rest : List ℕ) → HasCursors run time (number ∷ rest) was → HasCursors run time rest is
-  pub others : (x : ℕ) → (number == x) ≡ false → time_of is.calendar x ≡ time_of was.calendar x
+  pub others : (x : ℕ) → (number == x) ≡ false → time_of is.timers x ≡ time_of was.timers x
   pub places : (x : ℕ) → (number == x) ≡ false → place_at is x ≡ place_at was x
   pub listed : (is_following was number || is_tracked was number time) ≡ true → IsListed run time is number

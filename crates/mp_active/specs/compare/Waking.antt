@@ -5,7 +5,7 @@ use Rattle.mp_records.specs.declared.ports.Output.{Output}
 use Rattle.mp_records.specs.NamedWires.{is_wire}
 use Rattle.mp_records.specs.Outputs.{output_in}
 use Rattle.mp_kernel.specs.events.Adding.{listed}
-use Rattle.mp_kernel.specs.calendar.Calendars.{never}
+use Rattle.mp_kernel.specs.timers.TimerWheels.{never}
 use Rattle.mp_active.specs.declared.compare.wire_source.WireSource.{WireSource}
 use Rattle.mp_active.specs.declared.compare.comparison.Comparison.{Comparison}
 use Rattle.mp_active.specs.compare.Comparing.{asleep_at, source_at}

@@ -3,7 +3,7 @@ use Rattle.std.specs.Prelude.{◌≡◌, ℕ, Bool, true, List, ◌==◌}
 use Rattle.mp_netlist.specs.Circuit.{Circuit, IsCircuit}
 use Rattle.mp_netlist.specs.Drivers.{driver}
 use Rattle.mp_partition.specs.runs.Marks.{is_marked}
-use Rattle.mp_partition.specs.regions.Regions.{home_of, region}
+use Rattle.mp_partition.specs.regions.Regions.{partition_of, region}
 use Rattle.mp_simulation.specs.declared.units.netlist_simulation.NetlistSimulation.{NetlistSimulation}
 use Rattle.mp_simulation.specs.units.NetlistSimulations.{IsSimulated}
 use Rattle.mp_active.specs.excerpt.Excerpts.{is_followed, excerpt, ArePortsOn}
@@ -22,5 +22,5 @@ StartsAreSimulated = (n : Circuit) → IsCircuit n → (active on other : ℕ �
 -- a part that hears each wire that a module elsewhere drives is the excerpt of its modules in which all wires are on
 abbrev pub RegionsAreExcerpts : Type 0
 RegionsAreExcerpts = (n : Circuit) (homes : List ℕ) (part : ℕ) (heard : List Bool) →
-    ((w : ℕ) → is_marked heard w ≡ is_followed (λ m. home_of homes m == part) (driver n w)) →
-    region n homes part heard ≡ excerpt n (λ m. home_of homes m == part) (λ w. true)
+    ((w : ℕ) → is_marked heard w ≡ is_followed (λ m. partition_of homes m == part) (driver n w)) →
+    region n homes part heard ≡ excerpt n (λ m. partition_of homes m == part) (λ w. true)

@@ -1,7 +1,7 @@
 //! A change of a netlist.
 
-use mp_partition::Run;
 use mp_netlist::Netlist;
+use mp_partition::Run;
 
 /// A netlist with its run, and the netlist that has become of it, with its least delay.
 #[derive(Clone, Copy)]

@@ -3,10 +3,10 @@ ghost use Rattle.std.specs.Prelude.{◌≡◌};
 
 use crate::compare::numbers::Numbers;
 use crate::compare::wire_source::WireSource;
-use mp_kernel::{Calendar, EventSlot};
+use mp_kernel::{EventSlot, TimerWheel};
 
 /// Where the levels of each wire come from; of each number, how many inputs of modules that sleep read it; and the old changes. A number is
-/// tracked that may have another level than in the old run, and that a module reads that sleeps: it is listed in the calendar for its old
+/// tracked that may have another level than in the old run, and that a module reads that sleeps: it is listed in the timer wheel for its old
 /// changes. A wire that follows its old wave is listed, too. Of a number that is listed the place of its next change in the old wave is known,
 /// and of each number when a change of it in the new run was seen last. The numbers that depart in the present unit are gathered.
 #[derive(Drop)]
@@ -14,7 +14,7 @@ pub struct Comparison {
     pub numbers: Numbers,
     pub sources: Vec<WireSource>,
     pub asleep: Vec<u32>,
-    pub calendar: Calendar,
+    pub timers: TimerWheel,
     pub present: EventSlot,
     pub places: Vec<u32>,
     pub seen: Vec<u32>,

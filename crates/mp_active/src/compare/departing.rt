@@ -4,15 +4,15 @@ ghost use Rattle.std.specs.Prelude.{◌≡◌};
 use crate::compare::comparison::Comparison;
 use crate::compare::new_changes::NewChanges;
 use crate::compare::old_run::old_changes;
-use mp_kernel::calendar::laws::comes_up;
 use mp_kernel::LevelChange;
+use mp_kernel::timers::laws::comes_up;
 use mp_partition::Run;
 use std::alloc::AllocError;
 
 impl Comparison {
     ghost use Rattle.std.specs.Prelude.{◌≡◌, ℕ, ◌+◌, ◌-◌, ◌<◌, ◌^◌, ◌∷◌, ◌++◌, [], OnOk, length, nat_lt, ◌&&◌, if◌then◌else◌};
     ghost use Rattle.mp_kernel.specs.automata.Codes.{bit};
-    ghost use Rattle.mp_kernel.specs.calendar.Calendars.{coming};
+    ghost use Rattle.mp_kernel.specs.timers.TimerWheels.{coming};
     ghost use Rattle.mp_kernel.specs.events.Adding.{listed};
     ghost use Rattle.mp_partition.specs.runs.Outcomes.{Outcome};
     ghost use Rattle.mp_active.specs.compare.Comparing.{IsShaped, ArePlaced, HasCursors, AreUnseen, AreNumbers, AreOfNumbers, AreWithin, bits_of, levels_of, departs, asleep_at, changes_at, place_at, IsOldRun, IsComplete, AgreeFrom, AgreeAsleep, AreNewChanges, HaveLowBits};
@@ -100,7 +100,7 @@ impl Comparison {
             return Ok(());
         }
         self.seen[number as usize] = time;
-        if self.calendar.time_of(number) != time {
+        if self.timers.time_of(number) != time {
             self.departing.push(number)?;
         }
         Ok(())
@@ -138,7 +138,7 @@ impl Comparison {
         }
         let x = level.number as usize;
         self.seen[x] = time;
-        if self.calendar.time_of(level.number) != time || self.old_level(run, x) != level.level {
+        if self.timers.time_of(level.number) != time || self.old_level(run, x) != level.level {
             self.departing.push(level.number)?;
         }
         Ok(())
@@ -161,11 +161,11 @@ impl Comparison {
     fn meet_old(&mut self, time: u32) -> Result<(), AllocError>
         requires shape { IsShaped self.old }
         requires time { time < 2 ^ 32 - 1 }
-        requires within { AreNumbers self.old.numbers (coming self.old.calendar) }
+        requires within { AreNumbers self.old.numbers (coming self.old.timers) }
         ensures { OnOk result (HasMetOld time self.old self.new) }
     {
-        for place in 0..self.calendar.coming().len() {
-            let number = self.calendar.coming()[place];
+        for place in 0..self.timers.coming().len() {
+            let number = self.timers.coming()[place];
             self.meet_coming(number, time)?;
         }
         Ok(())
@@ -179,7 +179,7 @@ impl Comparison {
         ensures kept { OnOk result (self.new ≡ record self.old { departing = self.new.departing }) }
         ensures departing { OnOk result (self.new.departing.items ≡ (if is_old_alone self.old time number then self.old.departing.items ++ number ∷ [] else self.old.departing.items)) }
     {
-        if self.calendar.time_of(number) == time
+        if self.timers.time_of(number) == time
             && self.seen[number as usize] != time
             && self.is_tracked(number, time)
         {

@@ -8,13 +8,13 @@ use crate::compare::comparison::Comparison;
 use crate::compare::first_sources::{first_sources, is_active};
 use crate::compare::numbers::Numbers;
 use crate::compare::wire_source::WireSource;
-use mp_kernel::{Calendar, EventSlot, NEVER};
-use mp_partition::Run;
+use mp_kernel::{EventSlot, NEVER, TimerWheel};
 use mp_modules::MOST_INPUTS;
 use mp_netlist::{ModuleId, Netlist};
+use mp_partition::Run;
 use std::alloc::{AllocError, Global};
 
-/// How many units the calendar has at most.
+/// How many units the timer wheel has at most.
 const SPAN: u32 = 1024;
 
 impl Comparison {
@@ -150,7 +150,7 @@ impl Comparison {
         requires wires { wires ≡ length self.old.sources.items }
         requires cursors { HasCursors run.now 0 [] self.old }
         requires linked { AreLinked self.old.numbers }
-        ensures kept { OnOk result (self.new ≡ record self.old { calendar = self.new.calendar; places = self.new.places }) }
+        ensures kept { OnOk result (self.new ≡ record self.old { timers = self.new.timers; places = self.new.places }) }
         ensures cursors { OnOk result (HasCursors run.now 0 [] self.new) }
         ensures complete { OnOk result (((w : ℕ) → w < length self.old.sources.items → IsNeverOrZero (source_at self.old w)) → IsComplete run.now 0 self.new) }
     {
@@ -164,7 +164,7 @@ impl Comparison {
         requires within { wire < length self.old.sources.items }
         requires cursors { HasCursors run.now 0 [] self.old }
         requires linked { AreLinked self.old.numbers }
-        ensures kept { OnOk result (self.new ≡ record self.old { calendar = self.new.calendar; places = self.new.places }) }
+        ensures kept { OnOk result (self.new ≡ record self.old { timers = self.new.timers; places = self.new.places }) }
         ensures cursors { OnOk result (HasCursors run.now 0 [] self.new) }
         ensures listed { OnOk result (IsNeverOrZero (source_at self.old wire) → (x : ℕ) → x < length self.old.numbers.wires.items → wire_of self.old.numbers x ≡ wire →
             (is_following self.old x || is_tracked self.old x 1) ≡ true → IsListed run.now 0 self.new x) }
@@ -199,7 +199,7 @@ fn unread(
         numbers,
         sources,
         asleep: vec![in alloc; 0u32; count]?,
-        calendar: Calendar::new(alloc, count, span)?,
+        timers: TimerWheel::new(alloc, count, span)?,
         present: EventSlot::new(alloc),
         places: vec![in alloc; 0u32; count]?,
         seen: vec![in alloc; 0u32; count]?,

@@ -8,8 +8,8 @@ use crate::compare::comparison::Comparison;
 use crate::compare::nearby::find_near;
 use crate::compare::old_run::old_changes;
 use mp_kernel::NEVER;
-use mp_partition::Run;
 use mp_netlist::WireId;
+use mp_partition::Run;
 use mp_wave::Wave;
 use std::alloc::AllocError;
 
@@ -23,12 +23,12 @@ impl Comparison {
         requires within { number < length self.old.numbers.wires.items }
         requires time { now < 2 ^ 32 - 1 }
         requires cursors { HasCursors run.now now [] self.old }
-        ensures kept { OnOk result (self.new ≡ record self.old { calendar = self.new.calendar; places = self.new.places }) }
+        ensures kept { OnOk result (self.new ≡ record self.old { timers = self.new.timers; places = self.new.places }) }
         ensures cursors { OnOk result (HasCursors run.now now [] self.new) }
         ensures listed { OnOk result (IsListed run.now now self.new number) }
         ensures others { OnOk result ((x : ℕ) → IsListed run.now now self.old x → IsListed run.now now self.new x) }
     {
-        if self.calendar.time_of(number) != NEVER {
+        if self.timers.time_of(number) != NEVER {
             return Ok(());
         }
         let wire = self.numbers.wire_of(number);
@@ -40,8 +40,8 @@ impl Comparison {
             return Ok(());
         }
         self.places[number as usize] = place as u32;
-        self.calendar
-            .list(number, changes.time_at(place) + delay, now)?;
+        self.timers
+            .arm(number, changes.time_at(place) + delay, now)?;
         Ok(())
     }
 
@@ -51,7 +51,7 @@ impl Comparison {
         requires time { now < 2 ^ 32 - 1 }
         requires cursors { HasCursors run.now now [] self.old }
         requires linked { AreLinked self.old.numbers }
-        ensures kept { OnOk result (self.new ≡ record self.old { calendar = self.new.calendar; places = self.new.places }) }
+        ensures kept { OnOk result (self.new ≡ record self.old { timers = self.new.timers; places = self.new.places }) }
         ensures cursors { OnOk result (HasCursors run.now now [] self.new) }
         ensures listed { OnOk result ((x : ℕ) → x < length self.old.numbers.wires.items → wire_of self.old.numbers x ≡ wire → 0 < asleep_at self.old x → IsListed run.now now self.new x) }
         ensures others { OnOk result ((x : ℕ) → IsListed run.now now self.old x → IsListed run.now now self.new x) }

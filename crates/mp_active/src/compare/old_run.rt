@@ -3,8 +3,8 @@ ghost use Rattle.std.specs.Prelude.{◌≡◌};
 ghost use Rattle.mp_wave.specs.WaveChanges.{changes_in};
 ghost use Rattle.mp_active.specs.compare.Comparing.{old_changes};
 
-use mp_partition::Run;
 use mp_netlist::WireId;
+use mp_partition::Run;
 use mp_wave::WaveChanges;
 
 /// All changes that a wire had in the old run.

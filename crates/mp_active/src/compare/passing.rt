@@ -1,17 +1,17 @@
-//! The calendar of old changes goes on.
+//! The timer wheel of old changes goes on.
 ghost use Rattle.std.specs.Prelude.{◌≡◌};
 
 use crate::compare::comparison::Comparison;
 use crate::compare::old_run::old_changes;
 use crate::compare::set_wires::SetWires;
-use mp_kernel::calendar::laws::comes_up;
 use mp_kernel::LevelChange;
+use mp_kernel::timers::laws::comes_up;
 use mp_partition::Run;
 use std::alloc::AllocError;
 
 impl Comparison {
     ghost use Rattle.std.specs.Prelude.{◌≡◌, ◌==◌, ℕ, ◌+◌, ◌-◌, ◌<◌, ◌^◌, ◌∷◌, [], List, OnOk, length, true, ◌||◌};
-    ghost use Rattle.mp_kernel.specs.calendar.Calendars.{coming, IsCalendar};
+    ghost use Rattle.mp_kernel.specs.timers.TimerWheels.{coming, IsTimerWheel};
     ghost use Rattle.mp_partition.specs.runs.Outcomes.{Outcome};
     ghost use Rattle.mp_active.specs.compare.Comparing.{IsShaped, HasCursors, IsOldRun, IsComplete, ArePlaced, is_following, is_tracked, place_at};
     ghost use Rattle.mp_active.specs.compare.Meeting.{is_due};
@@ -23,7 +23,7 @@ impl Comparison {
         requires some { 0 < time }
         requires time { time < 2 ^ 32 - 1 }
         requires cursors { HasCursors run.now (time - 1) [] self.old }
-        ensures kept { OnOk result (self.new ≡ record self.old { calendar = self.new.calendar; present = self.new.present; places = self.new.places }) }
+        ensures kept { OnOk result (self.new ≡ record self.old { timers = self.new.timers; present = self.new.present; places = self.new.places }) }
         ensures cursors { OnOk result (HasCursors run.now time [] self.new) }
         ensures complete { OnOk result (IsComplete run.now (time - 1) self.old → IsComplete run.now time self.new) }
         ensures set { OnOk result ((before : ℕ → ℕ → ℕ) → IsOldRun before run.now time → IsComplete run.now (time - 1) self.old → AreSet before time self.old set.old set.new) }
@@ -48,12 +48,12 @@ impl Comparison {
         requires time { time < 2 ^ 32 - 1 }
         requires within { number < length self.old.numbers.wires.items }
         requires cursors { (rest : List ℕ) × HasCursors run.now time (number ∷ rest) self.old }
-        ensures kept { OnOk result (self.new ≡ record self.old { calendar = self.new.calendar; places = self.new.places }) }
+        ensures kept { OnOk result (self.new ≡ record self.old { timers = self.new.timers; places = self.new.places }) }
         ensures passed { OnOk result (HasPassed run.now time number self.old self.new) }
         ensures set { OnOk result (HasSet run.now time number self.old set.old set.new) }
     {
-        if self.calendar.time_of(number) > time {
-            self.calendar.put_off(number, time)?;
+        if self.timers.time_of(number) > time {
+            self.timers.rearm(number, time)?;
             return Ok(());
         }
         self.set_wire(run, number, time, set)?;
@@ -61,7 +61,7 @@ impl Comparison {
             self.list_next(run, number, time)?;
             return Ok(());
         }
-        self.calendar.leave_out(number);
+        self.timers.cancel(number);
         Ok(())
     }
 
@@ -113,19 +113,19 @@ impl Comparison {
         requires within { number < length self.old.numbers.wires.items }
         requires due { is_due self.old number time ≡ true }
         requires cursors { (rest : List ℕ) × HasCursors run.now time (number ∷ rest) self.old }
-        ensures kept { OnOk result (self.new ≡ record self.old { calendar = self.new.calendar; places = self.new.places }) }
+        ensures kept { OnOk result (self.new ≡ record self.old { timers = self.new.timers; places = self.new.places }) }
         ensures passed { OnOk result (HasPassed run.now time number self.old self.new) }
     {
         let changes = old_changes(run, self.numbers.wire_of(number));
         let delay = self.numbers.delay_of(number);
         let place = self.place_of(number) + 1;
         if place >= changes.len() {
-            self.calendar.leave_out(number);
+            self.timers.cancel(number);
             return Ok(());
         }
         self.places[number as usize] = place as u32;
-        self.calendar
-            .list(number, changes.time_at(place) + delay, time)?;
+        self.timers
+            .arm(number, changes.time_at(place) + delay, time)?;
         Ok(())
     }
 
@@ -139,15 +139,15 @@ impl Comparison {
         self.places[number as usize] as usize
     }
 
-    /// The numbers are taken out of the calendar that come up in the next unit.
+    /// The numbers are taken out of the timer wheel that come up in the next unit.
     #[inline(always)]
     fn turn(&mut self)
         requires { (run : Outcome) × (t : ℕ) × HasCursors run t [] self.old }
-        ensures kept { self.new ≡ record self.old { calendar = self.new.calendar; present = self.new.present } }
-        ensures present { self.new.present ≡ coming self.old.calendar }
-        ensures times { self.new.calendar.times.items ≡ self.old.calendar.times.items }
-        ensures calendar { (t : ℕ) → IsCalendar t [] self.old.calendar → IsCalendar (t + 1) (coming self.old.calendar) self.new.calendar }
+        ensures kept { self.new ≡ record self.old { timers = self.new.timers; present = self.new.present } }
+        ensures present { self.new.present ≡ coming self.old.timers }
+        ensures times { self.new.timers.times.items ≡ self.old.timers.times.items }
+        ensures timers { (t : ℕ) → IsTimerWheel t [] self.old.timers → IsTimerWheel (t + 1) (coming self.old.timers) self.new.timers }
     {
-        self.calendar.turn(&mut self.present);
+        self.timers.turn(&mut self.present);
     }
 }

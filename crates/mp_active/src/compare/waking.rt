@@ -3,8 +3,8 @@ ghost use Rattle.std.specs.Prelude.{◌≡◌};
 
 use crate::compare::comparison::Comparison;
 use mp_kernel::NEVER;
-use mp_partition::Run;
 use mp_netlist::Output;
+use mp_partition::Run;
 use std::alloc::AllocError;
 
 impl Comparison {
@@ -19,7 +19,7 @@ impl Comparison {
         requires within { wire < length self.old.sources.items }
         requires time { now < 2 ^ 32 - 1 }
         requires cursors { HasCursors run.now now [] self.old }
-        ensures kept { OnOk result (self.new ≡ record self.old { sources = self.new.sources; calendar = self.new.calendar; places = self.new.places }) }
+        ensures kept { OnOk result (self.new ≡ record self.old { sources = self.new.sources; timers = self.new.timers; places = self.new.places }) }
         ensures cursors { OnOk result (HasCursors run.now now [] self.new) }
         ensures complete { OnOk result (IsComplete run.now now self.old → IsComplete run.now now self.new) }
         ensures sources { OnOk result ((w : ℕ) → source_at self.new w ≡ (if w == wire then turned_on (source_at self.old w) else source_at self.old w)) }
@@ -45,7 +45,7 @@ impl Comparison {
         requires linked { AreLinked self.old.numbers }
         requires counted { AreReadAsleep (numbers_in inputs.now) self.old }
         requires within { AreSourcesOf outputs.now self.old }
-        ensures kept { OnOk result (self.new ≡ record self.old { sources = self.new.sources; asleep = self.new.asleep; calendar = self.new.calendar; places = self.new.places }) }
+        ensures kept { OnOk result (self.new ≡ record self.old { sources = self.new.sources; asleep = self.new.asleep; timers = self.new.timers; places = self.new.places }) }
         ensures cursors { OnOk result (HasCursors run.now now [] self.new) }
         ensures complete { OnOk result (IsComplete run.now now self.old → IsComplete run.now now self.new) }
         ensures asleep { OnOk result ((x : ℕ) → asleep_at self.new x + listed x (numbers_in inputs.now) ≡ asleep_at self.old x) }
@@ -72,7 +72,7 @@ impl Comparison {
         requires within { AreSourcesOf outputs.now self.old }
         requires apart { HaveOwnWires outputs.now }
         requires own { HaveOwnLevels outputs.now self.old }
-        ensures kept { OnOk result (self.new ≡ record self.old { sources = self.new.sources; asleep = self.new.asleep; calendar = self.new.calendar; places = self.new.places }) }
+        ensures kept { OnOk result (self.new ≡ record self.old { sources = self.new.sources; asleep = self.new.asleep; timers = self.new.timers; places = self.new.places }) }
         ensures cursors { OnOk result (HasCursors run.now (time - 1) [] self.new) }
         ensures complete { OnOk result (IsComplete run.now (time - 1) self.old → IsComplete run.now (time - 1) self.new) }
         ensures asleep { OnOk result ((x : ℕ) → asleep_at self.new x ≡ asleep_at self.old x + listed x (numbers_in inputs.now)) }
@@ -122,7 +122,7 @@ impl Comparison {
         requires cursors { HasCursors run.now (time - 1) [] self.old }
         requires few { (x : ℕ) → asleep_at self.old x + listed x (numbers_in inputs.now) < 2 ^ 32 }
         requires read { All (λ x. x < length self.old.numbers.wires.items) (numbers_in inputs.now) }
-        ensures kept { OnOk result (self.new ≡ record self.old { asleep = self.new.asleep; calendar = self.new.calendar; places = self.new.places }) }
+        ensures kept { OnOk result (self.new ≡ record self.old { asleep = self.new.asleep; timers = self.new.timers; places = self.new.places }) }
         ensures cursors { OnOk result (HasCursors run.now (time - 1) [] self.new) }
         ensures complete { OnOk result (IsComplete run.now (time - 1) self.old → IsComplete run.now (time - 1) self.new) }
         ensures asleep { OnOk result ((x : ℕ) → asleep_at self.new x ≡ asleep_at self.old x + listed x (numbers_in inputs.now)) }
@@ -144,7 +144,7 @@ impl Comparison {
         requires cursors { HasCursors run.now (time - 1) [] self.old }
         requires few { (x : ℕ) → asleep_at self.old x + listed x (number_in input []) < 2 ^ 32 }
         requires read { All (λ x. x < length self.old.numbers.wires.items) (number_in input []) }
-        ensures kept { OnOk result (self.new ≡ record self.old { asleep = self.new.asleep; calendar = self.new.calendar; places = self.new.places }) }
+        ensures kept { OnOk result (self.new ≡ record self.old { asleep = self.new.asleep; timers = self.new.timers; places = self.new.places }) }
         ensures cursors { OnOk result (HasCursors run.now (time - 1) [] self.new) }
         ensures complete { OnOk result (IsComplete run.now (time - 1) self.old → IsComplete run.now (time - 1) self.new) }
         ensures asleep { OnOk result ((x : ℕ) → asleep_at self.new x ≡ asleep_at self.old x + listed x (number_in input [])) }
@@ -178,7 +178,7 @@ impl Comparison {
         requires cursors { HasCursors run.now now [] self.old }
         requires linked { AreLinked self.old.numbers }
         requires within { AreSourcesOf outputs.now self.old }
-        ensures kept { OnOk result (self.new ≡ record self.old { sources = self.new.sources; calendar = self.new.calendar; places = self.new.places }) }
+        ensures kept { OnOk result (self.new ≡ record self.old { sources = self.new.sources; timers = self.new.timers; places = self.new.places }) }
         ensures cursors { OnOk result (HasCursors run.now now [] self.new) }
         ensures complete { OnOk result (IsComplete run.now now self.old → IsComplete run.now now self.new) }
         ensures sources { OnOk result ((w : ℕ) → source_at self.new w ≡ woken outputs.now w (source_at self.old w)) }
@@ -194,7 +194,7 @@ impl Comparison {
         requires cursors { HasCursors run.now now [] self.old }
         requires linked { AreLinked self.old.numbers }
         requires within { IsSourceOf self.old output }
-        ensures kept { OnOk result (self.new ≡ record self.old { sources = self.new.sources; calendar = self.new.calendar; places = self.new.places }) }
+        ensures kept { OnOk result (self.new ≡ record self.old { sources = self.new.sources; timers = self.new.timers; places = self.new.places }) }
         ensures cursors { OnOk result (HasCursors run.now now [] self.new) }
         ensures complete { OnOk result (IsComplete run.now now self.old → IsComplete run.now now self.new) }
         ensures sources { OnOk result ((w : ℕ) → source_at self.new w ≡ woken (output ∷ []) w (source_at self.old w)) }
@@ -215,7 +215,7 @@ impl Comparison {
         requires within { AreSourcesOf outputs.now self.old }
         requires apart { HaveOwnWires outputs.now }
         requires own { HaveOwnLevels outputs.now self.old }
-        ensures kept { OnOk result (self.new ≡ record self.old { sources = self.new.sources; calendar = self.new.calendar; places = self.new.places }) }
+        ensures kept { OnOk result (self.new ≡ record self.old { sources = self.new.sources; timers = self.new.timers; places = self.new.places }) }
         ensures cursors { OnOk result (HasCursors run.now (time - 1) [] self.new) }
         ensures complete { OnOk result (IsComplete run.now (time - 1) self.old → IsComplete run.now (time - 1) self.new) }
         ensures sources { OnOk result ((w : ℕ) → source_at self.new w ≡ slept outputs.now time w (source_at self.old w)) }
@@ -232,7 +232,7 @@ impl Comparison {
         requires cursors { HasCursors run.now (time - 1) [] self.old }
         requires within { IsSourceOf self.old output }
         requires own { HasOwnLevels self.old output }
-        ensures kept { OnOk result (self.new ≡ record self.old { sources = self.new.sources; calendar = self.new.calendar; places = self.new.places }) }
+        ensures kept { OnOk result (self.new ≡ record self.old { sources = self.new.sources; timers = self.new.timers; places = self.new.places }) }
         ensures cursors { OnOk result (HasCursors run.now (time - 1) [] self.new) }
         ensures complete { OnOk result (IsComplete run.now (time - 1) self.old → IsComplete run.now (time - 1) self.new) }
         ensures sources { OnOk result ((w : ℕ) → source_at self.new w ≡ slept (output ∷ []) time w (source_at self.old w)) }

@@ -7,8 +7,8 @@ ghost use Rattle.mp_simulation.specs.bits.Simulators.{slot_at};
 ghost use Rattle.mp_simulation.specs.units.DataWheels.{data_slot};
 ghost use Rattle.mp_active.specs.steps.Taking.{is_gone, staying, staying_changes, gone_changes, in_slot, in_level_slot, taken_toggle, taken_change, taken_in, HasTaken, HasTakenToggles, HasTakenLevels};
 
-use mp_kernel::{EventSlot, EventWheel, LevelChange, LevelSlot, LevelWheel, NEVER};
 use crate::compare::WireSource;
+use mp_kernel::{EventSlot, EventWheel, LevelChange, LevelSlot, LevelWheel, NEVER};
 use mp_simulation::{NetlistSimulation, StimulusChange};
 use std::alloc::AllocError;
 

@@ -10,13 +10,16 @@ use crate::answers::edit_answers::put_edits;
 use crate::answers::short_replies::{put_refused, put_unread};
 use crate::answers::snapshot::Snapshot;
 use crate::answers::work_lines::put_work_lines;
+use crate::views::{
+    AskedPicture, Drawing, DumpText, GraphText, MeasureLines, PathLines, PictureText, ReportLines,
+    USUAL_COLUMNS, VerilogText, View, WaitLines, WaveLines, WhyLines, put_wave_line,
+};
 use mp_netlist::{EditError, Name};
 use mp_picture::Charset;
+use mp_questions::TimeRange;
 use mp_streams::{Failed, Out, Sink, Text, WriteError};
 use mp_text::{LineError, Question, WireNames, put_netlist};
-use mp_questions::TimeRange;
 use mp_version::Version;
-use crate::views::{AskedPicture, Drawing, DumpText, GraphText, MeasureLines, PathLines, PictureText, ReportLines, USUAL_COLUMNS, VerilogText, View, WaitLines, WaveLines, WhyLines, put_wave_line};
 use std::alloc::Global;
 use std::thread::Threads;
 

@@ -4,8 +4,8 @@ ghost use Rattle.mp_commands.specs.answers.Names.{slice_get, Writes};
 ghost use Rattle.mp_version.specs.Limits.{max_edits};
 ghost use Rattle.mp_commands.specs.answers.EditAnswers.{edits_from, numbered_at};
 
-use mp_text::EditText;
 use mp_streams::{Failed, Out, Sink, Text};
+use mp_text::EditText;
 use mp_version::History;
 
 /// Writes a line `N EDIT` for each edit from this place on, the first place being 0.

@@ -1,11 +1,11 @@
 //! What questions are asked of.
 ghost use Rattle.std.specs.Prelude.{◌≡◌};
 
+use crate::views::Evaluated;
+use mp_depend::Work;
 use mp_netlist::Netlist;
 use mp_phase::Crew;
 use mp_version::Version;
-use crate::views::Evaluated;
-use mp_depend::Work;
 use std::marker::Model;
 
 /// A version of a netlist that is edited, what was evaluated for its last edit, and the crew that looks at them. Questions are asked of it.

@@ -4,9 +4,9 @@ ghost use Rattle.mp_commands.specs.answers.Names.{Writes};
 ghost use Rattle.mp_streams.specs.WriteErrors.{Writes as WritesAll};
 ghost use Rattle.mp_commands.specs.answers.WorkLines.{entry_line, work_text};
 
+use mp_depend::{Work, WorkEntry};
 use mp_netlist::Netlist;
 use mp_streams::{Failed, Out, Sink, Text, WriteError};
-use mp_depend::{Work, WorkEntry};
 
 /// Writes a line for each entry of work, `MODULE FROM TO`, as it comes. An entry of a module that doesn't stand has none.
 #[tactic(auto, using(crate::proofs::lemmas::answers::EditAnswerLemmas::lines_left_steps))]

@@ -3,13 +3,15 @@ ghost use Rattle.std.specs.Prelude.{◌≡◌};
 ghost use Rattle.mp_streams.specs.Outgoing.{Writes};
 ghost use Rattle.mp_commands.specs.live.SeatReplies.{asks_for_work, no_work_text, seat_reply};
 
-use crate::answers::{Snapshot, put_accepted, put_answer, put_coded, put_refused, put_too_long, put_unread};
+use crate::answers::{
+    Snapshot, put_accepted, put_answer, put_coded, put_refused, put_too_long, put_unread,
+};
+use mp_depend::Work;
 use mp_phase::Crew;
-use mp_seats::{Reply, Scribe};
+use mp_seats::{Reply, ReplyWriter};
 use mp_streams::{Failed, Out, Sink, WriteError};
 use mp_text::Question;
 use mp_version::Version;
-use mp_depend::Work;
 use std::alloc::Global;
 use std::sync::Wait;
 use std::thread::Threads;
@@ -22,7 +24,7 @@ pub struct SeatScribe {
     pub crew: Crew,
 }
 
-impl Scribe for SeatScribe {
+impl ReplyWriter for SeatScribe {
     ghost use Rattle.mp_commands.specs.live.SeatReplies.{seat_answer, seat_reply};
 
     ghost answer_text = { seat_answer };

@@ -4,9 +4,9 @@ ghost use Rattle.mp_exports.specs.verilog.Verilog.{verilog};
 
 use crate::views::evaluated::Evaluated;
 use crate::views::view::View;
+use mp_exports::put_verilog;
 use mp_netlist::Netlist;
 use mp_streams::{Out, Sink, WriteError};
-use mp_exports::put_verilog;
 use std::alloc::Global;
 use std::thread::Threads;
 

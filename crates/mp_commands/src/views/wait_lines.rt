@@ -5,8 +5,8 @@ ghost use Rattle.mp_questions.specs.timing.Waits.{waits};
 use crate::views::evaluated::Evaluated;
 use crate::views::view::View;
 use mp_netlist::Netlist;
-use mp_streams::{Out, Sink, WriteError};
 use mp_questions::put_waits;
+use mp_streams::{Out, Sink, WriteError};
 use std::alloc::Global;
 use std::thread::Threads;
 

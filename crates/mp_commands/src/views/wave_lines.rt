@@ -9,8 +9,8 @@ use crate::views::evaluated::Evaluated;
 use crate::views::view::View;
 use mp_netlist::{Netlist, WireId};
 use mp_streams::{Failed, Out, Sink, Text, WriteError};
+use mp_text::{ChangeTexts, ShortChanges, ToggleTexts};
 use mp_wave::WaveChanges;
-use mp_text::{Changes, ShortChanges, Toggles};
 use std::alloc::Global;
 use std::thread::Threads;
 
@@ -28,9 +28,9 @@ impl<'a> Text for WrittenChanges<'a> {
 
     fn put_to<S: Sink>(&self, out: &mut Out<S>) -> Result<(), Failed> {
         match self.changes {
-            WaveChanges::Toggles { level, times } => Toggles { level, times }.put_to(out),
+            WaveChanges::Toggles { level, times } => ToggleTexts { level, times }.put_to(out),
             WaveChanges::ShortPairs(changes) => ShortChanges { changes }.put_to(out),
-            WaveChanges::Pairs(changes) => Changes { changes }.put_to(out),
+            WaveChanges::Pairs(changes) => ChangeTexts { changes }.put_to(out),
         }
     }
 }

@@ -11,6 +11,6 @@ pub mod MergeLemmas
 pub mod PartLemmas
 pub mod LeftLemmas
 pub mod QueueLemmas
-pub mod StretchLemmas
+pub mod WorkSpanLemmas
 pub mod SortLemmas
 pub mod InputLemmas

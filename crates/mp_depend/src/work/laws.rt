@@ -2,7 +2,7 @@
 
 ghost use Rattle.mp_depend.specs.work.Revisions.{EditsRevise};
 ghost use Rattle.mp_depend.specs.work.Stays.{StatesStay, UnreachedStates, LevelsStay, UnreachedLevels, ApartByInputs};
-ghost use Rattle.mp_depend.specs.work.Stretches.{StretchesAreWork};
+ghost use Rattle.mp_depend.specs.work.WorkSpans.{WorkSpansAreWork};
 ghost use Rattle.mp_depend.specs.work.Work.{IsOnlyWork, WindowsCover, WindowsApart, WorksOnlyReached, WorksWhileDifferent, WorksThroughout, WorksOnce, AgreesOutside, LevelsAgreeOutside};
 
 /// An edit that isn't refused keeps the horizon, the numbers, and the width and initial level of each wire that stands before and after.
@@ -35,9 +35,9 @@ pub fn only_work()
     ensures { IsOnlyWork }
 {}
 
-/// Where stretches of time have all work in them, each part of it in just one, their entries are the work.
-pub fn stretches_are_work()
-    ensures { StretchesAreWork }
+/// Where work spans of time have all work in them, each part of it in just one, their entries are the work.
+pub fn work_spans_are_work()
+    ensures { WorkSpansAreWork }
 {}
 
 /// A touched module works in each window; no module works on anything twice.

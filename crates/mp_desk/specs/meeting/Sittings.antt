@@ -15,7 +15,7 @@ use Rattle.mp_desk.specs.meeting.Fates.{Fate, said, AreFates, Rise, AreAmong, ac
 
 -- the version seen last, how many lines were accepted and refused, the number that the last notice tells of (0 where there is
 -- none), whether memory was wanting, the designer's number, and the authors of all edits up to the last one that was accepted
-pub record Sitting : Type 0 where
+pub record DesignerTally : Type 0 where
   pub seen : Story
   pub accepted : ℕ
   pub refused : ℕ
@@ -30,37 +30,37 @@ told_of None = 0
 told_of (Some story) = length story.edits
 
 -- a designer who has just come
-abbrev pub begun : Working → Sitting
+abbrev pub begun : Working → DesignerTally
 begun me = record { seen = me.seen; accepted = 0; refused = 0; told = 0; wanting = false; number = me.number; signed = me.signed }
 
 -- this was seen, and nothing else changed
-abbrev pub with_seen : Sitting → Story → Sitting
+abbrev pub with_seen : DesignerTally → Story → DesignerTally
 with_seen old seen = record old { seen = seen }
 
 -- the edit was accepted after this story by these authors
-abbrev pub with_edit : Sitting → Story → List ℕ → Edit → Sitting
+abbrev pub with_edit : DesignerTally → Story → List ℕ → Edit → DesignerTally
 with_edit old before authors edit =
     record old { seen = one_more before edit; accepted = old.accepted + 1; told = length before.edits + 1; signed = authors ++ old.number ∷ [] }
 
 -- a line was refused, and this seen
-abbrev pub with_refusal : Sitting → Story → Sitting
+abbrev pub with_refusal : DesignerTally → Story → DesignerTally
 with_refusal old seen = record old { seen = seen; refused = old.refused + 1 }
 
-abbrev pub IsAccepted : Sitting → Sitting → Edit → Type 0
+abbrev pub IsAccepted : DesignerTally → DesignerTally → Edit → Type 0
 IsAccepted old new edit =
     (before : Story) × Extends before old.seen × (authors : List ℕ) × IsPrefix old.signed authors × (length authors ≡ length before.edits) × (new ≡ with_edit old before authors edit)
 
-abbrev pub IsRefused : Sitting → Sitting → Edit → Type 0
+abbrev pub IsRefused : DesignerTally → DesignerTally → Edit → Type 0
 IsRefused old new edit = (seen : Story) × Extends seen old.seen × (error : EditError) × (judged seen edit ≡ Err error) × (new ≡ with_refusal old seen)
 
 -- the step of a line that was read so
-abbrev pub Takes : Sitting → Sitting → Result Line LineError → Type 0
+abbrev pub Takes : DesignerTally → DesignerTally → Result Line LineError → Type 0
 Takes old new (Ok Empty) = new ≡ old
 Takes old new (Ok (Change edit)) = IsAccepted old new edit ⊎ IsRefused old new edit
 Takes old new read = new ≡ with_refusal old old.seen
 
 -- all lines were submitted: these are their fates in each story that extends the one seen
-pub record HasWorked (start : Story) (lines : List (List ℕ)) (sitting : Sitting) : Type 0 where
+pub record HasWorked (start : Story) (lines : List (List ℕ)) (sitting : DesignerTally) : Type 0 where
   pub fates : List Fate
   pub extends : Extends sitting.seen start
   pub judged : (now : Story) → Extends now sitting.seen → AreFates now (said lines) fates
@@ -70,7 +70,7 @@ pub record HasWorked (start : Story) (lines : List (List ℕ)) (sitting : Sittin
   pub among : AreAmong sitting.told fates
 
 -- each designer whose memory sufficed has worked through the block
-abbrev pub WorkedEach : List (Bor (List ℕ)) → List Sitting → List Sitting → Type 0
+abbrev pub WorkedEach : List (Bor (List ℕ)) → List DesignerTally → List DesignerTally → Type 0
 WorkedEach blocks old new =
-    (k : ℕ) (s : Sitting) (b : Bor (List ℕ)) → k < length old → (slice_index_or new k s).wanting ≡ false
+    (k : ℕ) (s : DesignerTally) (b : Bor (List ℕ)) → k < length old → (slice_index_or new k s).wanting ≡ false
     → HasWorked (slice_index_or old k s).seen (lines_of (slice_index_or blocks k b).now) (slice_index_or new k s)

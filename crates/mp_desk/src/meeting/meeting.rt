@@ -9,11 +9,11 @@ ghost use Rattle.mp_desk.specs.meeting.Meetings.{IsMeeting};
 ghost use Rattle.mp_desk.specs.meeting.Seats.{HasAdjourned};
 ghost use Rattle.mp_desk.specs.declared.meeting.meeting_fault.MeetingFault.TheVariants.{OutOfMemory};
 
+use crate::meeting::designer_tally::DesignerTally;
 use crate::meeting::meeting_fault::MeetingFault;
 use crate::meeting::race::race;
 use crate::meeting::reading::last_reads;
 use crate::meeting::seats::{finish_all, start_all};
-use crate::meeting::sitting::Sitting;
 use crate::meeting::tally::Tally;
 use crate::{Desk, DeskName, DeskParts, DeskSize, Staffed, Viewer};
 use mp_version::EditSession;
@@ -24,7 +24,7 @@ use std::thread::Threads;
 
 /// What a meeting leads to.
 #[derive(Drop)]
-pub struct Met<S: EditSession> {
+pub struct DeskOutcome<S: EditSession> {
     /// The session after all accepted edits.
     pub session: S,
     /// How the lines of each designer fared.
@@ -42,7 +42,7 @@ pub fn meet<S: EditSession + Send, R: Threads + Wait + Sync>(
     session: S,
     blocks: &[&[u8]],
     size: DeskSize,
-) -> Result<Met<S>, MeetingFault>
+) -> Result<DeskOutcome<S>, MeetingFault>
 where
     S::Prepared: Send,
     requires fresh { S.story session ≡ opening (S.story session).base }
@@ -61,7 +61,12 @@ fn at_desk<
     S: EditSession + Send,
     L: DeskName + Send + Sync,
     R: Threads + Wait + Sync + Send + Copy,
->(rt: R, alloc: Global, parts: DeskParts<S, R>, blocks: &[&[u8]]) -> Result<Met<S>, MeetingFault>
+>(
+    rt: R,
+    alloc: Global,
+    parts: DeskParts<S, R>,
+    blocks: &[&[u8]],
+) -> Result<DeskOutcome<S>, MeetingFault>
 where
     S::Prepared: Send,
     requires history { parts.book ≡ L.history }
@@ -87,7 +92,7 @@ fn run_at<S: EditSession + Send, L: DeskName + Send + Sync, R: Threads + Wait + 
     alloc: Global,
     staffed: Staffed<S, L, R>,
     blocks: &[&[u8]],
-) -> Result<Met<S>, AllocError>
+) -> Result<DeskOutcome<S>, AllocError>
 where
     S::Prepared: Send,
     requires count { vec_len staffed.designers ≡ length blocks.now }
@@ -114,9 +119,9 @@ pub fn adjourn<S: EditSession + Send, L: DeskName + Send + Sync, R: Threads + Wa
     rt: &R,
     alloc: Global,
     desk: Desk<S, L, R>,
-    sittings: Vec<Sitting<L>>,
+    sittings: Vec<DesignerTally<L>>,
     viewers: Vec<Viewer<L>>,
-) -> Result<Met<S>, AllocError>
+) -> Result<DeskOutcome<S>, AllocError>
 where
     S::Prepared: Send,
     requires all { desk.designers ≡ vec_len sittings }
@@ -127,7 +132,7 @@ where
     let numbers = last_reads(rt, alloc, sittings.as_slice(), viewers.as_mut_slice())?;
     let (designers, tallies) = finish_all(alloc, sittings)?;
     match desk.close(rt, designers, viewers.as_mut_slice()) {
-        Ok(session) => Ok(Met {
+        Ok(session) => Ok(DeskOutcome {
             session,
             tallies,
             numbers,

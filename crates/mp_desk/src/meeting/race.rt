@@ -3,8 +3,8 @@ ghost use Rattle.std.specs.Prelude.{◌≡◌, ◌<◌, length, vec_len, All};
 ghost use Rattle.mp_desk.specs.meeting.Sittings.{begun, WorkedEach};
 ghost use Rattle.mp_desk.specs.meeting.Seats.{working};
 
+use crate::meeting::designer_tally::DesignerTally;
 use crate::meeting::reading::read_often;
-use crate::meeting::sitting::Sitting;
 use crate::{Desk, DeskName, MAX_DESIGNERS, MAX_VIEWERS, Viewer};
 use mp_version::EditSession;
 use std::alloc::Global;
@@ -21,9 +21,9 @@ pub(crate) fn race<
     alloc: Global,
     desk: &Desk<S, L, R>,
     blocks: &[&[u8]],
-    sittings: Vec<Sitting<L>>,
+    sittings: Vec<DesignerTally<L>>,
     viewers: Vec<Viewer<L>>,
-) -> (Vec<Sitting<L>>, Vec<Viewer<L>>)
+) -> (Vec<DesignerTally<L>>, Vec<Viewer<L>>)
 where
     S::Prepared: Send,
     requires blocks { length blocks.now ≡ vec_len sittings }
@@ -34,7 +34,7 @@ where
 {
     join(
         rt,
-        || -> Vec<Sitting<L>>
+        || -> Vec<DesignerTally<L>>
             requires { (length blocks.now ≡ vec_len sittings) × All (λ s. s ≡ begun (working s)) sittings.items }
             ensures { (vec_len result ≡ vec_len sittings) × WorkedEach blocks.entry.now sittings.items result.items }
         { submitted(rt, alloc, desk, blocks, sittings) },
@@ -54,8 +54,8 @@ fn submitted<
     alloc: Global,
     desk: &Desk<S, L, R>,
     blocks: &[&[u8]],
-    sittings: Vec<Sitting<L>>,
-) -> Vec<Sitting<L>>
+    sittings: Vec<DesignerTally<L>>,
+) -> Vec<DesignerTally<L>>
 where
     S::Prepared: Send,
     requires blocks { length blocks.now ≡ vec_len sittings }
@@ -72,7 +72,7 @@ fn submit_all<
     S: EditSession + Send,
     L: DeskName + Send + Sync,
     R: Threads + Wait + Sync + Send + Drop,
->(rt: &R, alloc: Global, desk: &Desk<S, L, R>, blocks: &[&[u8]], sittings: &mut [Sitting<L>])
+>(rt: &R, alloc: Global, desk: &Desk<S, L, R>, blocks: &[&[u8]], sittings: &mut [DesignerTally<L>])
 where
     S::Prepared: Send,
     requires blocks { length blocks.now ≡ length sittings.old }
@@ -84,7 +84,7 @@ where
         rt,
         sittings,
         MAX_DESIGNERS,
-        &|place, sitting: &mut Sitting<L>|
+        &|place, sitting: &mut DesignerTally<L>|
             requires { (place < length blocks.now) × (sitting.now ≡ begun (working sitting.now)) }
         { sitting.work(rt, alloc, desk, blocks[place]) },
     );

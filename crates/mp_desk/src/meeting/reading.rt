@@ -2,7 +2,7 @@
 ghost use Rattle.std.specs.Prelude.{◌≡◌, ◌<◌, ◌≤◌, ℕ, length, vec_len, slice_index, slice_index_or, All, IfOk};
 ghost use Rattle.mp_desk.specs.Extending.{Extends};
 
-use crate::meeting::sitting::Sitting;
+use crate::meeting::designer_tally::DesignerTally;
 use crate::{DeskName, ReadError, Viewer};
 use std::alloc::{AllocError, Global};
 use std::sync::Wait;
@@ -21,7 +21,7 @@ pub(crate) fn read_often<L: DeskName>(viewer: &mut Viewer<L>) {
 pub(crate) fn last_reads<L: DeskName, R: Wait>(
     rt: &R,
     alloc: Global,
-    sittings: &[Sitting<L>],
+    sittings: &[DesignerTally<L>],
     viewers: &mut [Viewer<L>],
 ) -> Result<Vec<u32>, AllocError>
     ensures count { IfOk result (λ numbers. vec_len numbers ≡ length viewers.new) }
@@ -41,7 +41,7 @@ pub(crate) fn last_reads<L: DeskName, R: Wait>(
 /// What the viewer reads after it learnt of all that the designers were told.
 fn last_read<L: DeskName, R: Wait>(
     rt: &R,
-    sittings: &[Sitting<L>],
+    sittings: &[DesignerTally<L>],
     viewer: &mut Viewer<L>,
 ) -> Result<u32, AllocError>
     ensures last { IfOk result (λ n. n ≡ length viewer.new.last.edits) }

@@ -3,7 +3,7 @@ ghost use Rattle.std.specs.Prelude.{◌≡◌, false, map, All, IfOk};
 ghost use Rattle.mp_desk.specs.meeting.Sittings.{begun};
 ghost use Rattle.mp_desk.specs.meeting.Seats.{working, tally_of};
 
-use crate::meeting::sitting::Sitting;
+use crate::meeting::designer_tally::DesignerTally;
 use crate::meeting::tally::Tally;
 use crate::{Designer, DeskName};
 use std::alloc::{AllocError, Global};
@@ -12,13 +12,13 @@ use std::alloc::{AllocError, Global};
 pub fn start_all<L: DeskName>(
     alloc: Global,
     designers: Vec<Designer<L>>,
-) -> Result<Vec<Sitting<L>>, AllocError>
+) -> Result<Vec<DesignerTally<L>>, AllocError>
     requires { All (λ d. d.accepted ≡ 0) designers.items }
     ensures { IfOk result (λ v. v.items ≡ map begun designers.items) }
 {
     let mut sittings = Vec::new(alloc);
     for me in designers {
-        sittings.push(Sitting::new(me))?;
+        sittings.push(DesignerTally::new(me))?;
     }
     Ok(sittings)
 }
@@ -26,7 +26,7 @@ pub fn start_all<L: DeskName>(
 /// The designers again, and how their lines fared. `OutOfMemory` where memory was wanting for one of them, too.
 pub(crate) fn finish_all<L: DeskName>(
     alloc: Global,
-    sittings: Vec<Sitting<L>>,
+    sittings: Vec<DesignerTally<L>>,
 ) -> Result<(Vec<Designer<L>>, Vec<Tally>), AllocError>
     ensures designers { IfOk result (λ both. both.0.items ≡ map working sittings.items) }
     ensures tallies { IfOk result (λ both. both.1.items ≡ map tally_of sittings.items) }

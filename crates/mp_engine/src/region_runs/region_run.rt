@@ -2,7 +2,7 @@
 ghost use Rattle.std.specs.Prelude.{◌≡◌, ◌+◌, ◌-◌, ◌<◌, Bool, IfOk, OnOk, length, map, option_map};
 ghost use Rattle.std.specs.Arc.{arc_value};
 ghost use Rattle.mp_netlist.specs.Circuit.{IsCircuit, module_at};
-ghost use Rattle.mp_records.specs.declared.module_record.ModuleRecord.{ModuleRecord as Part};
+ghost use Rattle.mp_records.specs.declared.module_record.ModuleRecord.{ModuleRecord as LonePart};
 ghost use Rattle.mp_simulation.specs.units.NetlistSimulations.{IsSimulated};
 ghost use Rattle.mp_partition.specs.runs.Outcomes.{AreSlots};
 ghost use Rattle.mp_partition.specs.runs.Runs.{end_memory};
@@ -11,10 +11,10 @@ ghost use Rattle.mp_engine.specs.region_runs.StateHistories.{kept_of, HasHistory
 
 use crate::region_runs::gate::pass_gate;
 use crate::region_runs::state_history::StateHistory;
-use mp_partition::{Checkpoints, PartRun, Region};
 use mp_model::Waves;
 use mp_modules::Memory;
 use mp_netlist::{ModuleId, Netlist};
+use mp_partition::{Checkpoints, PartRun, Region};
 use mp_phase::Gate;
 use mp_simulation::{HeardChanges, NetlistSimulation, Stimuli, StimulusChange, begin, found_waves};
 use std::alloc::{AllocError, Global};
@@ -67,7 +67,7 @@ impl RegionRun {
     }
 
     /// All that is heard before a time, in place of what was heard before, which is over.
-    pub fn hear(&mut self, changes: Vec<StimulusChange>)
+    pub fn receive(&mut self, changes: Vec<StimulusChange>)
         ensures { (n : Circuit) (keeps : Bool) (is_heard : ℕ → Bool) (t until : ℕ) → IsUnderWay n keeps is_heard t (t + 1) self.old → AreTidings n is_heard t until changes.items →
             IsUnderWay n keeps is_heard t until self.new }
     {
@@ -262,7 +262,7 @@ fn shared_checkpoints(
     kept: Vec<Checkpoints>,
 ) -> Result<Vec<Option<Arc<Checkpoints, Global>>>, AllocError>
     requires { length kept.items ≡ length netlist.now.modules }
-    ensures { IfOk result (λ found. AreSlots (length netlist.now.modules) (λ m. option_map (λ (r : Part). kept_of kept.items m) (module_at netlist.now m)) (map (option_map arc_value) found.items)) }
+    ensures { IfOk result (λ found. AreSlots (length netlist.now.modules) (λ m. option_map (λ (r : LonePart). kept_of kept.items m) (module_at netlist.now m)) (map (option_map arc_value) found.items)) }
 {
     let mut left = kept;
     let mut found = Vec::new(alloc);
@@ -279,7 +279,7 @@ fn shared(
     id: ModuleId,
     checkpoints: Checkpoints,
 ) -> Result<Option<Arc<Checkpoints, Global>>, AllocError>
-    ensures { IfOk result (λ found. option_map arc_value found ≡ option_map (λ (r : Part). checkpoints) (module_at netlist.now id.0)) }
+    ensures { IfOk result (λ found. option_map arc_value found ≡ option_map (λ (r : LonePart). checkpoints) (module_at netlist.now id.0)) }
 {
     match netlist.module(id) {
         Some(_) => Ok(Some(Arc::new(alloc, checkpoints)?)),

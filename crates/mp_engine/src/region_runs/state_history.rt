@@ -6,9 +6,9 @@ ghost use Rattle.mp_partition.specs.runs.Marks.{is_marked, AreListed, AreAdded};
 ghost use Rattle.mp_engine.specs.region_runs.StateHistories.{ids_of, first_kept, AreFirst, AreKept};
 
 use crate::region_runs::marks::no_marks;
-use mp_partition::{Checkpoints, Region};
 use mp_modules::EventModule;
 use mp_netlist::{ModuleId, checkpoint_units};
+use mp_partition::{Checkpoints, Region};
 use mp_simulation::NetlistSimulation;
 use std::alloc::{AllocError, Global};
 

@@ -3,10 +3,10 @@ ghost use Rattle.std.specs.Prelude.{◌≡◌, IfOk, IfSome, OnOk};
 ghost use Rattle.mp_partition.specs.regions.Divisions.{IsCrossing, IsDivision};
 ghost use Rattle.mp_simulation.specs.run.WavesRuns.{IsWavesRun};
 
-use crate::{Looks, Pace, Plan};
+use crate::{ActivityProbe, LookPlan, Rate};
 use mp_netlist::Netlist;
-use mp_phase::Crew;
 use mp_partition::{Division, divide};
+use mp_phase::Crew;
 use mp_simulation::WavesRun;
 use std::alloc::{AllocError, Global};
 
@@ -17,7 +17,7 @@ const MOST_MODULES: u32 = 65_536;
 const MOST_UNITS: u32 = 1_048_576;
 
 /// It is looked at what happens when a 256th of the time is over, and up to a 64th, or up to an eighth where wires change more and more often.
-const PLAN: Plan = Plan {
+const PLAN: LookPlan = LookPlan {
     first: 256,
     sure: 3,
     most: 6,
@@ -41,10 +41,10 @@ pub(crate) fn can_pay(netlist: &Netlist, crew: &Crew) -> bool {
 }
 
 /// No looks so far, at a run of which time 0 is over.
-pub(crate) fn first_looks() -> Looks
+pub(crate) fn first_looks() -> ActivityProbe
     ensures { result.to ≡ 1 }
 {
-    Looks::new(PLAN)
+    ActivityProbe::new(PLAN)
 }
 
 /// A division of a netlist in which enough happens early, by looks at its run: each wire is to change a quarter as often, on average, as there are
@@ -55,7 +55,7 @@ pub(crate) fn busy_division(
     netlist: &Netlist,
     crew: &Crew,
     run: &mut WavesRun,
-    looks: &mut Looks,
+    looks: &mut ActivityProbe,
 ) -> Result<Option<Division>, AllocError>
     requires { IsWavesRun netlist.now looks.old.to run.old }
     ensures run { OnOk result (IsWavesRun netlist.now looks.new.to run.new) }
@@ -64,7 +64,7 @@ pub(crate) fn busy_division(
 {
     let horizon = netlist.horizon();
     let least = crew.least() as usize;
-    let all = Pace {
+    let all = Rate {
         count: (netlist.module_slots() as usize).saturating_mul(least / 4),
         units: horizon,
     };
@@ -78,7 +78,7 @@ pub(crate) fn busy_division(
     if !has_room(netlist, crew, &division) {
         return Ok(None);
     }
-    let window = Pace {
+    let window = Rate {
         count: least.saturating_mul(4) / crew.count().min(4).max(1) as usize,
         units: window_of(&division),
     };
@@ -99,8 +99,8 @@ fn has_room(netlist: &Netlist, crew: &Crew, division: &Division) -> bool {
 fn look_at(
     netlist: &Netlist,
     run: &mut WavesRun,
-    looks: &mut Looks,
-    pace: Pace,
+    looks: &mut ActivityProbe,
+    pace: Rate,
 ) -> Result<(), AllocError>
     requires { IsWavesRun netlist.now looks.old.to run.old }
     ensures { OnOk result (IsWavesRun netlist.now looks.new.to run.new) }

@@ -3,8 +3,8 @@ ghost use Rattle.std.specs.Prelude.{IfOk};
 ghost use Rattle.mp_model.specs.Waves.{AreWavesOf};
 ghost use Rattle.mp_simulation.specs.run.WavesRuns.{IsWavesRun};
 
-use crate::simulate::busy::{busy_division, can_pay, first_looks};
 use crate::share_waves;
+use crate::simulate::busy::{busy_division, can_pay, first_looks};
 use mp_model::Waves;
 use mp_netlist::Netlist;
 use mp_phase::Crew;

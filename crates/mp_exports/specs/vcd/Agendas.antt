@@ -1,17 +1,17 @@
 -- The changes of all wires by time.
 use Rattle.std.specs.Prelude.{◌≡◌, ◌+◌, ◌-◌, ◌<◌, ◌≤◌, ◌∷◌, ◌==◌, if◌then◌else◌}
-use Rattle.mp_exports.specs.vcd.Names.{flat_map, WireRecord, Circuit, wire_at, width_of, level, ℕ, List, [], length, map, Option, Some, None, slice_index, slice_index_or, Entry}
+use Rattle.mp_exports.specs.vcd.Names.{flat_map, WireRecord, Circuit, wire_at, width_of, level, ℕ, List, [], length, map, Option, Some, None, slice_index, slice_index_or, QueuedChange}
 use Rattle.mp_exports.specs.vcd.Values.{value_line}
 use Rattle.mp_exports.specs.vcd.Dumps.{is_changed, changed}
 
-abbrev pub no_entry : Entry
+abbrev pub no_entry : QueuedChange
 no_entry = record { level = 0; wire = 0; next = 0 }
 
-abbrev pub entry_at : List Entry → ℕ → Entry
+abbrev pub entry_at : List QueuedChange → ℕ → QueuedChange
 entry_at entries place = slice_index_or entries place no_entry
 
 -- from the entry before this place on, each leading to the next, stand these wires and levels; place 0 ends them
-abbrev pub IsChain : List Entry → ℕ → List (ℕ × ℕ) → Type 0
+abbrev pub IsChain : List QueuedChange → ℕ → List (ℕ × ℕ) → Type 0
 IsChain entries place [] = place ≡ 0
 IsChain entries place (told ∷ later) =
     (0 < place) × (place ≤ length entries) × ((entry_at entries (place - 1)).next < place)
@@ -19,7 +19,7 @@ IsChain entries place (told ∷ later) =
     × IsChain entries (entry_at entries (place - 1)).next later
 
 -- for each time, from its first place on, stand these wires and levels
-abbrev pub Tells : List ℕ → List Entry → (ℕ → List (ℕ × ℕ)) → Type 0
+abbrev pub Tells : List ℕ → List QueuedChange → (ℕ → List (ℕ × ℕ)) → Type 0
 Tells firsts entries told = (t : ℕ) → t < length firsts → IsChain entries (slice_index firsts t) (told t)
 
 -- what is told at the times from one on

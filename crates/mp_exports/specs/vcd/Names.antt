@@ -11,9 +11,9 @@ pub use Rattle.mp_records.specs.declared.wire_record.WireRecord.{WireRecord}
 pub use Rattle.mp_streams.specs.Outgoing.{Writes}
 pub use Rattle.mp_wave.specs.WaveChanges.{changes_in}
 pub use Rattle.mp_wave.specs.Waveform.{Waveform, between, change_after, changes_after, earlier_than, later_than}
-pub use Rattle.mp_exports.specs.declared.vcd.agenda.Entry.{Entry}
-pub use Rattle.mp_exports.specs.declared.vcd.batch.Batch.{Batch}
-pub use Rattle.mp_exports.specs.declared.vcd.passage.Passage.{Passage}
+pub use Rattle.mp_exports.specs.declared.vcd.change_queue.QueuedChange.{QueuedChange}
+pub use Rattle.mp_exports.specs.declared.vcd.dump_batch.DumpBatch.{DumpBatch}
+pub use Rattle.mp_exports.specs.declared.vcd.time_chunk.TimeChunk.{TimeChunk}
 pub use Rattle.mp_exports.specs.declared.vcd.room.Room.{Room}
 pub use Rattle.mp_exports.specs.declared.vcd.preamble.Part.{Part}
 pub use Rattle.mp_exports.specs.declared.vcd.preamble.Part.TheVariants.{Declarations, FirstLevels}

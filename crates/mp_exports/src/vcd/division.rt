@@ -2,8 +2,8 @@
 ghost use Rattle.std.specs.Prelude.{◌≡◌, ◌<◌, ◌≤◌};
 ghost use Rattle.mp_exports.specs.vcd.Clauses.{IfOk, flat_map, passage_text, times_text};
 
-use crate::vcd::passage::Passage;
 use crate::vcd::recorded::Recorded;
+use crate::vcd::time_chunk::TimeChunk;
 use mp_netlist::WireId;
 use std::alloc::{AllocError, Global};
 
@@ -31,7 +31,7 @@ pub(crate) fn passages_of(
     alloc: Global,
     of: Recorded<'_>,
     threads: usize,
-) -> Result<Vec<Passage<'_>>, AllocError>
+) -> Result<Vec<TimeChunk<'_>>, AllocError>
     ensures { IfOk result (λ passages. flat_map passage_text passages.items ≡ times_text of.entry.netlist.now 1 of.entry.netlist.now.horizon) }
 {
     let horizon = of.netlist.horizon();
@@ -44,7 +44,7 @@ pub(crate) fn passages_of(
     let mut from: u32 = 1;
     while from < horizon {
         let to = from.saturating_add(units.max(1)).min(horizon);
-        passages.push(Passage { of, from, to })?;
+        passages.push(TimeChunk { of, from, to })?;
         from = to;
     }
     Ok(passages)

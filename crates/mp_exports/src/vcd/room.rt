@@ -5,7 +5,7 @@ ghost use Rattle.mp_streams.specs.WriteErrors.{Writes};
 ghost use Rattle.mp_exports.specs.vcd.Clauses.{IfSome, OnOk, IsMade, passage_text};
 
 use crate::vcd::limited::Limited;
-use crate::vcd::passage::Passage;
+use crate::vcd::time_chunk::TimeChunk;
 use mp_streams::{Out, Sink, WriteError};
 use std::alloc::Global;
 
@@ -22,7 +22,7 @@ impl Room {
     ghost use Rattle.mp_exports.specs.vcd.Clauses.{IsMade};
 
     /// Makes the text of a passage. It isn't made where it is too long, and where memory is refused.
-    pub(crate) fn make(&mut self, alloc: Global, passage: &Passage<'_>)
+    pub(crate) fn make(&mut self, alloc: Global, passage: &TimeChunk<'_>)
         ensures { IsMade passage.now self.new }
     {
         let bytes = match self.text.take() {
@@ -37,7 +37,7 @@ impl Room {
 pub(crate) fn put_text<S: Sink>(
     alloc: Global,
     out: &mut Out<S>,
-    passage: &Passage<'_>,
+    passage: &TimeChunk<'_>,
     room: Option<&Room>,
 ) -> Result<(), WriteError>
     requires { IfSome room (λ room. IsMade passage.now room.now) }
@@ -50,7 +50,7 @@ pub(crate) fn put_text<S: Sink>(
 }
 
 /// The text of a passage, in the memory of some bytes.
-fn made(alloc: Global, passage: &Passage<'_>, bytes: Vec<u8>) -> Option<Vec<u8>>
+fn made(alloc: Global, passage: &TimeChunk<'_>, bytes: Vec<u8>) -> Option<Vec<u8>>
     ensures { IfSome result (λ text. text.items ≡ passage_text passage.now) }
 {
     let mut bytes = bytes;
@@ -73,7 +73,7 @@ fn made(alloc: Global, passage: &Passage<'_>, bytes: Vec<u8>) -> Option<Vec<u8>>
 fn put_whole<S: Sink>(
     alloc: Global,
     out: &mut Out<S>,
-    passage: &Passage<'_>,
+    passage: &TimeChunk<'_>,
 ) -> Result<(), WriteError>
     ensures { OnOk result (Appends out.old.taken out.new.taken (out.old.held ++ passage_text passage.now)) }
 {

@@ -3,8 +3,8 @@ ghost use Rattle.std.specs.Prelude.{◌≡◌, ◌<◌};
 ghost use Rattle.mp_streams.specs.WriteErrors.{Writes};
 ghost use Rattle.mp_exports.specs.vcd.Clauses.{[], flat_map, vec_len, passage_text, AreMade};
 
-use crate::vcd::batch::{Batch, put_each};
-use crate::vcd::passage::Passage;
+use crate::vcd::dump_batch::{DumpBatch, put_each};
+use crate::vcd::time_chunk::TimeChunk;
 use mp_streams::{Out, Sink, WriteError};
 use std::alloc::Global;
 use std::mem;
@@ -17,7 +17,7 @@ pub(crate) fn put_passages<R: Threads + Sync, S: Sink>(
     rt: &R,
     alloc: Global,
     out: &mut Out<S>,
-    passages: &[Passage<'_>],
+    passages: &[TimeChunk<'_>],
     threads: usize,
 ) -> Result<(), WriteError>
     ensures { Writes result out.old out.new (flat_map passage_text passages.now) }
@@ -26,8 +26,8 @@ pub(crate) fn put_passages<R: Threads + Sync, S: Sink>(
     if makers < 2 {
         return put_each(alloc, out, passages, &[]);
     }
-    let ready = Batch::new(alloc, makers)?;
-    let coming = Batch::new(alloc, makers)?;
+    let ready = DumpBatch::new(alloc, makers)?;
+    let coming = DumpBatch::new(alloc, makers)?;
     put_batches(rt, alloc, out, passages, ready, coming)
 }
 
@@ -36,9 +36,9 @@ fn put_batches<'a, R: Threads + Sync, S: Sink>(
     rt: &R,
     alloc: Global,
     out: &mut Out<S>,
-    passages: &'a [Passage<'a>],
-    ready: Batch<'a>,
-    coming: Batch<'a>,
+    passages: &'a [TimeChunk<'a>],
+    ready: DumpBatch<'a>,
+    coming: DumpBatch<'a>,
 ) -> Result<(), WriteError>
     requires some { 0 < vec_len ready.rooms }
     requires same { vec_len coming.rooms ≡ vec_len ready.rooms }
@@ -62,9 +62,9 @@ fn make_and_put<'a, R: Threads + Sync, S: Sink>(
     rt: &R,
     alloc: Global,
     out: &mut Out<S>,
-    next: &'a [Passage<'a>],
-    coming: &mut Batch<'a>,
-    ready: &Batch<'a>,
+    next: &'a [TimeChunk<'a>],
+    coming: &mut DumpBatch<'a>,
+    ready: &DumpBatch<'a>,
 ) -> Result<(), WriteError>
     requires some { 0 < vec_len coming.old.rooms }
     requires made { AreMade ready.now }

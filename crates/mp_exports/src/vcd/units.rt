@@ -2,7 +2,7 @@
 ghost use Rattle.std.specs.Prelude.{◌≡◌, ◌+◌, ◌-◌, ◌<◌, ◌≤◌};
 ghost use Rattle.mp_exports.specs.vcd.Clauses.{slice_index, vec_len, flat_map, range_with_len, Writes, Tells, told_from, told_at, unit_text, value_line};
 
-use crate::vcd::agenda::{Agenda, Entry};
+use crate::vcd::change_queue::{ChangeQueue, QueuedChange};
 use crate::vcd::lines::put_time_mark;
 use crate::vcd::recorded::Recorded;
 use crate::vcd::value_lines::ValueLine;
@@ -13,7 +13,7 @@ use mp_streams::{Failed, Out, Sink};
 pub(crate) fn put_agenda<S: Sink>(
     out: &mut Out<S>,
     of: Recorded<'_>,
-    agenda: &Agenda,
+    agenda: &ChangeQueue,
     to: u32,
 ) -> Result<(), Failed>
     requires order { agenda.now.from ≤ to }
@@ -32,7 +32,7 @@ pub(crate) fn put_agenda<S: Sink>(
 fn put_unit<S: Sink>(
     out: &mut Out<S>,
     of: Recorded<'_>,
-    agenda: &Agenda,
+    agenda: &ChangeQueue,
     time: u32,
 ) -> Result<(), Failed>
     requires from { agenda.now.from ≤ time }
@@ -55,7 +55,7 @@ fn put_unit<S: Sink>(
 
 /// The line of a change, given the width of each wire by number.
 #[inline(always)]
-fn line_of(widths: &[u32], change: Entry) -> ValueLine
+fn line_of(widths: &[u32], change: QueuedChange) -> ValueLine
     requires { slice_index widths.now change.wire ≤ 64 }
     ensures { value_line result.width result.wire result.level ≡ value_line (slice_index widths.now change.wire) change.wire change.level }
 {

@@ -2,7 +2,7 @@
 ghost use Rattle.std.specs.Prelude.{◌≡◌, ◌+◌, ◌-◌, ◌<◌, ◌≤◌};
 ghost use Rattle.mp_exports.specs.vcd.Clauses.{ℕ, List, IfOk, OnOk, vec_len, wire_at, AreWavesOf, changes_in, Tells, told_from, onto, onto_slot, told_at};
 
-use crate::vcd::agenda::Agenda;
+use crate::vcd::change_queue::ChangeQueue;
 use crate::vcd::parts::part;
 use crate::vcd::recorded::Recorded;
 use mp_netlist::WireId;
@@ -17,7 +17,7 @@ pub(crate) fn agenda_of(
     places: &mut [usize],
     from: u32,
     to: u32,
-) -> Result<Agenda, AllocError>
+) -> Result<ChangeQueue, AllocError>
     requires from { 0 < from }
     requires order { from ≤ to }
     requires end { to ≤ of.netlist.now.horizon }
@@ -25,7 +25,7 @@ pub(crate) fn agenda_of(
     ensures times { IfOk result (λ agenda. vec_len agenda.firsts ≡ to - from) }
     ensures told { IfOk result (λ agenda. Tells agenda.firsts.items agenda.entries.items (told_from from (told_at of.entry.netlist.now))) }
 {
-    let mut agenda = Agenda::new(alloc, from, to - from, of.portion.changes)?;
+    let mut agenda = ChangeQueue::new(alloc, from, to - from, of.portion.changes)?;
     let mut number = of.netlist.wire_slots();
     while number > 0 {
         number -= 1;
@@ -37,7 +37,7 @@ pub(crate) fn agenda_of(
 /// Puts the changes of a wire at the agenda's times, the last of which is before another, before the others of their times.
 #[tactic(auto, using(crate::proofs::lemmas::vcd::AgendaLemmas::told_as, crate::proofs::lemmas::vcd::StandingLemmas::none_in))]
 fn add_wire(
-    agenda: &mut Agenda,
+    agenda: &mut ChangeQueue,
     of: Recorded<'_>,
     places: &mut [usize],
     id: WireId,
@@ -69,7 +69,11 @@ fn set_place(places: &mut [usize], id: WireId, place: usize) {
 }
 
 #[tactic(auto, using(std::proofs::Common::take_all, crate::proofs::lemmas::vcd::AgendaLemmas::told_as))]
-fn add_changes(agenda: &mut Agenda, wire: u32, changes: WaveChanges<'_>) -> Result<(), AllocError>
+fn add_changes(
+    agenda: &mut ChangeQueue,
+    wire: u32,
+    changes: WaveChanges<'_>,
+) -> Result<(), AllocError>
     ensures from { OnOk result (agenda.new.from ≡ agenda.old.from) }
     ensures times { OnOk result (vec_len agenda.new.firsts ≡ vec_len agenda.old.firsts) }
     ensures told { OnOk result ((told : ℕ → List (ℕ × ℕ)) → Tells agenda.old.firsts.items agenda.old.entries.items (told_from agenda.old.from told)

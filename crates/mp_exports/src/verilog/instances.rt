@@ -5,7 +5,9 @@ ghost use Rattle.mp_exports.specs.verilog.Instances.{bundle_line};
 
 use crate::verilog::declarations::Wire;
 use crate::verilog::kinds::module_word;
-use crate::verilog::module_items::{Copies, Delays, Given, InputItems, OutputItems, ParamItems, Part};
+use crate::verilog::module_items::{
+    Copies, Delays, Given, InputItems, OutputItems, ParamItems, Part,
+};
 use crate::verilog::names::Identifier;
 use crate::verilog::numbered::{Each, Numbered};
 use crate::verilog::ports::{input_count, output_count, param_count};

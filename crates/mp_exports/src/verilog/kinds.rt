@@ -6,7 +6,9 @@ ghost use Rattle.mp_netlist.specs.Circuit.{module_at};
 ghost use Rattle.mp_exports.specs.verilog.Kinds.{all_kinds, is_of_kind, kind_section, kind_text, module_word};
 
 use crate::verilog::data_modules::{addc_text, bit_text, reg_text, sum_text, xorc_text};
-use crate::verilog::event_modules::{arbiter_text, buf_text, c_text, call_text, not_text, select_text, toggle_text, xor_text};
+use crate::verilog::event_modules::{
+    arbiter_text, buf_text, c_text, call_text, not_text, select_text, toggle_text, xor_text,
+};
 use mp_modules::Kind;
 use mp_netlist::{ModuleId, Netlist};
 use mp_streams::{Failed, Out, Sink, Text};

@@ -6,11 +6,11 @@ ghost use Rattle.mp_kernel.specs.events.Adding.{state_at, listed};
 ghost use Rattle.mp_kernel.specs.events.Firing.{UnitState, HasSlot, HaveSlots, scheduled, entry_if, fired_at, ports_at, number_of, next_state, events_of, AreNumbered, HaveFired, fired_by, copied_from, StayElse};
 ghost use Rattle.mp_kernel.specs.events.LevelFlips.{levels_at, flipped, HaveFlipped};
 
+use crate::automata::{AutomatonState, PortLevels, TransitionTable};
 use crate::events::batches::{batch_end, is_large};
 use crate::events::event_wheel::EventWheel;
 use crate::events::output_port::OutputPort;
 use crate::events::output_table::OutputTable;
-use crate::automata::{AutomatonState, PortLevels, TransitionTable};
 use std::alloc::AllocError;
 
 /// Where an output toggles, its wire does so after the delay.

@@ -3,10 +3,10 @@ ghost use Rattle.std.specs.Prelude.{◌≡◌, ◌<◌, [], OnOk, All, length};
 ghost use Rattle.mp_kernel.specs.events.Adding.{IsAdding, AreAdded};
 ghost use Rattle.mp_kernel.specs.events.Toggling.{row_at, entries_from, CanToggle, AreToggled};
 
+use crate::automata::AutomatonState;
 use crate::events::adding::add_fanout_events;
 use crate::events::fanout::Fanout;
 use crate::events::wave_table::WaveTable;
-use crate::automata::AutomatonState;
 use std::alloc::AllocError;
 
 /// These wires toggle at a time, each once, and the inputs that read them have an event. A module with an event is due.

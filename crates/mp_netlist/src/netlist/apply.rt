@@ -1,8 +1,13 @@
 //! What an edit does to a netlist.
 use crate::netlist::Netlist;
 use crate::netlist::new_ports::NewPorts;
-use crate::record_changes::{NewDelay, NewInput, NewInputDelay, NewOutput, NewStimulus, NoStimulus};
-use mp_records::{Boxed, BundleRecord, Changes, Edit, EditError, ModuleRecord, Name, NewBundle, NewModule, SingleEdit, WireId, WireRecord};
+use crate::record_changes::{
+    NewDelay, NewInput, NewInputDelay, NewOutput, NewStimulus, NoStimulus,
+};
+use mp_records::{
+    Boxed, BundleRecord, Changes, Edit, EditError, ModuleRecord, Name, NewBundle, NewModule,
+    SingleEdit, WireId, WireRecord,
+};
 use std::alloc::AllocError;
 
 impl Netlist {

@@ -7,7 +7,9 @@ use crate::netlist::ports::are_distinct;
 use crate::netlist::{MAX_DELAY, Netlist};
 use arrayvec::ArrayVec;
 use mp_modules::{Kind, MOST_INPUTS, MOST_OUTPUTS};
-use mp_records::{Input, InputNames, Inputs, Name, NewModule, Output, OutputNames, Outputs, WireId};
+use mp_records::{
+    Input, InputNames, Inputs, Name, NewModule, Output, OutputNames, Outputs, WireId,
+};
 
 /// The ports of a new module, at the wires that it names: each name is looked up once.
 #[derive(Drop)]

@@ -6,7 +6,7 @@ use Rattle.mp_records.specs.Outputs.{delay_of}
 use Rattle.mp_netlist.specs.Circuit.{Circuit, Drives, wire_at, stimulus_at}
 use Rattle.mp_partition.specs.regions.Readers.{Reads}
 use Rattle.mp_partition.specs.runs.Marks.{is_marked}
-use Rattle.mp_partition.specs.regions.Regions.{home_of}
+use Rattle.mp_partition.specs.regions.Regions.{partition_of}
 
 -- the wires that a part hears: none, where no list is there
 abbrev pub heard_by : List (List Bool) → ℕ → List Bool
@@ -14,11 +14,11 @@ heard_by heards part = slice_index_or heards part []
 
 -- the wire of an output, if any, is at home here
 abbrev pub IsDrivenAt : List ℕ → ℕ → Output → Type 0
-IsDrivenAt wires home output = (w : ℕ) → output.wire ≡ Some (record { 0 = w }) → home_of wires w ≡ home
+IsDrivenAt wires home output = (w : ℕ) → output.wire ≡ Some (record { 0 = w }) → partition_of wires w ≡ home
 
 -- the wire is at home here, or nowhere, or it is heard here
 abbrev pub IsWireAtHome : List ℕ → List Bool → ℕ → ℕ → ℕ → Type 0
-IsWireAtHome wires heard parts home w = (home_of wires w ≡ home) ⊎ ((parts ≤ home_of wires w) ⊎ (is_marked heard w ≡ true))
+IsWireAtHome wires heard parts home w = (partition_of wires w ≡ home) ⊎ ((parts ≤ partition_of wires w) ⊎ (is_marked heard w ≡ true))
 
 -- so is the wire of an input
 abbrev pub IsReadAt : List ℕ → List Bool → ℕ → ℕ → Input → Type 0
@@ -26,13 +26,13 @@ IsReadAt wires heard parts home input = IsWireAtHome wires heard parts home inpu
 
 -- the wires of a module are at home with it, but for those that it reads and that are at home nowhere, or that its part hears
 pub record IsAtHome (n : Circuit) (homes wires : List ℕ) (heards : List (List Bool)) (parts m : ℕ) : Type 0 where
-  pub driven : (p w : ℕ) → Drives n m p w → home_of wires w ≡ home_of homes m
-  pub read : (w : ℕ) → Reads n m w → IsWireAtHome wires (heard_by heards (home_of homes m)) parts (home_of homes m) w
+  pub driven : (p w : ℕ) → Drives n m p w → partition_of wires w ≡ partition_of homes m
+  pub read : (w : ℕ) → Reads n m w → IsWireAtHome wires (heard_by heards (partition_of homes m)) parts (partition_of homes m) w
 
 -- a wire that a part hears stands and is at home elsewhere, and nothing is set on it from outside
 pub record IsHeardThere (n : Circuit) (wires : List ℕ) (part w : ℕ) : Type 0 where
   pub stands : is_some (wire_at n w) ≡ true
-  pub elsewhere : home_of wires w ≡ part → ⊥
+  pub elsewhere : partition_of wires w ≡ part → ⊥
   pub unset : stimulus_at n w ≡ None
 
 -- every module is at home in one of the parts, and so is each wire that a port drives, with this port's module and all that read it
@@ -40,7 +40,7 @@ pub record IsHeardThere (n : Circuit) (wires : List ℕ) (part w : ℕ) : Type 0
 pub record IsDivision (n : Circuit) (homes wires : List ℕ) (heards : List (List Bool)) (parts : ℕ) : Type 0 where
   pub some : 0 < parts
   pub at_home : (m : ℕ) → IsAtHome n homes wires heards parts m
-  pub few : (m : ℕ) → home_of homes m < parts
+  pub few : (m : ℕ) → partition_of homes m < parts
   pub heard : (k w : ℕ) → is_marked (heard_by heards k) w ≡ true → IsHeardThere n wires k w
 
 -- where a part hears the wire of an output, its delay isn't shorter

@@ -9,13 +9,13 @@ use Rattle.mp_model.specs.Waves.{level}
 use Rattle.mp_partition.specs.runs.Marks.{is_marked}
 
 -- the part in which a module, or what drives a wire, is at home
-abbrev pub home_of : List ℕ → ℕ → ℕ
-home_of homes k = slice_index_or homes k 0
+abbrev pub partition_of : List ℕ → ℕ → ℕ
+partition_of homes k = slice_index_or homes k 0
 
 -- the slots of modules, m being the number of the first, without those of modules that are at home elsewhere
 abbrev pub slots_at_home : List ℕ → ℕ → ℕ → List (Option ModuleRecord) → List (Option ModuleRecord)
 slots_at_home homes part m [] = []
-slots_at_home homes part m (slot ∷ slots) = (if home_of homes m == part then slot else None) ∷ slots_at_home homes part (m + 1) slots
+slots_at_home homes part m (slot ∷ slots) = (if partition_of homes m == part then slot else None) ∷ slots_at_home homes part (m + 1) slots
 
 -- what stands in a wire's slot, with these levels below the horizon set on it from outside
 abbrev pub set_on_slot : ℕ → (ℕ → ℕ) → Option WireRecord → Option WireRecord
@@ -43,7 +43,7 @@ region n homes part heard = record {
 
 -- no wire that a part hears is driven by a module at home there
 abbrev pub HearsOthers : Circuit → List ℕ → ℕ → List Bool → Type 0
-HearsOthers n homes part heard = (m p w : ℕ) → Drives n m p w → home_of homes m ≡ part → is_marked heard w ≡ false
+HearsOthers n homes part heard = (m p w : ℕ) → Drives n m p w → partition_of homes m ≡ part → is_marked heard w ≡ false
 
 -- a netlist has as many wires as another, with the same widths and initial levels, and the same stimuli on those that aren't heard
 pub record HasStimuli (n part : Circuit) (heard : List Bool) : Type 0 where

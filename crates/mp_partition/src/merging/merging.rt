@@ -7,15 +7,15 @@ ghost use Rattle.mp_model.specs.Waves.{slot_wave, AreWavesOf};
 ghost use Rattle.mp_partition.specs.runs.Outcomes.{AreSlots};
 ghost use Rattle.mp_partition.specs.runs.Runs.{AreCheckpoints, end_memory};
 ghost use Rattle.mp_partition.specs.regions.Divisions.{IsDivision};
-ghost use Rattle.mp_partition.specs.regions.Regions.{home_of};
+ghost use Rattle.mp_partition.specs.regions.Regions.{partition_of};
 ghost use Rattle.mp_partition.specs.merging.PartRuns.{kept_in, AreRuns, HaveWaves, IsPartRun};
 
 use crate::merging::part_run::PartRun;
+use crate::regions::{Division, partition_of};
 use crate::runs::Checkpoints;
 use mp_model::Waves;
 use mp_modules::Memory;
 use mp_netlist::{ModuleId, Netlist, WireId};
-use crate::regions::{Division, home_of};
 use mp_wave::Wave;
 use std::alloc::{AllocError, Global};
 use std::sync::Arc;
@@ -91,9 +91,9 @@ fn wave_of(
 fn part_of_wire(division: &Division, wire: WireId) -> u32
     requires { 0 < division.now.parts }
     ensures low { result < division.now.parts }
-    ensures home { home_of division.now.wires.items wire.0 < division.now.parts → home_of division.now.wires.items wire.0 ≡ result }
+    ensures home { partition_of division.now.wires.items wire.0 < division.now.parts → partition_of division.now.wires.items wire.0 ≡ result }
 {
-    let home = home_of(division.wires.as_slice(), wire.0);
+    let home = partition_of(division.wires.as_slice(), wire.0);
     if home < division.parts { home } else { 0 }
 }
 
@@ -129,7 +129,7 @@ fn end_of(netlist: &Netlist, division: &Division, runs: &[PartRun], id: ModuleId
     requires low { id.0 < length netlist.now.modules }
     ensures { result ≡ end_memory netlist.now id.0 }
 {
-    let part = home_of(division.homes.as_slice(), id.0);
+    let part = partition_of(division.homes.as_slice(), id.0);
     end_in(&runs[part as usize], id)
 }
 
@@ -155,7 +155,7 @@ fn merged_checkpoints(
 {
     let mut kept = Vec::new(alloc);
     for m in 0..netlist.module_slots() {
-        let part = home_of(division.homes.as_slice(), m);
+        let part = partition_of(division.homes.as_slice(), m);
         kept.push(shared_checkpoints(&runs[part as usize], ModuleId(m))?)?;
     }
     Ok(kept)

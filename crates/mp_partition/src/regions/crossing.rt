@@ -6,11 +6,11 @@ ghost use Rattle.mp_netlist.specs.Circuit.{Drives};
 ghost use Rattle.mp_partition.specs.runs.Marks.{is_marked};
 ghost use Rattle.mp_partition.specs.regions.Divisions.{heard_by, IsCrossing, IsLateFor};
 
-use crate::regions::heard::{Heard, is_heard};
+use crate::regions::inbound_wires::{InboundWires, is_heard};
 use mp_netlist::{ModuleId, Netlist, Output, WireId};
 
 /// The shortest delay of a port that drives a wire which a part hears, and the horizon where that is less.
-pub fn crossing_delay(netlist: &Netlist, heards: &[Heard]) -> u32
+pub fn crossing_delay(netlist: &Netlist, heards: &[InboundWires]) -> u32
     ensures { IsCrossing netlist.now heards.now result }
 {
     let mut delay = netlist.horizon();
@@ -21,7 +21,7 @@ pub fn crossing_delay(netlist: &Netlist, heards: &[Heard]) -> u32
 }
 
 /// The shortest of a module.
-fn module_delay(netlist: &Netlist, heards: &[Heard], id: ModuleId) -> u32
+fn module_delay(netlist: &Netlist, heards: &[InboundWires], id: ModuleId) -> u32
     ensures { (k p w : ℕ) (drives : Drives netlist.now id.0 p w) → is_marked (heard_by heards.now k) w ≡ true → result ≤ delay_of drives.part p }
 {
     match netlist.module(id) {
@@ -30,7 +30,7 @@ fn module_delay(netlist: &Netlist, heards: &[Heard], id: ModuleId) -> u32
     }
 }
 
-fn shortest_delay(heards: &[Heard], outputs: &[Output]) -> u32
+fn shortest_delay(heards: &[InboundWires], outputs: &[Output]) -> u32
     ensures { All (λ (output : Port). IsLateFor heards.now output result) outputs.now }
 {
     let mut delay = u32::MAX;
@@ -41,7 +41,7 @@ fn shortest_delay(heards: &[Heard], outputs: &[Output]) -> u32
 }
 
 /// The delay of an output, if its wire is heard.
-fn heard_delay(heards: &[Heard], output: Output) -> u32
+fn heard_delay(heards: &[InboundWires], output: Output) -> u32
     ensures { IsLateFor heards.now output result }
 {
     match output.wire {
@@ -56,7 +56,7 @@ fn heard_delay(heards: &[Heard], output: Output) -> u32
     }
 }
 
-fn is_heard_anywhere(heards: &[Heard], wire: WireId) -> bool
+fn is_heard_anywhere(heards: &[InboundWires], wire: WireId) -> bool
     ensures { (k : ℕ) → is_marked (heard_by heards.now k) wire.0 ≡ true → result ≡ true }
 {
     for heard in heards {

@@ -7,8 +7,8 @@ ghost use Rattle.mp_partition.specs.runs.Marks.{is_marked};
 
 use crate::regions::crossing::crossing_delay;
 use crate::regions::groups::homes_of;
-use crate::regions::heard::{Heard, heard_by, is_heard};
-use crate::regions::home::{NOWHERE, home_of};
+use crate::regions::home::{NOWHERE, partition_of};
+use crate::regions::inbound_wires::{InboundWires, heard_by, is_heard};
 use mp_netlist::{Input, ModuleId, Netlist, Output, WireId};
 use std::alloc::{AllocError, Global};
 
@@ -18,7 +18,7 @@ use std::alloc::{AllocError, Global};
 pub struct Division {
     pub homes: Vec<u32>,
     pub wires: Vec<u32>,
-    pub heard: Vec<Heard>,
+    pub heard: Vec<InboundWires>,
     pub delay: u32,
     pub parts: u32,
 }
@@ -78,7 +78,7 @@ fn wire_homes(alloc: Global, netlist: &Netlist, homes: &[u32]) -> Result<Vec<u32
     }
     for m in 0..netlist.module_slots() {
         if let Some(found) = netlist.module(ModuleId(m)) {
-            note_outputs(&mut wires, found.outputs.as_slice(), home_of(homes, m));
+            note_outputs(&mut wires, found.outputs.as_slice(), partition_of(homes, m));
         }
     }
     Ok(wires)
@@ -91,14 +91,14 @@ fn heard_wires(
     homes: &[u32],
     wires: &[u32],
     parts: u32,
-) -> Result<Vec<Heard>, AllocError> {
+) -> Result<Vec<InboundWires>, AllocError> {
     let mut heards = Vec::new(alloc);
     for _part in 0..parts {
-        heards.push(Heard::none(alloc, netlist.wire_slots())?)?;
+        heards.push(InboundWires::none(alloc, netlist.wire_slots())?)?;
     }
     let mut any = false;
     for m in 0..netlist.module_slots() {
-        let home = home_of(homes, m);
+        let home = partition_of(homes, m);
         if let Some(found) = netlist.module(ModuleId(m)) {
             if let Some(heard) = heards.get_mut(home as usize) {
                 let some = note_inputs(heard, found.inputs.as_slice(), wires, home);
@@ -113,10 +113,10 @@ fn heard_wires(
 }
 
 /// Notes the inputs whose wires are at home elsewhere, and whether there are any.
-fn note_inputs(heard: &mut Heard, inputs: &[Input], wires: &[u32], home: u32) -> bool {
+fn note_inputs(heard: &mut InboundWires, inputs: &[Input], wires: &[u32], home: u32) -> bool {
     let mut any = false;
     for input in inputs {
-        let there = home_of(wires, input.wire.0);
+        let there = partition_of(wires, input.wire.0);
         if there != home && there != NOWHERE {
             heard.add(input.wire);
             any = true;
@@ -172,7 +172,7 @@ fn is_at_home(netlist: &Netlist, division: &Division, id: ModuleId) -> bool
     let Some(found) = netlist.module(id) else {
         return true;
     };
-    let home = home_of(division.homes.as_slice(), id.0);
+    let home = partition_of(division.homes.as_slice(), id.0);
     let wires = division.wires.as_slice();
     let heard = heard_by(division.heard.as_slice(), home);
     are_driven_at(wires, home, found.outputs.as_slice())
@@ -213,7 +213,7 @@ fn is_all_heard_there(netlist: &Netlist, wires: &[u32], heard: &[bool], part: u3
 fn is_heard_there(netlist: &Netlist, wires: &[u32], part: u32, wire: WireId) -> bool
     ensures { result ≡ true → IsHeardThere netlist.now wires.now part wire.0 }
 {
-    if home_of(wires, wire.0) == part {
+    if partition_of(wires, wire.0) == part {
         return false;
     }
     match netlist.wire(wire) {
@@ -237,7 +237,7 @@ fn is_driven_at(wires: &[u32], home: u32, output: Output) -> bool
     ensures { result ≡ true → IsDrivenAt wires.now home output }
 {
     match output.wire {
-        Some(wire) => home_of(wires, wire.0) == home,
+        Some(wire) => partition_of(wires, wire.0) == home,
         None => true,
     }
 }
@@ -256,7 +256,7 @@ fn are_read_at(wires: &[u32], heard: &[bool], parts: u32, home: u32, inputs: &[I
 fn is_read_at(wires: &[u32], heard: &[bool], parts: u32, home: u32, input: Input) -> bool
     ensures { result ≡ true → IsReadAt wires.now heard.now parts home input }
 {
-    let there = home_of(wires, input.wire.0);
+    let there = partition_of(wires, input.wire.0);
     if there == home || there >= parts {
         return true;
     }

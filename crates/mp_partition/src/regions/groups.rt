@@ -1,6 +1,6 @@
 //! Modules in groups that are connected by wires, and in which part each group is.
 use crate::regions::division::note_outputs;
-use crate::regions::home::{NOWHERE, home_of};
+use crate::regions::home::{NOWHERE, partition_of};
 use crate::regions::neighbors::Neighbors;
 use mp_netlist::{Input, ModuleId, Netlist, Output};
 use std::alloc::{AllocError, Global};
@@ -102,8 +102,8 @@ impl Drivers {
     /// Joins a module's group with those of the modules that drive its inputs by shorter delays.
     fn join_inputs(&self, heads: &mut Vec<u32>, m: u32, inputs: &[Input], cut: u32) {
         for input in inputs {
-            let driver = home_of(self.modules.as_slice(), input.wire.0);
-            let delay = home_of(self.delays.as_slice(), input.wire.0);
+            let driver = partition_of(self.modules.as_slice(), input.wire.0);
+            let delay = partition_of(self.delays.as_slice(), input.wire.0);
             if delay < cut {
                 join(heads, m, driver);
             }
@@ -137,11 +137,11 @@ fn join(heads: &mut Vec<u32>, one: u32, other: u32) {
 fn head_of(heads: &mut Vec<u32>, m: u32) -> u32 {
     let mut at = m;
     for _ in 0..heads.len() {
-        let next = home_of(heads.as_slice(), at);
+        let next = partition_of(heads.as_slice(), at);
         if next == at {
             return at;
         }
-        let behind = home_of(heads.as_slice(), next);
+        let behind = partition_of(heads.as_slice(), next);
         put(heads, at, behind);
         at = next;
     }
@@ -158,7 +158,7 @@ pub fn put(list: &mut Vec<u32>, place: u32, number: u32) {
 fn sizes_of(alloc: Global, heads: &[u32]) -> Result<Vec<u32>, AllocError> {
     let mut sizes = vec![in alloc; 0u32; heads.len()]?;
     for head in heads {
-        let size = home_of(sizes.as_slice(), *head);
+        let size = partition_of(sizes.as_slice(), *head);
         put(&mut sizes, *head, size.saturating_add(1));
     }
     Ok(sizes)
@@ -181,7 +181,7 @@ fn groups_that_fit(
 ) -> Result<Vec<u32>, AllocError> {
     let mut together = Vec::new(alloc);
     for head in heads {
-        let size = home_of(sizes, *head) as usize;
+        let size = partition_of(sizes, *head) as usize;
         together.push(if size <= share { *head } else { NOWHERE })?;
     }
     Ok(together)
@@ -212,9 +212,9 @@ impl Share {
         let mut part = 0u32;
         let mut load = 0usize;
         for m in order {
-            let head = home_of(heads, *m);
-            if home_of(parts.as_slice(), head) == NOWHERE {
-                let size = home_of(sizes.as_slice(), head) as usize;
+            let head = partition_of(heads, *m);
+            if partition_of(parts.as_slice(), head) == NOWHERE {
+                let size = partition_of(sizes.as_slice(), head) as usize;
                 if self.is_too_much(load, size) && part.saturating_add(1) < self.parts {
                     part = part.saturating_add(1);
                     load = 0;
@@ -225,7 +225,7 @@ impl Share {
         }
         let mut homes = Vec::new(alloc);
         for head in heads {
-            homes.push(home_of(parts.as_slice(), *head))?;
+            homes.push(partition_of(parts.as_slice(), *head))?;
         }
         Ok(homes)
     }

@@ -1,6 +1,6 @@
 //! Which modules are connected by a wire.
 use crate::regions::groups::put;
-use crate::regions::home::{NOWHERE, home_of};
+use crate::regions::home::{NOWHERE, partition_of};
 use mp_netlist::{Input, ModuleId, Netlist};
 use std::alloc::{AllocError, Global};
 
@@ -57,8 +57,8 @@ impl Neighbors {
 
     /// The neighbors of a module.
     fn of_module(&self, m: u32) -> &[u32] {
-        let first = home_of(self.starts.as_slice(), m) as usize;
-        let end = home_of(self.starts.as_slice(), m.saturating_add(1)) as usize;
+        let first = partition_of(self.starts.as_slice(), m) as usize;
+        let end = partition_of(self.starts.as_slice(), m.saturating_add(1)) as usize;
         self.list.get(first..end).unwrap_or(&[])
     }
 }
@@ -97,7 +97,7 @@ impl Walk {
 
     /// A module waits.
     fn wait(&mut self, m: u32) -> Result<(), AllocError> {
-        let open = home_of(self.open.as_slice(), m).min(MOST_OPEN - 1);
+        let open = partition_of(self.open.as_slice(), m).min(MOST_OPEN - 1);
         if let Some(list) = self.waiting.get_mut(open as usize) {
             list.push(m)?;
         }
@@ -129,7 +129,7 @@ impl Walk {
 
     /// A module has a neighbor more that is taken. It waits, if it isn't taken itself.
     fn close(&mut self, m: u32) -> Result<(), AllocError> {
-        let open = home_of(self.open.as_slice(), m);
+        let open = partition_of(self.open.as_slice(), m);
         put(&mut self.open, m, open.saturating_sub(1));
         match self.taken.get(m as usize) {
             Some(false) => self.wait(m),
@@ -160,7 +160,7 @@ fn add_pairs(
     inputs: &[Input],
 ) -> Result<(), AllocError> {
     for input in inputs {
-        let driver = home_of(drivers, input.wire.0);
+        let driver = partition_of(drivers, input.wire.0);
         if driver != NOWHERE && driver != m {
             pairs.push((m, driver))?;
         }
@@ -169,13 +169,13 @@ fn add_pairs(
 }
 
 fn add(list: &mut Vec<u32>, place: u32) {
-    let count = home_of(list.as_slice(), place);
+    let count = partition_of(list.as_slice(), place);
     put(list, place, count.saturating_add(1));
 }
 
 /// Enters a neighbor of a module at the next place of its part of the list.
 fn enter(places: &mut Vec<u32>, list: &mut Vec<u32>, module: u32, neighbor: u32) {
-    let place = home_of(places.as_slice(), module);
+    let place = partition_of(places.as_slice(), module);
     put(list, place, neighbor);
     put(places, module, place.saturating_add(1));
 }

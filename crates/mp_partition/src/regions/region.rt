@@ -2,10 +2,10 @@
 
 ghost use Rattle.mp_partition.specs.regions.Regions.{HearsOthers};
 
-use crate::regions::home::home_of;
+use crate::regions::home::partition_of;
 use mp_model::built;
-use mp_netlist::{ModuleId, ModuleRecord, Netlist, WireId};
 use mp_modules::AnyModule;
+use mp_netlist::{ModuleId, ModuleRecord, Netlist, WireId};
 use std::marker::Model;
 
 /// The modules of a netlist that are at home in one part of it, with all its wires, and which of these it hears that modules elsewhere
@@ -123,7 +123,7 @@ impl<'a> Region<'a> {
         ensures value { option_copied result ≡ module_at self.now id.0 }
         ensures form { IfSome result (λ found. IsModule self.now found.now) }
     {
-        if home_of(self.homes, id.0) == self.part {
+        if partition_of(self.homes, id.0) == self.part {
             self.netlist.module(id)
         } else {
             None

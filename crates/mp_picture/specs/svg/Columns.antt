@@ -7,8 +7,8 @@ use Rattle.mp_picture.specs.declared.cell.Events.{Events}
 use Rattle.mp_picture.specs.declared.cell.Events.TheVariants.{None, One, More}
 use Rattle.mp_picture.specs.Rows.{is_still}
 use Rattle.mp_picture.specs.declared.svg.lane.Lane.{Lane}
-use Rattle.mp_picture.specs.declared.svg.drawing.Drawing.{Drawing}
-use Rattle.mp_picture.specs.declared.svg.drawing.Drawing.TheVariants.{Bands, Bits, Values, Words}
+use Rattle.mp_picture.specs.declared.svg.svg_drawing.SvgDrawing.{SvgDrawing}
+use Rattle.mp_picture.specs.declared.svg.svg_drawing.SvgDrawing.TheVariants.{Bands, Bits, Values, Words}
 use Rattle.mp_picture.specs.svg.Lanes.{x_of, top, bottom, middle, base, y_of}
 use Rattle.mp_picture.specs.svg.Elements.{attribute, number, title, text_from, rectangle}
 
@@ -109,12 +109,12 @@ value lane cells j cell =
 abbrev pub cell_at : List Cell → ℕ → Cell
 cell_at cells j = get_or cells j (record { events = None; level = 0 })
 
-abbrev pub column_text : Lane → List Cell → Drawing → ℕ → List ℕ
+abbrev pub column_text : Lane → List Cell → SvgDrawing → ℕ → List ℕ
 column_text lane cells Bands j = band lane j (cell_at cells j).events
 column_text lane cells Bits j = bit_path lane j (cell_at cells j).events (cell_at cells j).level
 column_text lane cells Values j = value lane cells j (cell_at cells j)
 column_text lane cells Words j = word_path lane j (is_still (cell_at cells j)) (is_still (cell_at cells (j + 1)))
 
 -- column by column
-abbrev pub drawn : Lane → List Cell → Drawing → List ℕ
+abbrev pub drawn : Lane → List Cell → SvgDrawing → List ℕ
 drawn lane cells drawing = flat_map (column_text lane cells drawing) (range_with_len 0 (length cells))

@@ -5,7 +5,7 @@ use Rattle.mp_picture.specs.declared.columns.Columns.{Columns}
 use Rattle.mp_picture.specs.Cells.{cells}
 use Rattle.mp_picture.specs.Rows.{is_still}
 use Rattle.mp_picture.specs.declared.svg.lane.Lane.{Lane}
-use Rattle.mp_picture.specs.declared.svg.drawing.Drawing.TheVariants.{Bits, Values, Words}
+use Rattle.mp_picture.specs.declared.svg.svg_drawing.SvgDrawing.TheVariants.{Bits, Values, Words}
 use Rattle.mp_picture.specs.svg.Columns.{cell_at, drawn}
 use Rattle.mp_picture.specs.svg.WireGroups.{start}
 

@@ -6,7 +6,7 @@ use Rattle.mp_picture.specs.declared.cell.Cell.{Cell}
 use Rattle.mp_picture.specs.declared.cell.Events.{Events}
 use Rattle.mp_picture.specs.declared.cell.Events.TheVariants.{None, One, More}
 use Rattle.mp_picture.specs.declared.svg.lane.Lane.{Lane}
-use Rattle.mp_picture.specs.declared.svg.drawing.Drawing.TheVariants.{Bands, Bits, Values, Words}
+use Rattle.mp_picture.specs.declared.svg.svg_drawing.SvgDrawing.TheVariants.{Bands, Bits, Values, Words}
 use Rattle.mp_picture.specs.svg.Lanes.{x_of, top, bottom, base, y_of}
 use Rattle.mp_picture.specs.svg.Elements.{attribute, number, title, text_from}
 use Rattle.mp_picture.specs.svg.Columns.{move_to, cell_at, drawn}

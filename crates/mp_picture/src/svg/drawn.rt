@@ -4,9 +4,9 @@ ghost use Rattle.mp_streams.specs.Outgoing.{Writes};
 ghost use Rattle.mp_picture.specs.svg.Lanes.{top, bottom};
 ghost use Rattle.mp_picture.specs.svg.Columns.{band, bit_path, word_path, wide_path, word_line, line_start, line_end};
 
-use crate::svg::drawing::Drawing;
 use crate::svg::elements::Rectangle;
 use crate::svg::lane::Lane;
+use crate::svg::svg_drawing::SvgDrawing;
 use crate::svg::value_group::ValueGroup;
 use crate::{Cell, Events, is_still, still_count};
 use mp_streams::{Failed, Out, Sink, Text};
@@ -16,7 +16,7 @@ use mp_streams::{Failed, Out, Sink, Text};
 pub(crate) struct Drawn<'a> {
     pub(crate) lane: Lane,
     pub(crate) cells: &'a [Cell],
-    pub(crate) drawing: Drawing,
+    pub(crate) drawing: SvgDrawing,
     ghost few: { length cells.now < 2 ^ 32 },
 }
 
@@ -46,10 +46,10 @@ impl<'a> Drawn<'a> {
     {
         let cell = self.cells[column as usize];
         match self.drawing {
-            Drawing::Bands => put_band(out, self.lane, column, cell.events),
-            Drawing::Bits => put_bit(out, self.lane, column, cell),
-            Drawing::Values => self.put_value(out, column, cell),
-            Drawing::Words => {
+            SvgDrawing::Bands => put_band(out, self.lane, column, cell.events),
+            SvgDrawing::Bits => put_bit(out, self.lane, column, cell),
+            SvgDrawing::Values => self.put_value(out, column, cell),
+            SvgDrawing::Words => {
                 let (still, next) = (is_still(cell), self.is_next_still(column));
                 put_word(out, self.lane, column, still, next)
             }

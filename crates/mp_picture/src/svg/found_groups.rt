@@ -6,13 +6,13 @@ ghost use Rattle.mp_model.specs.declared.finding.Finding.{Finding as Found};
 ghost use Rattle.mp_picture.specs.Found.{is_within};
 ghost use Rattle.mp_picture.specs.svg.FoundGroups.{place_kind, place_number, mark_group, mark_groups, words_end, word_end, mark, row_among, finding_group, finding_groups};
 
+use crate::place_name;
 use crate::svg::elements::Label;
 use crate::svg::frame::Frame;
 use crate::svg::lane::Lane;
 use crate::svg::mark_rows::{MarkRow, is_at};
 use mp_model::{Finding, Place};
 use mp_netlist::Netlist;
-use crate::place_name;
 use mp_report::FindingText;
 use mp_streams::{Failed, Out, Sink, Text};
 
@@ -149,24 +149,24 @@ fn put_finding<S: Sink>(
     let title = ("<title>", text, "</title>");
     let number = (" data-column=\"", column, "\"");
     let start = "<g class=\"finding\"";
-    let mark = Mark { lane, column };
+    let mark = FindingMark { lane, column };
     (start, number, ">", (title, mark, "</g>\n")).put_to(out)
 }
 
 /// The mark of a finding in a column: a rhomb as wide as it.
 #[derive(Clone, Copy)]
-struct Mark {
+struct FindingMark {
     lane: Lane,
     column: u32,
 }
 
-impl Text for Mark {
+impl Text for FindingMark {
     ghost use Rattle.mp_picture.specs.svg.FoundGroups.{mark};
 
     ghost text = { λ shape. mark shape.lane shape.column };
 
     fn put_to<S: Sink>(&self, out: &mut Out<S>) -> Result<(), Failed> {
-        let Mark { lane, column } = *self;
+        let FindingMark { lane, column } = *self;
         let (x, end) = (lane.begin(column), lane.end(column));
         let (high, middle, low) = (lane.below_top(2), lane.below_top(8), lane.below_top(14));
         let left = ("<path d=\"M", x, " ", middle);

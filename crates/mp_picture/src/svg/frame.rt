@@ -1,7 +1,7 @@
 //! Where the columns of an SVG stand.
 use crate::svg::lane::Lane;
-use itoa::Buffer;
 use crate::{Columns, last_tick, tick_step};
+use itoa::Buffer;
 
 /// The columns of an SVG, from a point on.
 #[derive(Clone, Copy, Debug)]

@@ -4,9 +4,9 @@ ghost use Rattle.mp_model.specs.declared.finding.Finding.{Finding as Found};
 ghost use Rattle.mp_picture.specs.Found.{is_within};
 ghost use Rattle.mp_picture.specs.svg.MarkRows.{is_at, last_of, rows_at, mark_rows};
 
+use crate::{Columns, is_place};
 use mp_model::{Finding, Place};
 use mp_modules::FindingCode;
-use crate::{Columns, is_place};
 use std::alloc::{AllocError, Global};
 
 /// A row of a picture: a code that is found at a place, and the column of its last finding there.

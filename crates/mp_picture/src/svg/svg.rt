@@ -13,9 +13,9 @@ use crate::svg::head::{put_head, title_end};
 use crate::svg::leads::put_lead_group;
 use crate::svg::mark_rows::{MarkRow, mark_rows};
 use crate::svg::wire_group::put_wire_group;
+use crate::{Picture, cells, found_within, margin_of, rows_of};
 use mp_model::Finding;
 use mp_netlist::WireId;
-use crate::{Picture, cells, found_within, margin_of, rows_of};
 use mp_streams::{Out, Sink, WriteError};
 use std::alloc::Global;
 

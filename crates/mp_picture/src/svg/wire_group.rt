@@ -4,12 +4,12 @@ ghost use Rattle.mp_streams.specs.Outgoing.{Writes};
 ghost use Rattle.mp_picture.specs.svg.Columns.{cell_at};
 ghost use Rattle.mp_picture.specs.svg.WireGroups.{level_before, wire_start, bits, words, wire_shape, wire_group};
 
-use crate::svg::drawing::Drawing;
 use crate::svg::drawn::Drawn;
 use crate::svg::elements::Label;
 use crate::svg::lane::Lane;
-use mp_netlist::WireRecord;
+use crate::svg::svg_drawing::SvgDrawing;
 use crate::{Cell, Events};
+use mp_netlist::WireRecord;
 use mp_streams::{Failed, Out, Sink, Text};
 
 const PATH_START: &str = "<path class=\"level\" d=\"";
@@ -73,13 +73,13 @@ fn put_bits<S: Sink>(out: &mut Out<S>, lane: Lane, cells: &[Cell]) -> Result<(),
     let first = first_cell(cells);
     let y = lane.height(level_before(first));
     let start = ("M", lane.begin(0), " ", y);
-    let drawing = Drawing::Bands;
+    let drawing = SvgDrawing::Bands;
     let bands = Drawn {
         lane,
         cells,
         drawing,
     };
-    let drawing = Drawing::Bits;
+    let drawing = SvgDrawing::Bits;
     let path = Drawn {
         lane,
         cells,
@@ -93,13 +93,13 @@ fn put_words<S: Sink>(out: &mut Out<S>, lane: Lane, cells: &[Cell]) -> Result<()
     requires { length cells.now < 2 ^ 32 }
     ensures { Writes result out.old out.new (words lane cells.now) }
 {
-    let drawing = Drawing::Values;
+    let drawing = SvgDrawing::Values;
     let values = Drawn {
         lane,
         cells,
         drawing,
     };
-    let drawing = Drawing::Words;
+    let drawing = SvgDrawing::Words;
     let path = Drawn {
         lane,
         cells,

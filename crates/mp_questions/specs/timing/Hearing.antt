@@ -7,25 +7,25 @@ use Rattle.mp_netlist.specs.Circuit.{Circuit}
 use Rattle.mp_model.specs.Waves.{state}
 use Rattle.mp_questions.specs.timing.Events.{since}
 use Rattle.mp_questions.specs.timing.Waits.{given, waiting}
-use Rattle.mp_questions.specs.declared.timing.heard.Heard.{Heard}
-use Rattle.mp_questions.specs.declared.timing.ears.Ears.{Ears}
+use Rattle.mp_questions.specs.declared.timing.delayed_input.DelayedInput.{DelayedInput}
+use Rattle.mp_questions.specs.declared.timing.input_ports.InputPorts.{InputPorts}
 use Rattle.mp_questions.specs.declared.timing.marks.Marks.{Marks}
-use Rattle.mp_questions.specs.declared.timing.watch.Watch.{Watch}
+use Rattle.mp_questions.specs.declared.timing.client_watch.ClientWatch.{ClientWatch}
 
 -- ---- inputs
 
 -- a level is heard below an end
-pub record Hears (f : ℕ → ℕ) (end : ℕ) (h : Heard) : Type 0 where
+pub record Hears (f : ℕ → ℕ) (end : ℕ) (h : DelayedInput) : Type 0 where
   pub form : IsWaveform h.wave.now
   pub levels : (t : ℕ) → t < end → level_of h.wave.now (t - h.delay) ≡ f t
 
 -- where there is no port the level is 0
-abbrev pub HearsPort : (ℕ → ℕ) → ℕ → Option Heard → Type 0
+abbrev pub HearsPort : (ℕ → ℕ) → ℕ → Option DelayedInput → Type 0
 HearsPort f end None = (t : ℕ) → t < end → 0 ≡ f t
 HearsPort f end (Some h) = Hears f end h
 
 -- each port that a module can have hears the level of an input
-pub record AreHeard (x : ℕ → List ℕ) (end : ℕ) (ears : Ears) : Type 0 where
+pub record AreHeard (x : ℕ → List ℕ) (end : ℕ) (ears : InputPorts) : Type 0 where
   pub first : HearsPort (λ t. slice_index (x t) 0) end ears.first
   pub second : HearsPort (λ t. slice_index (x t) 1) end ears.second
   pub third : HearsPort (λ t. slice_index (x t) 2) end ears.third
@@ -51,6 +51,6 @@ pub record AreMarks (n : Circuit) (m : ℕ) (r : ModuleRecord) (t : ℕ) (marks 
   pub second_waiting : marks.second_waiting ≡ since (waiting n m Second) t
 
 -- the state of a module at a time, and since when
-pub record IsWatch (n : Circuit) (m : ℕ) (r : ModuleRecord) (t : ℕ) (watch : Watch) : Type 0 where
+pub record IsWatch (n : Circuit) (m : ℕ) (r : ModuleRecord) (t : ℕ) (watch : ClientWatch) : Type 0 where
   pub memory : watch.memory ≡ state n m t
   pub marks : AreMarks n m r t watch.marks

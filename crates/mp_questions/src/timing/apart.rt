@@ -4,11 +4,15 @@ ghost use Rattle.mp_questions.specs.timing.Events.{since};
 ghost use Rattle.mp_questions.specs.timing.Hearing.{HearsPort};
 ghost use Rattle.mp_questions.specs.timing.Waits.{apart};
 
-use crate::timing::heard::{Heard, since};
+use crate::timing::delayed_input::{DelayedInput, since};
 
 /// The time of the last event up to a time that just one of two inputs of width 1 had, or 0 where there was none: since then they differ
 /// where they do, and agree where they do. It looks back over the times at which both had an event.
-pub(crate) fn apart_since(one: Option<Heard<'_>>, other: Option<Heard<'_>>, time: u32) -> u32
+pub(crate) fn apart_since(
+    one: Option<DelayedInput<'_>>,
+    other: Option<DelayedInput<'_>>,
+    time: u32,
+) -> u32
     requires { time < 2 ^ 31 }
     ensures { (f g : ℕ → ℕ) (end : ℕ) → HearsPort f end one.entry → HearsPort g end other.entry → time < end
         → ((t : ℕ) → f t < 2) → ((t : ℕ) → g t < 2) → result ≡ since (apart f g) time }

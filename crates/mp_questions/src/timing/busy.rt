@@ -7,14 +7,14 @@ ghost use Rattle.mp_model.specs.Waves.{level};
 ghost use Rattle.mp_questions.specs.timing.Hearing.{Hears};
 ghost use Rattle.mp_questions.specs.timing.Waits.{bundle_wait, busy_wait};
 
-use crate::timing::heard::Heard;
+use crate::timing::delayed_input::DelayedInput;
 use crate::timing::lines::{put_since, wire_name};
-use crate::timing::moment::Moment;
+use crate::timing::wait_moment::WaitMoment;
 use mp_netlist::{BundleId, BundleRecord, WireId};
 use mp_streams::{Failed, Out, Sink};
 
 /// Writes the lines of the bundles.
-pub(crate) fn put_bundles<S: Sink>(out: &mut Out<S>, at: &Moment<'_>) -> Result<(), Failed>
+pub(crate) fn put_bundles<S: Sink>(out: &mut Out<S>, at: &WaitMoment<'_>) -> Result<(), Failed>
     ensures { Writes result out.old out.new (flat_map (bundle_wait at.now.netlist.now at.now.time) (range_with_len 0 (length at.now.netlist.now.bundles))) }
 {
     for number in 0..at.netlist.bundle_slots() {
@@ -24,7 +24,7 @@ pub(crate) fn put_bundles<S: Sink>(out: &mut Out<S>, at: &Moment<'_>) -> Result<
 }
 
 /// Writes the line of a bundle, and nothing where none stands.
-fn put_bundle<S: Sink>(out: &mut Out<S>, at: &Moment<'_>, id: BundleId) -> Result<(), Failed>
+fn put_bundle<S: Sink>(out: &mut Out<S>, at: &WaitMoment<'_>, id: BundleId) -> Result<(), Failed>
     ensures { Writes result out.old out.new (bundle_wait at.now.netlist.now at.now.time id.0) }
 {
     match at.netlist.bundle(id) {
@@ -34,7 +34,11 @@ fn put_bundle<S: Sink>(out: &mut Out<S>, at: &Moment<'_>, id: BundleId) -> Resul
 }
 
 /// Writes that a bundle waits for its acknowledge, where it is busy.
-fn put_busy<S: Sink>(out: &mut Out<S>, at: &Moment<'_>, bundle: &BundleRecord) -> Result<(), Failed>
+fn put_busy<S: Sink>(
+    out: &mut Out<S>,
+    at: &WaitMoment<'_>,
+    bundle: &BundleRecord,
+) -> Result<(), Failed>
     requires { IsBundle at.now.netlist.now bundle.now }
     ensures { Writes result out.old out.new (busy_wait at.now.netlist.now bundle.now at.now.time) }
 {
@@ -55,11 +59,11 @@ fn put_busy<S: Sink>(out: &mut Out<S>, at: &Moment<'_>, bundle: &BundleRecord) -
 }
 
 /// What is heard of a wire that stands without a delay.
-fn prompt<'a>(at: &Moment<'a>, wire: WireId) -> Heard<'a>
+fn prompt<'a>(at: &WaitMoment<'a>, wire: WireId) -> DelayedInput<'a>
     requires { IsSome (wire_at at.now.netlist.now wire.0) }
     ensures { Hears (level at.now.netlist.now wire.0) at.now.netlist.now.horizon result }
 {
-    Heard {
+    DelayedInput {
         wave: at.wave_of(wire),
         delay: 0,
     }

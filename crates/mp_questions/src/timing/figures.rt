@@ -9,11 +9,11 @@ use mp_wave::WaveChanges;
 
 /// The times of the first and of the last event, where there is one.
 #[derive(Clone, Copy)]
-pub(crate) struct Ends<'a> {
+pub(crate) struct FirstAndLast<'a> {
     pub(crate) events: WaveChanges<'a>,
 }
 
-impl<'a> Text for Ends<'a> {
+impl<'a> Text for FirstAndLast<'a> {
     ghost use Rattle.mp_wave.specs.WaveChanges.{changes_in};
     ghost use Rattle.mp_questions.specs.timing.Events.{times_of};
     ghost use Rattle.mp_questions.specs.timing.Measures.{ends_text};

@@ -8,7 +8,7 @@ ghost use Rattle.mp_questions.specs.timing.Events.{event_times};
 ghost use Rattle.mp_questions.specs.timing.Measures.{bundle_line, bundle_measure, wire_measure, measure};
 
 use crate::timing::events::events_within;
-use crate::timing::figures::{Ends, Least, LeastAndMost, put_figures};
+use crate::timing::figures::{FirstAndLast, Least, LeastAndMost, put_figures};
 use crate::timing::margins::{gaps, responses, setups};
 use crate::timing::range::{TimeRange, Units};
 use mp_model::Waves;
@@ -72,7 +72,7 @@ fn put_wire<S: Sink>(
         return Ok(());
     };
     let events = events_within(netlist, waves, wire, units);
-    let ends = Ends { events };
+    let ends = FirstAndLast { events };
     let gaps = LeastAndMost {
         word: "",
         found: gaps(events),

@@ -11,12 +11,12 @@ ghost use Rattle.mp_questions.specs.timing.Waits.{waits, module_wait, kind_wait,
 
 use crate::timing::apart::apart_since;
 use crate::timing::busy::put_bundles;
-use crate::timing::ears::Ears;
-use crate::timing::heard::{level_at, since};
+use crate::timing::client_watch::{ClientWatch, follow};
+use crate::timing::delayed_input::{level_at, since};
+use crate::timing::input_ports::InputPorts;
 use crate::timing::lines::{put_input, put_since};
-use crate::timing::moment::Moment;
 use crate::timing::range::read_time;
-use crate::timing::watch::{Watch, follow};
+use crate::timing::wait_moment::WaitMoment;
 use mp_model::Waves;
 use mp_modules::{Client, Kind, Rendezvous};
 use mp_netlist::{ModuleId, ModuleRecord, Netlist};
@@ -40,7 +40,7 @@ pub fn put_waits<S: Sink>(
     ensures { Writes result out.old out.new (waits netlist.now time) }
 {
     let time = read_time(netlist.horizon(), time);
-    let at = Moment {
+    let at = WaitMoment {
         netlist,
         waves,
         time,
@@ -50,7 +50,7 @@ pub fn put_waits<S: Sink>(
 }
 
 /// Writes the lines of the modules.
-fn put_modules<S: Sink>(out: &mut Out<S>, at: &Moment<'_>) -> Result<(), Failed>
+fn put_modules<S: Sink>(out: &mut Out<S>, at: &WaitMoment<'_>) -> Result<(), Failed>
     ensures { Writes result out.old out.new (flat_map (module_wait at.now.netlist.now at.now.time) (range_with_len 0 (length at.now.netlist.now.modules))) }
 {
     for number in 0..at.netlist.module_slots() {
@@ -60,7 +60,7 @@ fn put_modules<S: Sink>(out: &mut Out<S>, at: &Moment<'_>) -> Result<(), Failed>
 }
 
 /// Writes the lines of a module, and nothing where none stands.
-fn put_module<S: Sink>(out: &mut Out<S>, at: &Moment<'_>, id: ModuleId) -> Result<(), Failed>
+fn put_module<S: Sink>(out: &mut Out<S>, at: &WaitMoment<'_>, id: ModuleId) -> Result<(), Failed>
     ensures { Writes result out.old out.new (module_wait at.now.netlist.now at.now.time id.0) }
 {
     match at.netlist.module(id) {
@@ -71,7 +71,7 @@ fn put_module<S: Sink>(out: &mut Out<S>, at: &Moment<'_>, id: ModuleId) -> Resul
 
 fn put_kind<S: Sink>(
     out: &mut Out<S>,
-    at: &Moment<'_>,
+    at: &WaitMoment<'_>,
     id: ModuleId,
     found: &ModuleRecord,
 ) -> Result<(), Failed>
@@ -92,7 +92,7 @@ fn put_kind<S: Sink>(
 /// Writes for which input a C waits.
 fn put_rendezvous<S: Sink>(
     out: &mut Out<S>,
-    at: &Moment<'_>,
+    at: &WaitMoment<'_>,
     found: &ModuleRecord,
 ) -> Result<(), Failed>
     requires form { IsModule at.now.netlist.now found.now }
@@ -100,7 +100,7 @@ fn put_rendezvous<S: Sink>(
     ensures { (m : ℕ) → module_at at.now.netlist.now m ≡ Some found.now → Writes result out.old out.new (rendezvous_wait at.now.netlist.now m found.now at.now.time) }
 {
     let _horizon = at.netlist.horizon();
-    let ears = Ears::of(at, found);
+    let ears = InputPorts::of(at, found);
     let bubbles = Rendezvous::from_params(found.params.as_slice());
     let a = bubbled(bubbles.bubble_a, level_at(ears.first, at.time));
     let b = bubbled(bubbles.bubble_b, level_at(ears.second, at.time));
@@ -117,7 +117,7 @@ fn put_rendezvous<S: Sink>(
 }
 
 /// The output of a C whose inputs differ since a time: the level of both before that, or its first output where that is 0.
-fn joined_before(ears: Ears<'_>, bubbles: Rendezvous, since: u32) -> u64
+fn joined_before(ears: InputPorts<'_>, bubbles: Rendezvous, since: u32) -> u64
     ensures first { since ≡ 0 → result ≡ (if bubbles.initial then 1 else 0) }
     ensures later { (f : ℕ → ℕ) (end e : ℕ) → HearsPort f end ears.entry.first → since ≡ suc e → e < end → result ≡ bubbled bubbles.bubble_a (f e) }
 {
@@ -141,7 +141,7 @@ fn bubbled(bubble: bool, level: u64) -> u64
 /// Writes that a CALL waits for the done event of the client that it serves.
 fn put_call<S: Sink>(
     out: &mut Out<S>,
-    at: &Moment<'_>,
+    at: &WaitMoment<'_>,
     id: ModuleId,
     found: &ModuleRecord,
 ) -> Result<(), Failed>
@@ -163,7 +163,7 @@ fn put_call<S: Sink>(
 /// Writes that an ARBITER waits for its owner's done event, and that it keeps the other client's request.
 fn put_arbiter<S: Sink>(
     out: &mut Out<S>,
-    at: &Moment<'_>,
+    at: &WaitMoment<'_>,
     id: ModuleId,
     found: &ModuleRecord,
 ) -> Result<(), Failed>
@@ -190,9 +190,9 @@ fn put_arbiter<S: Sink>(
 /// Writes that an ARBITER keeps the first client's request, where it waits.
 fn put_first_kept<S: Sink>(
     out: &mut Out<S>,
-    at: &Moment<'_>,
+    at: &WaitMoment<'_>,
     found: &ModuleRecord,
-    watch: Watch,
+    watch: ClientWatch,
 ) -> Result<(), Failed>
     requires form { IsModule at.now.netlist.now found.now }
     requires kind { found.now.kind ≡ kinds.Arbiter }
@@ -208,9 +208,9 @@ fn put_first_kept<S: Sink>(
 /// Writes that an ARBITER keeps the second client's request, where it waits.
 fn put_second_kept<S: Sink>(
     out: &mut Out<S>,
-    at: &Moment<'_>,
+    at: &WaitMoment<'_>,
     found: &ModuleRecord,
-    watch: Watch,
+    watch: ClientWatch,
 ) -> Result<(), Failed>
     requires form { IsModule at.now.netlist.now found.now }
     requires kind { found.now.kind ≡ kinds.Arbiter }
@@ -226,7 +226,7 @@ fn put_second_kept<S: Sink>(
 /// Writes what a REG holds.
 fn put_register<S: Sink>(
     out: &mut Out<S>,
-    at: &Moment<'_>,
+    at: &WaitMoment<'_>,
     found: &ModuleRecord,
 ) -> Result<(), Failed>
     requires form { IsModule at.now.netlist.now found.now }
@@ -234,7 +234,7 @@ fn put_register<S: Sink>(
     ensures { (m : ℕ) → module_at at.now.netlist.now m ≡ Some found.now → Writes result out.old out.new (register_wait at.now.netlist.now m found.now at.now.time) }
 {
     let _horizon = at.netlist.horizon();
-    let ears = Ears::of(at, found);
+    let ears = InputPorts::of(at, found);
     if level_at(ears.second, at.time) == level_at(ears.third, at.time) {
         return Ok(());
     }
@@ -245,7 +245,7 @@ fn put_register<S: Sink>(
 }
 
 /// What a REG that is held since a time holds: its data before that, or its first level where that is 0.
-fn held_before(ears: Ears<'_>, params: &[u64], since: u32) -> u64
+fn held_before(ears: InputPorts<'_>, params: &[u64], since: u32) -> u64
     ensures first { since ≡ 0 → result ≡ slice_index params.now 0 }
     ensures later { (f : ℕ → ℕ) (end e : ℕ) → HearsPort f end ears.entry.first → since ≡ suc e → e < end → result ≡ f e }
 {

@@ -7,7 +7,7 @@ use Rattle.mp_netlist.specs.Circuit.{Circuit, IsCircuit, wire_at, module_at}
 use Rattle.mp_model.specs.Levels.{initial_of, inputs_by}
 use Rattle.mp_model.specs.Waves.{level, state, slot_wave}
 use Rattle.mp_partition.specs.runs.Checkpoints.{state_before}
-use Rattle.mp_partition.specs.regions.Regions.{home_of}
+use Rattle.mp_partition.specs.regions.Regions.{partition_of}
 use Rattle.mp_redo.specs.apart.Parts.{part_of, AreUnconnected, IsDrivenWithin, IsDrivenElsewhere}
 
 -- the wave of a wire that stays at its initial level
@@ -36,15 +36,15 @@ OthersHaveNoChanges = (n : Circuit) → IsCircuit n → (homes : List ℕ) (k w 
 
 -- a module that is at home in the part has its states
 abbrev pub PartsHaveStates : Type 0
-PartsHaveStates = (n : Circuit) → IsCircuit n → (homes : List ℕ) → AreUnconnected n homes → (k m t : ℕ) (r : ModuleRecord) → home_of homes m ≡ k →
+PartsHaveStates = (n : Circuit) → IsCircuit n → (homes : List ℕ) → AreUnconnected n homes → (k m t : ℕ) (r : ModuleRecord) → partition_of homes m ≡ k →
     module_at n m ≡ Some r → t < n.horizon → state (part_of n homes k) m t ≡ state n m t
 
 -- also before a unit
 abbrev pub PartsHaveStatesBefore : Type 0
-PartsHaveStatesBefore = (n : Circuit) → IsCircuit n → (homes : List ℕ) → AreUnconnected n homes → (k m t : ℕ) (r : ModuleRecord) → home_of homes m ≡ k →
+PartsHaveStatesBefore = (n : Circuit) → IsCircuit n → (homes : List ℕ) → AreUnconnected n homes → (k m t : ℕ) (r : ModuleRecord) → partition_of homes m ≡ k →
     module_at n m ≡ Some r → t < n.horizon → state_before (part_of n homes k) m r t ≡ state_before n m r t
 
 -- and the levels at its inputs
 abbrev pub PartsHaveInputs : Type 0
-PartsHaveInputs = (n : Circuit) → IsCircuit n → (homes : List ℕ) → AreUnconnected n homes → (k m t : ℕ) (r : ModuleRecord) → home_of homes m ≡ k →
+PartsHaveInputs = (n : Circuit) → IsCircuit n → (homes : List ℕ) → AreUnconnected n homes → (k m t : ℕ) (r : ModuleRecord) → partition_of homes m ≡ k →
     module_at n m ≡ Some r → t < n.horizon → inputs_by (part_of n homes k) (level (part_of n homes k)) r t ≡ inputs_by n (level n) r t

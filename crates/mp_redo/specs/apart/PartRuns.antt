@@ -6,8 +6,8 @@ use Rattle.mp_netlist.specs.Circuit.{Circuit, IsCircuit, wire_at, module_at}
 use Rattle.mp_model.specs.Waves.{slot_wave}
 use Rattle.mp_partition.specs.runs.Outcomes.{Outcome, wave_of, end_of}
 use Rattle.mp_partition.specs.runs.Runs.{IsRun, end_memory}
-use Rattle.mp_partition.specs.regions.Regions.{home_of}
-use Rattle.mp_depend.specs.history.Endings.{HasCheckpoints}
+use Rattle.mp_partition.specs.regions.Regions.{partition_of}
+use Rattle.mp_depend.specs.recording.Endings.{HasCheckpoints}
 use Rattle.mp_redo.specs.apart.Parts.{part_of, AreUnconnected, IsDrivenWithin}
 
 -- the run of a netlist has the wave that a wire has in a part, where no other part drives the wire
@@ -18,12 +18,12 @@ RunsHavePartWaves = (n : Circuit) → IsCircuit n → (homes : List ℕ) → Are
 -- and the last state that a module of the part has in it
 abbrev pub RunsHavePartEnds : Type 0
 RunsHavePartEnds = (n : Circuit) → IsCircuit n → (homes : List ℕ) → AreUnconnected n homes → (run : Outcome) → IsRun n run → (k m : ℕ) →
-    home_of homes m ≡ k → end_of run m ≡ end_memory (part_of n homes k) m
+    partition_of homes m ≡ k → end_of run m ≡ end_memory (part_of n homes k) m
 
 -- and its states before checkpoints
 abbrev pub RunsKeepPartStates : Type 0
 RunsKeepPartStates = (n : Circuit) → IsCircuit n → (homes : List ℕ) → AreUnconnected n homes → (run : Outcome) → IsRun n run → (k m : ℕ) (r : ModuleRecord) →
-    home_of homes m ≡ k → module_at n m ≡ Some r → HasCheckpoints (part_of n homes k) m (slot_at run.kept m)
+    partition_of homes m ≡ k → module_at n m ≡ Some r → HasCheckpoints (part_of n homes k) m (slot_at run.kept m)
 
 -- the run of a part has the wave of each wire that no other part drives
 abbrev pub PartRunsHaveWaves : Type 0
@@ -33,9 +33,9 @@ PartRunsHaveWaves = (n : Circuit) → IsCircuit n → (homes : List ℕ) → Are
 -- and the last state of each module that is at home there
 abbrev pub PartRunsHaveEnds : Type 0
 PartRunsHaveEnds = (n : Circuit) → IsCircuit n → (homes : List ℕ) → AreUnconnected n homes → (k : ℕ) (run : Outcome) → IsRun (part_of n homes k) run → (m : ℕ) →
-    home_of homes m ≡ k → end_of run m ≡ end_memory n m
+    partition_of homes m ≡ k → end_of run m ≡ end_memory n m
 
 -- and its states before checkpoints
 abbrev pub PartRunsKeepStates : Type 0
 PartRunsKeepStates = (n : Circuit) → IsCircuit n → (homes : List ℕ) → AreUnconnected n homes → (k : ℕ) (run : Outcome) → IsRun (part_of n homes k) run → (m : ℕ) (r : ModuleRecord) →
-    home_of homes m ≡ k → module_at n m ≡ Some r → HasCheckpoints n m (slot_at run.kept m)
+    partition_of homes m ≡ k → module_at n m ≡ Some r → HasCheckpoints n m (slot_at run.kept m)

@@ -5,7 +5,7 @@ use Rattle.mp_netlist.specs.declared.driver.Driver.TheVariants.{Nothing, Port}
 use Rattle.mp_netlist.specs.Circuit.{Circuit, IsCircuit, Drives, wire_at, module_at}
 use Rattle.mp_netlist.specs.Drivers.{driver, is_port}
 use Rattle.mp_partition.specs.regions.Readers.{Reads}
-use Rattle.mp_partition.specs.regions.Regions.{home_of, region}
+use Rattle.mp_partition.specs.regions.Regions.{partition_of, region}
 use Rattle.mp_partition.specs.regions.Divisions.{IsDivision}
 
 -- the netlist of a part, which hears of no other
@@ -14,18 +14,18 @@ part_of n homes k = region n homes k []
 
 -- no wire connects modules of two parts: what reads a wire is at home with what drives it
 abbrev pub AreUnconnected : Circuit → List ℕ → Type 0
-AreUnconnected n homes = (m w q p : ℕ) → Reads n m w → Drives n q p w → home_of homes m ≡ home_of homes q
+AreUnconnected n homes = (m w q p : ℕ) → Reads n m w → Drives n q p w → partition_of homes m ≡ partition_of homes q
 
 -- no module of another part drives the wire
 abbrev pub IsDrivenWithin : Circuit → List ℕ → ℕ → ℕ → Type 0
-IsDrivenWithin n homes k w = (m p : ℕ) → Drives n m p w → home_of homes m ≡ k
+IsDrivenWithin n homes k w = (m p : ℕ) → Drives n m p w → partition_of homes m ≡ k
 
 -- a module of another part drives the wire
 pub record IsDrivenElsewhere (n : Circuit) (homes : List ℕ) (k w : ℕ) : Type 0 where
   pub part : ℕ
   pub port : ℕ
   pub drives : Drives n part port w
-  pub elsewhere : home_of homes part ≡ k → ⊥
+  pub elsewhere : partition_of homes part ≡ k → ⊥
 
 -- the parts of a division in which none hears of another are unconnected
 abbrev pub DivisionsAreUnconnected : Type 0
@@ -41,7 +41,7 @@ UndrivenAreWithin = (n : Circuit) (homes : List ℕ) (k w : ℕ) → IsCircuit n
 
 -- a wire is driven in the part of its driver
 abbrev pub DrivenAreAtHome : Type 0
-DrivenAreAtHome = (n : Circuit) (homes : List ℕ) (w p : ℕ) (m : ModuleId) → IsCircuit n → driver n w ≡ Port m p → IsDrivenWithin n homes (home_of homes m.0) w
+DrivenAreAtHome = (n : Circuit) (homes : List ℕ) (w p : ℕ) (m : ModuleId) → IsCircuit n → driver n w ≡ Port m p → IsDrivenWithin n homes (partition_of homes m.0) w
 
 -- a part has all wires
 abbrev pub PartsHaveWires : Type 0
@@ -49,11 +49,11 @@ PartsHaveWires = (n : Circuit) (homes : List ℕ) (k w : ℕ) → wire_at (part_
 
 -- and the modules that are at home there
 abbrev pub PartsHaveModules : Type 0
-PartsHaveModules = (n : Circuit) (homes : List ℕ) (k m : ℕ) → home_of homes m ≡ k → module_at (part_of n homes k) m ≡ module_at n m
+PartsHaveModules = (n : Circuit) (homes : List ℕ) (k m : ℕ) → partition_of homes m ≡ k → module_at (part_of n homes k) m ≡ module_at n m
 
 -- and no others
 abbrev pub PartsHaveNoOthers : Type 0
-PartsHaveNoOthers = (n : Circuit) (homes : List ℕ) (k m : ℕ) → (home_of homes m ≡ k → ⊥) → module_at (part_of n homes k) m ≡ None
+PartsHaveNoOthers = (n : Circuit) (homes : List ℕ) (k m : ℕ) → (partition_of homes m ≡ k → ⊥) → module_at (part_of n homes k) m ≡ None
 
 -- it has as many slots
 pub record HasPlaces (n part : Circuit) : Type 0 where
@@ -70,8 +70,8 @@ pub record HasPart (n : Circuit) (homes : List ℕ) (k : ℕ) (part : Circuit) :
   pub wires : part.wires ≡ n.wires
   pub bundles : part.bundles ≡ n.bundles
   pub places : length part.modules ≡ length n.modules
-  pub here : (m : ℕ) → home_of homes m ≡ k → module_at part m ≡ module_at n m
-  pub elsewhere : (m : ℕ) → (home_of homes m ≡ k → ⊥) → module_at part m ≡ None
+  pub here : (m : ℕ) → partition_of homes m ≡ k → module_at part m ≡ module_at n m
+  pub elsewhere : (m : ℕ) → (partition_of homes m ≡ k → ⊥) → module_at part m ≡ None
 
 -- then it is the part
 abbrev pub PartsAreBySlots : Type 0

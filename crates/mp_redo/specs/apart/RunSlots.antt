@@ -6,7 +6,7 @@ use Rattle.mp_netlist.specs.Circuit.{Circuit, wire_at, module_at}
 use Rattle.mp_model.specs.Waves.{slot_wave}
 use Rattle.mp_partition.specs.runs.Outcomes.{Outcome, AreSlots}
 use Rattle.mp_partition.specs.runs.Runs.{IsRun, end_memory, AreCheckpoints}
-use Rattle.mp_depend.specs.history.Endings.{HasCheckpoints}
+use Rattle.mp_depend.specs.recording.Endings.{HasCheckpoints}
 
 -- there is a slot for each wire and each module, with what the netlist gives of it
 pub record HasRunSlots (n : Circuit) (run : Outcome) : Type 0 where

@@ -8,11 +8,11 @@ use Rattle.mp_netlist.specs.declared.driver.Driver.{Driver}
 use Rattle.mp_netlist.specs.declared.driver.Driver.TheVariants.{Port}
 use Rattle.mp_netlist.specs.Circuit.{Circuit, Drives}
 use Rattle.mp_depend.specs.Drivers.{driver_in}
-use Rattle.mp_partition.specs.regions.Regions.{home_of}
+use Rattle.mp_partition.specs.regions.Regions.{partition_of}
 
 -- a module that drives the wire of an input, by these drivers of all wires, is at home here
 abbrev pub IsReadFrom : List Driver → List ℕ → ℕ → Input → Type 0
-IsReadFrom drivers homes home input = (id : ModuleId) (p : ℕ) → driver_in drivers input.wire.0 ≡ Port id p → home_of homes id.0 ≡ home
+IsReadFrom drivers homes home input = (id : ModuleId) (p : ℕ) → driver_in drivers input.wire.0 ≡ Port id p → partition_of homes id.0 ≡ home
 
 -- the output drives a wire after the delay
 pub record IsAfter (output : Output) (delay : ℕ) : Type 0 where
@@ -37,10 +37,10 @@ pub record DrivesAfter (n : Circuit) (m delay : ℕ) : Type 0 where
 -- so does a module of the part
 pub record HasDelay (n : Circuit) (homes : List ℕ) (k delay : ℕ) : Type 0 where
   pub part : ℕ
-  pub home : home_of homes part ≡ k
+  pub home : partition_of homes part ≡ k
   pub after : DrivesAfter n part delay
 
 -- whether a module of another part drives the wire, by these drivers of all wires
 pub record TellsElsewhere (drivers : List Driver) (homes : List ℕ) (k w : ℕ) (answer : Bool) : Type 0 where
-  pub elsewhere : answer ≡ true → (id : ModuleId) × (p : ℕ) × (driver_in drivers w ≡ Port id p) × (home_of homes id.0 ≡ k → ⊥)
-  pub within : answer ≡ false → (id : ModuleId) (p : ℕ) → driver_in drivers w ≡ Port id p → home_of homes id.0 ≡ k
+  pub elsewhere : answer ≡ true → (id : ModuleId) × (p : ℕ) × (driver_in drivers w ≡ Port id p) × (partition_of homes id.0 ≡ k → ⊥)
+  pub within : answer ≡ false → (id : ModuleId) (p : ℕ) → driver_in drivers w ≡ Port id p → partition_of homes id.0 ≡ k

@@ -1,6 +1,6 @@
 -- Units in which nothing is set, and no module joins.
 use Rattle.std.specs.Prelude.{◌≡◌, ◌==◌, ℕ, Bool, false, List, [], ◌∷◌}
-use Rattle.mp_kernel.specs.calendar.Calendars.{coming}
+use Rattle.mp_kernel.specs.timers.TimerWheels.{coming}
 use Rattle.mp_simulation.specs.declared.run.stimuli.StimulusChange.{StimulusChange}
 use Rattle.mp_simulation.specs.run.Stimuli.{left_of}
 use Rattle.mp_simulation.specs.bits.Simulators.{slot_at}
@@ -16,9 +16,9 @@ is_due time (s ∷ ss) = s.time == time
 
 -- nothing is set in the unit of a time, the next one: no number comes up in it, and no change at its time is to come
 pub record IsUnset (time : ℕ) (s : Rerun) : Type 0 where
-  pub calendar : coming s.comparison.calendar ≡ []
+  pub timers : coming s.comparison.timers ≡ []
   pub stimuli : is_due time (left_of s.stimuli) ≡ false
-  pub tails : is_due time (left_of s.tails) ≡ false
+  pub pending_outputs : is_due time (left_of s.pending_outputs) ≡ false
 
 -- and no number that is tracked is known to change in it
 pub record IsQuiet (time : ℕ) (s : Rerun) : Type 0 where

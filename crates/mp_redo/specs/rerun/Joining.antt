@@ -47,8 +47,8 @@ HasLooked s new = new ≡ record s {
 -- all is as it was but for the numbers that are listed for old changes, the changes to come that no active module makes, and what is set
 abbrev pub HasSet : Rerun → Rerun → Type 0
 HasSet s new = new ≡ record s {
-  comparison = record (s.comparison) { calendar = new.comparison.calendar; places = new.comparison.places; present = new.comparison.present };
+  comparison = record (s.comparison) { timers = new.comparison.timers; places = new.comparison.places; present = new.comparison.present };
   stimuli = new.stimuli;
-  tails = new.tails;
+  pending_outputs = new.pending_outputs;
   set = new.set;
 }

@@ -11,8 +11,8 @@ use Rattle.mp_kernel.specs.events.Adding.{listed}
 use Rattle.mp_partition.specs.runs.Outcomes.{Outcome}
 use Rattle.mp_simulation.specs.run.Stimuli.{left_of, AreInOrder}
 use Rattle.mp_depend.specs.work.Revisions.{IsKept}
-use Rattle.mp_depend.specs.history.Histories.{IsHistory}
-use Rattle.mp_depend.specs.history.Live.{LeavesAt}
+use Rattle.mp_depend.specs.recording.Recorders.{IsRecorder}
+use Rattle.mp_depend.specs.recording.Live.{LeavesAt}
 use Rattle.mp_active.specs.compare.Comparing.{asleep_at, source_at, HasCursors, IsComplete}
 use Rattle.mp_active.specs.compare.Waking.{numbers_in, slept, AreSourcesOf, HaveOwnWires, HaveOwnLevels}
 use Rattle.mp_active.specs.steps.Sleeping.{IsPutToSleep}
@@ -36,9 +36,9 @@ pub record HaveLeft (leaving : List ModuleId) (s new : Rerun) : Type 0 where
   pub kept : new ≡ record s {
     simulation = new.simulation;
     comparison = new.comparison;
-    tails = new.tails;
+    pending_outputs = new.pending_outputs;
     activity = record (s.activity) { active = new.activity.active };
-    history = new.history;
+    recorder = new.recorder;
   }
   pub seen : new.comparison.seen ≡ s.comparison.seen
   pub left : (m : ℕ) → Contains leaving (record { 0 = m }) → active_of new m ≡ false
@@ -68,7 +68,7 @@ pub record HasFallenAsleep (run : Outcome) (m time : ℕ) (r : ModuleRecord) (s 
   pub compared : new.comparison ≡ record (s.comparison) {
     sources = new.comparison.sources;
     asleep = new.comparison.asleep;
-    calendar = new.comparison.calendar;
+    timers = new.comparison.timers;
     places = new.comparison.places;
   }
   pub cursors : HasCursors run (time - 1) [] new.comparison
@@ -76,16 +76,16 @@ pub record HasFallenAsleep (run : Outcome) (m time : ℕ) (r : ModuleRecord) (s 
   pub asleep : (x : ℕ) → asleep_at new.comparison x ≡ asleep_at s.comparison x + listed x (numbers_in (ports_at s.inputs.items m))
   pub sources : (w : ℕ) → source_at new.comparison w ≡ slept r.outputs time w (source_at s.comparison w)
 
--- the module was active, has fallen asleep, and has left the history; its longest delay is this
+-- the module was active, has fallen asleep, and has left the recorder; its longest delay is this
 pub record HasGone (n : Circuit) (run : Outcome) (m time units : ℕ) (s new : Rerun) : Type 0 where
   pub part : ModuleRecord
   pub stands : module_at n m ≡ Some part
   pub awake : active_of s m ≡ true
   pub mid : Rerun
   pub falls : HasFallenAsleep run m time part s mid
-  pub kept : new ≡ record mid { history = new.history }
+  pub kept : new ≡ record mid { recorder = new.recorder }
   pub told : (old other : Circuit) (outcome : Outcome) (kept : ℕ → ℕ) (live now : ℕ → Bool) → LeavesAt other live now m time → kept m ≡ time →
-      IsHistory old other outcome kept time live mid.history → IsHistory old other outcome kept time now new.history
+      IsRecorder old other outcome kept time live mid.recorder → IsRecorder old other outcome kept time now new.recorder
   pub all : All (λ (o : Output). o.delay ≤ units) part.outputs
   pub most : (bound : ℕ) → All (λ (o : Output). o.delay ≤ bound) part.outputs → units ≤ bound
 
@@ -100,7 +100,7 @@ HasLeftOne n run m time units s new = HasStayed n m units s new ⊎ HasGone n ru
 
 -- the changes within so many units of wires that no active module drives are tails now, and no longer in the wheels
 pub record HasTakenTails (units time : ℕ) (s new : Rerun) : Type 0 where
-  pub kept : new ≡ record s { simulation = new.simulation; tails = new.tails }
+  pub kept : new ≡ record s { simulation = new.simulation; pending_outputs = new.pending_outputs }
   pub wheels : HasTaken (is_gone s.comparison.sources.items) units s.simulation new.simulation
-  pub tails : IsPermutation (left_of s.tails ++ taken_in (is_gone s.comparison.sources.items) time s.simulation units) (left_of new.tails)
-  pub order : AreInOrder (left_of new.tails)
+  pub pending_outputs : IsPermutation (left_of s.pending_outputs ++ taken_in (is_gone s.comparison.sources.items) time s.simulation units) (left_of new.pending_outputs)
+  pub order : AreInOrder (left_of new.pending_outputs)

@@ -50,7 +50,7 @@ pub record IsFollowed (old new : Circuit) (run : Outcome) (numbering : Numbering
   pub cursors : HasCursors run t [] s.comparison
   pub complete : IsComplete run t s.comparison
   pub counted : AreCounted new (active_of s) numbering s.comparison
-  pub tails : AreTails new (active_of s) (until_of s) t (left_of s.tails)
+  pub pending_outputs : AreTails new (active_of s) (until_of s) t (left_of s.pending_outputs)
   pub stimuli : AreSetAnew new (until_of s) t (left_of s.stimuli)
 
 -- and the simulation has the active modules, and the wires that are on

@@ -77,9 +77,9 @@ pub record CanReturn (old new : Circuit) (run : Outcome) (numbering : Numbering)
 
 -- what is known of these wires after t is in the wheels again, and they have no tails any more; all else is as it was
 pub record AreBack (n : Circuit) (numbering : Numbering) (t : ℕ) (wires : ℕ → Bool) (s new : Rerun) : Type 0 where
-  pub kept : new ≡ record s { simulation = new.simulation; tails = new.tails }
+  pub kept : new ≡ record s { simulation = new.simulation; pending_outputs = new.pending_outputs }
   pub ahead : AreAhead n numbering t wires s.simulation new.simulation
-  pub tails : AreToCome n (λ w u. is_tail n (active_of s) (until_of s) w u && not (wires w)) t (left_of new.tails)
+  pub pending_outputs : AreToCome n (λ w u. is_tail n (active_of s) (until_of s) w u && not (wires w)) t (left_of new.pending_outputs)
 
 -- the wheels have the changes of a wire more that come after t, later than one time and earlier than another; all else is as it was
 pub record HasPutSpan (n : Circuit) (w t from to : ℕ) (s new : Rerun) : Type 0 where
@@ -144,8 +144,8 @@ pub record HasReturned (old new : Circuit) (run : Outcome) (numbering : Numberin
   pub asleep : active_of s m ≡ false
   pub lit : ArePortsLit new m (on_of s)
   pub were : HeardChanges
-  pub followed : IsFollowed old new run numbering since t (record s { tails = were })
-  pub tails : AreTails new (with_module (active_of s) m) (until_of s) t (left_of s.tails)
+  pub followed : IsFollowed old new run numbering since t (record s { pending_outputs = were })
+  pub pending_outputs : AreTails new (with_module (active_of s) m) (until_of s) t (left_of s.pending_outputs)
 
 -- a module is told to be active; all else is as it was but for what is compared
 pub record IsToldAwake (m : ℕ) (s new : Rerun) : Type 0 where

@@ -4,12 +4,12 @@ use Rattle.mp_wave.specs.Waveform.{between}
 use Rattle.mp_netlist.specs.Circuit.{Circuit, module_at, stimulus_at}
 use Rattle.mp_partition.specs.runs.Outcomes.{Outcome}
 use Rattle.mp_simulation.specs.run.Stimuli.{left_of}
-use Rattle.mp_kernel.specs.calendar.Calendars.{never}
+use Rattle.mp_kernel.specs.timers.TimerWheels.{never}
 use Rattle.mp_active.specs.declared.compare.comparison.Comparison.{Comparison}
 use Rattle.mp_active.specs.compare.Comparing.{wire_of, delay_of, source_at, old_wave, is_tracked}
 use Rattle.mp_depend.specs.work.Work.{block_of, window_of}
-use Rattle.mp_redo.specs.declared.rerun.ahead.Ahead.{Ahead}
-use Rattle.mp_redo.specs.declared.rerun.ahead.Ahead.TheVariants.{Next, Over}
+use Rattle.mp_redo.specs.declared.rerun.next_step.NextStep.{NextStep}
+use Rattle.mp_redo.specs.declared.rerun.next_step.NextStep.TheVariants.{Next, Over}
 use Rattle.mp_redo.specs.declared.rerun.rerun.Rerun.{Rerun}
 use Rattle.mp_redo.specs.rerun.Reruns.{active_of}
 use Rattle.mp_redo.specs.rerun.Windows.{IsUnderWay, IsAtWindow}
@@ -33,7 +33,7 @@ pub record IsOver (new : Circuit) (run : Outcome) (c : Comparison) (x time : ℕ
 pub record IsSettled (new : Circuit) (run : Outcome) (time : ℕ) (s : Rerun) : Type 0 where
   pub nobody : (m : ℕ) → IsSome (module_at new m) → active_of s m ≡ true → ⊥
   pub stimuli : left_of s.stimuli ≡ []
-  pub tails : left_of s.tails ≡ []
+  pub pending_outputs : left_of s.pending_outputs ≡ []
   pub alike : (x : ℕ) → x < length s.comparison.numbers.wires.items → (is_tracked s.comparison x time ≡ false) ⊎ IsOver new run s.comparison x time
 
 -- the units before a time are over, in windows that end there, and if it isn't the horizon, the rest is that of the old run
@@ -45,6 +45,6 @@ pub record HasEnded (old new : Circuit) (run : Outcome) (end : ℕ) (s : Rerun) 
   pub settled : end < new.horizon → IsSettled new run end s
 
 -- the units before a time and all up to the next are over; or all are
-abbrev pub IsAhead : Circuit → Circuit → Outcome → ℕ → Rerun → Ahead → Type 0
+abbrev pub IsAhead : Circuit → Circuit → Outcome → ℕ → Rerun → NextStep → Type 0
 IsAhead old new run time s (Next next) = (time ≤ next) × (next < new.horizon) × (next < s.window_end) × IsUnderWay old new run (next - 1) s
 IsAhead old new run time s (Over end) = HasEnded old new run end s

@@ -10,12 +10,12 @@ pub record HasTurnedOn (s new : Rerun) : Type 0 where
   pub until : (w : ℕ) → until_of new w ≡ until_of s w
   pub lit : (w : ℕ) → on_of s w ≡ true → on_of new w ≡ true
 
--- a module has become active; what was seen, the history and the window stay
+-- a module has become active; what was seen, the recorder and the window stay
 pub record HasWoken (m : ℕ) (s new : Rerun) : Type 0 where
   pub kept : new ≡ record s {
     simulation = new.simulation;
     comparison = new.comparison;
-    tails = new.tails;
+    pending_outputs = new.pending_outputs;
     activity = record (s.activity) { active = new.activity.active; seats = new.activity.seats; joined = new.activity.joined };
   }
   pub seen : new.comparison.seen ≡ s.comparison.seen
@@ -26,7 +26,7 @@ pub record HaveWoken (s new : Rerun) : Type 0 where
   pub kept : new ≡ record s {
     simulation = new.simulation;
     comparison = new.comparison;
-    tails = new.tails;
+    pending_outputs = new.pending_outputs;
     activity = record (s.activity) { active = new.activity.active; seats = new.activity.seats; joined = new.activity.joined };
   }
   pub seen : new.comparison.seen ≡ s.comparison.seen

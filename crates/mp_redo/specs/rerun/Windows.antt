@@ -8,8 +8,8 @@ use Rattle.mp_partition.specs.runs.Marks.{is_marked}
 use Rattle.mp_partition.specs.runs.Outcomes.{Outcome}
 use Rattle.mp_active.specs.compare.Comparing.{AreUnseen}
 use Rattle.mp_depend.specs.work.Work.{block_of, IsWindow}
-use Rattle.mp_depend.specs.history.Histories.{IsHistory}
-use Rattle.mp_depend.specs.history.Live.{AreAtWork, HaveBecomeLive}
+use Rattle.mp_depend.specs.recording.Recorders.{IsRecorder}
+use Rattle.mp_depend.specs.recording.Live.{AreAtWork, HaveBecomeLive}
 use Rattle.mp_redo.specs.declared.rerun.rerun.Rerun.{Rerun}
 use Rattle.mp_redo.specs.rerun.Reruns.{active_of, IsRerunAt}
 
@@ -20,7 +20,7 @@ pub record AreTouched (old new : Circuit) (marks : List Bool) : Type 0 where
   pub others : (m : ℕ) (r : ModuleRecord) → module_at new m ≡ Some r → is_marked marks m ≡ false → module_at old m ≡ Some r
 
 -- the unit t is over, in a window that begins at a time: since then these modules have joined, each when it was apart first, and those before are kept in
--- the history
+-- the recorder
 pub record IsInWindow (old new : Circuit) (run : Outcome) (from t : ℕ) (s : Rerun) : Type 0 where
   pub is : IsRerunAt old new run (block_of new.horizon from) t s
   pub unseen : AreUnseen (t + 1) s.comparison
@@ -30,7 +30,7 @@ pub record IsInWindow (old new : Circuit) (run : Outcome) (from t : ℕ) (s : Re
   pub within : t < s.window_end
   pub live : ℕ → Bool
   pub work : AreAtWork old new (block_of new.horizon from) from live
-  pub history : IsHistory old new run (λ m. block_of new.horizon from) from live s.history
+  pub recorder : IsRecorder old new run (λ m. block_of new.horizon from) from live s.recorder
   pub joined : HaveBecomeLive new s.activity.joined.items live (active_of s)
   pub apart : (m : ℕ) → Contains s.activity.joined.items (record { 0 = m }) → (u : ℕ) × (from ≤ u) × (u ≤ t) × IsApart old new m u
 
@@ -44,11 +44,11 @@ pub record IsBegun (old new : Circuit) (run : Outcome) (s : Rerun) : Type 0 wher
   pub is : IsInWindow old new run 0 0 s
   pub work : AreAtWork old new (block_of new.horizon 0) 0 (active_of s)
 
--- a window begins behind the unit t: all that have joined are kept in the history
+-- a window begins behind the unit t: all that have joined are kept in the recorder
 pub record IsAtWindow (old new : Circuit) (run : Outcome) (c t : ℕ) (s : Rerun) : Type 0 where
   pub is : IsRerunAt old new run c t s
   pub unseen : AreUnseen (t + 1) s.comparison
   pub touched : AreTouched old new s.activity.touched.items
   pub none : s.activity.joined.items ≡ []
   pub work : AreAtWork old new c (t + 1) (active_of s)
-  pub history : IsHistory old new run (λ m. c) (t + 1) (active_of s) s.history
+  pub recorder : IsRecorder old new run (λ m. c) (t + 1) (active_of s) s.recorder

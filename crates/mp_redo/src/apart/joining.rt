@@ -1,15 +1,15 @@
 //! What the parts of a netlist have together, where no wire connects them.
 
-ghost use Rattle.mp_redo.specs.apart.PartStretches.{AllAreStretches, NoneAreBelow, StretchesJoin};
+ghost use Rattle.mp_redo.specs.apart.PartWorkSpans.{AllAreWorkSpans, NoneAreBelow, WorkSpansJoin};
 ghost use Rattle.mp_redo.specs.apart.RunSlots.{RunsAreBySlots, RunsKeepStates};
 ghost use Rattle.mp_redo.specs.apart.PartRuns.{RunsHavePartWaves, RunsHavePartEnds, RunsKeepPartStates};
 ghost use Rattle.mp_redo.specs.apart.PartRuns.{PartRunsHaveWaves, PartRunsHaveEnds, PartRunsKeepStates};
 
-/// The stretches of all parts, one part after the other, are the stretches of the netlist, where each part has its least delay.
-pub fn stretches_join()
+/// The work spans of all parts, one part after the other, are the work spans of the netlist, where each part has its least delay.
+pub fn work_spans_join()
     ensures none { NoneAreBelow }
-    ensures join { StretchesJoin }
-    ensures all { AllAreStretches }
+    ensures join { WorkSpansJoin }
+    ensures all { AllAreWorkSpans }
 {}
 
 /// A run is what it has in its slots.

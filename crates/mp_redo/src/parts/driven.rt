@@ -4,7 +4,7 @@ ghost use Rattle.mp_depend.specs.Drivers.{driver_in};
 ghost use Rattle.mp_redo.specs.parts.Drivers.{TellsElsewhere};
 
 use mp_netlist::{Driver, WireId};
-use mp_partition::home_of;
+use mp_partition::partition_of;
 
 /// Whether a module of another part drives a wire, by the drivers of all wires.
 pub(crate) fn is_driven_elsewhere(
@@ -16,7 +16,7 @@ pub(crate) fn is_driven_elsewhere(
     ensures { TellsElsewhere drivers.now homes.now part wire.0 result }
 {
     match driver_of(drivers, wire) {
-        Driver::Port(id, _) => home_of(homes, id.0) != part,
+        Driver::Port(id, _) => partition_of(homes, id.0) != part,
         Driver::Nothing | Driver::Stimulus => false,
     }
 }

@@ -3,7 +3,7 @@ ghost use Rattle.std.specs.Prelude.{◌≡◌, ℕ, ◌<◌, true};
 ghost use Rattle.mp_redo.specs.parts.Drivers.{DrivesAfter, HasDelay, HasOutput, IsAfter};
 
 use mp_netlist::{ModuleId, Netlist, Output};
-use mp_partition::home_of;
+use mp_partition::partition_of;
 
 /// Whether in each part an output drives a wire after this delay.
 pub(crate) fn have_delay(netlist: &Netlist, homes: &[u32], parts: u32, delay: u32) -> bool
@@ -21,7 +21,7 @@ fn has_delay(netlist: &Netlist, homes: &[u32], part: u32, delay: u32) -> bool
     ensures { result ≡ true → HasDelay netlist.now homes.now part delay }
 {
     for m in 0..netlist.module_slots() {
-        if home_of(homes, m) == part && drives_after(netlist, ModuleId(m), delay) {
+        if partition_of(homes, m) == part && drives_after(netlist, ModuleId(m), delay) {
             return true;
         }
     }

@@ -4,7 +4,7 @@ ghost use Rattle.mp_redo.specs.apart.Parts.{part_of};
 ghost use Rattle.mp_redo.specs.parts.Removals.{IsWithout};
 
 use mp_netlist::{Edit, ModuleId, Netlist, SingleEdit};
-use mp_partition::home_of;
+use mp_partition::partition_of;
 use std::alloc::AllocError;
 
 /// The netlist without the modules that are at home in other parts.
@@ -17,7 +17,7 @@ pub(crate) fn part_netlist(
 {
     let mut found = netlist.copy()?;
     for m in 0..netlist.module_slots() {
-        if home_of(homes, m) != part {
+        if partition_of(homes, m) != part {
             remove(&mut found, ModuleId(m))?;
         }
     }

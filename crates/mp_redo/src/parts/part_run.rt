@@ -5,23 +5,27 @@ ghost use Rattle.mp_netlist.specs.Circuit.{wire_at};
 ghost use Rattle.mp_model.specs.Waves.{slot_wave};
 ghost use Rattle.mp_partition.specs.runs.Outcomes.{AreSlots};
 ghost use Rattle.mp_partition.specs.runs.Runs.{AreCheckpoints, IsRun, end_memory};
-ghost use Rattle.mp_depend.specs.history.Endings.{HasCheckpoints};
+ghost use Rattle.mp_depend.specs.recording.Endings.{HasCheckpoints};
 ghost use Rattle.mp_redo.specs.apart.PartLevels.{resting_wave};
 ghost use Rattle.mp_redo.specs.parts.Changes.{IsChange, old_part};
 
-use crate::parts::change::Change;
 use crate::parts::driven::is_driven_elsewhere;
-use mp_partition::{Checkpoints, Run, home_of};
+use crate::parts::parts_change::PartsChange;
 use mp_model::Waves;
 use mp_modules::Memory;
 use mp_netlist::{ModuleId, WireId};
+use mp_partition::{Checkpoints, Run, partition_of};
 use mp_wave::Wave;
 use std::alloc::{AllocError, Global};
 use std::sync::Arc;
 
 /// The run of a part of the old netlist. A wire that a module of another part drives keeps its initial level in it. All else is shared
 /// with the run of the whole.
-pub(crate) fn part_run(alloc: Global, change: &Change<'_>, part: u32) -> Result<Run, AllocError>
+pub(crate) fn part_run(
+    alloc: Global,
+    change: &PartsChange<'_>,
+    part: u32,
+) -> Result<Run, AllocError>
     requires { IsChange change.now }
     ensures { IfOk result (λ run. IsRun (old_part change.now part) run) }
 {
@@ -33,7 +37,7 @@ pub(crate) fn part_run(alloc: Global, change: &Change<'_>, part: u32) -> Result<
 
 fn part_waves(
     alloc: Global,
-    change: &Change<'_>,
+    change: &PartsChange<'_>,
     part: u32,
 ) -> Result<Vec<Option<Arc<Wave, Global>>>, AllocError>
     requires { IsChange change.now }
@@ -49,7 +53,7 @@ fn part_waves(
 
 fn part_wave(
     alloc: Global,
-    change: &Change<'_>,
+    change: &PartsChange<'_>,
     part: u32,
     wire: WireId,
     low: &Arc<Wave, Global>,
@@ -68,7 +72,7 @@ fn part_wave(
 /// The wave with the initial level of a wire of the old netlist at every time.
 fn initial_wave(
     alloc: Global,
-    change: &Change<'_>,
+    change: &PartsChange<'_>,
     wire: WireId,
     low: &Arc<Wave, Global>,
 ) -> Result<Option<Arc<Wave, Global>>, AllocError>
@@ -87,7 +91,7 @@ fn initial_wave(
 
 fn part_ends(
     alloc: Global,
-    change: &Change<'_>,
+    change: &PartsChange<'_>,
     part: u32,
 ) -> Result<Vec<Option<Memory>>, AllocError>
     requires { IsChange change.now }
@@ -101,11 +105,11 @@ fn part_ends(
 }
 
 /// The last state of a module that is at home in the part.
-fn part_end(change: &Change<'_>, part: u32, id: ModuleId) -> Option<Memory>
+fn part_end(change: &PartsChange<'_>, part: u32, id: ModuleId) -> Option<Memory>
     requires { IsChange change.now }
     ensures { result ≡ end_memory (old_part change.now part) id.0 }
 {
-    if home_of(change.partition.division.homes.as_slice(), id.0) != part {
+    if partition_of(change.partition.division.homes.as_slice(), id.0) != part {
         return None;
     }
     change.run.end_memory(id)
@@ -113,7 +117,7 @@ fn part_end(change: &Change<'_>, part: u32, id: ModuleId) -> Option<Memory>
 
 fn part_checkpoints(
     alloc: Global,
-    change: &Change<'_>,
+    change: &PartsChange<'_>,
     part: u32,
 ) -> Result<Vec<Option<Arc<Checkpoints, Global>>>, AllocError>
     requires { IsChange change.now }
@@ -128,14 +132,14 @@ fn part_checkpoints(
 
 /// The states of a module that is at home in the part.
 fn part_checkpoint(
-    change: &Change<'_>,
+    change: &PartsChange<'_>,
     part: u32,
     id: ModuleId,
 ) -> Result<Option<Arc<Checkpoints, Global>>, AllocError>
     requires { IsChange change.now }
     ensures { IfOk result (λ kept. HasCheckpoints (old_part change.now part) id.0 (option_map arc_value kept)) }
 {
-    if home_of(change.partition.division.homes.as_slice(), id.0) != part {
+    if partition_of(change.partition.division.homes.as_slice(), id.0) != part {
         return Ok(None);
     }
     match change.old.module(id) {

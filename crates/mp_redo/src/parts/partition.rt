@@ -5,7 +5,7 @@ ghost use Rattle.mp_netlist.specs.Circuit.{Drives, IsCircuit};
 ghost use Rattle.mp_depend.specs.Drivers.{AreDrivers};
 ghost use Rattle.mp_partition.specs.regions.Divisions.{IsDivision};
 ghost use Rattle.mp_partition.specs.regions.Readers.{Reads};
-ghost use Rattle.mp_partition.specs.regions.Regions.{home_of};
+ghost use Rattle.mp_partition.specs.regions.Regions.{partition_of};
 ghost use Rattle.mp_redo.specs.apart.Parts.{AreUnconnected};
 ghost use Rattle.mp_redo.specs.parts.Drivers.{IsReadFrom};
 ghost use Rattle.mp_redo.specs.parts.Partitions.{IsPartition};
@@ -15,8 +15,8 @@ use crate::parts::least::have_delay;
 use crate::parts::reached::{are_spread, first_reached};
 use mp_depend::drivers_of;
 use mp_netlist::{Driver, Input, ModuleId, Netlist};
+use mp_partition::{Division, divide, partition_of};
 use mp_phase::Crew;
-use mp_partition::{Division, divide, home_of};
 use std::alloc::{AllocError, Global};
 
 /// The parts of a netlist after a change, none of which hears of another, and what drives each wire of the netlist before. No wire of
@@ -31,7 +31,7 @@ pub(crate) struct Partition {
 const MOST_COPIED: u32 = 65_536;
 
 /// The parts in which a change is evaluated again by the threads of a crew: none where one thread does it as well.
-pub(crate) fn partition_of(
+pub(crate) fn choose_partition(
     alloc: Global,
     old: &Netlist,
     new: &Netlist,
@@ -119,13 +119,13 @@ fn are_unconnected(netlist: &Netlist, drivers: &[Driver], homes: &[u32]) -> bool
 fn is_unconnected(netlist: &Netlist, drivers: &[Driver], homes: &[u32], id: ModuleId) -> bool
     requires form { IsCircuit netlist.now }
     requires drivers { AreDrivers netlist.now drivers.now }
-    ensures { result ≡ true → (w q p : ℕ) → Reads netlist.now id.0 w → Drives netlist.now q p w → home_of homes.now id.0 ≡ home_of homes.now q }
+    ensures { result ≡ true → (w q p : ℕ) → Reads netlist.now id.0 w → Drives netlist.now q p w → partition_of homes.now id.0 ≡ partition_of homes.now q }
 {
     match netlist.module(id) {
         Some(found) => are_driven_at(
             drivers,
             homes,
-            home_of(homes, id.0),
+            partition_of(homes, id.0),
             found.inputs.as_slice(),
         ),
         None => true,

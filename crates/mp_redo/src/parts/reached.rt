@@ -2,7 +2,7 @@
 
 use mp_depend::touched;
 use mp_netlist::{Input, ModuleId, Netlist, Stimulus, WireId};
-use mp_partition::{Division, home_of};
+use mp_partition::{Division, partition_of};
 use std::alloc::{AllocError, Global};
 
 /// The modules that a change touches, and those that read a wire on which it sets something else. One that is both may come twice.
@@ -83,7 +83,7 @@ pub(crate) fn are_spread(
 ) -> Result<bool, AllocError> {
     let mut counts = vec![in alloc; 0usize; division.parts as usize]?;
     for id in reached {
-        let home = home_of(division.homes.as_slice(), id.0);
+        let home = partition_of(division.homes.as_slice(), id.0);
         if let Some(count) = counts.get_mut(home as usize) {
             *count = count.saturating_add(1);
         }

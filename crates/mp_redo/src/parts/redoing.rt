@@ -2,21 +2,21 @@
 ghost use Rattle.std.specs.Prelude.{IfOk};
 ghost use Rattle.mp_partition.specs.runs.Runs.{IsRun};
 ghost use Rattle.mp_depend.specs.work.Revisions.{IsRevision};
-ghost use Rattle.mp_depend.specs.work.Stretches.{AreStretches};
+ghost use Rattle.mp_depend.specs.work.WorkSpans.{AreWorkSpans};
 ghost use Rattle.mp_depend.specs.work.Work.{IsEntry, IsWork};
 ghost use Rattle.mp_phase.specs.Allowed.{IsAllowed};
 ghost use Rattle.mp_redo.specs.parts.Changes.{IsChange};
 ghost use Rattle.mp_redo.specs.parts.Redone.{AreRedone};
 
-use crate::parts::change::Change;
-use crate::parts::partition::partition_of;
+use crate::parts::partition::choose_partition;
+use crate::parts::parts_change::PartsChange;
 use crate::parts::redone::Redone;
 use crate::parts::together::redo_together;
 use crate::parts::whole_run::whole_run;
-use mp_partition::Run;
+use mp_depend::{Work, WorkSpan};
 use mp_netlist::Netlist;
+use mp_partition::Run;
 use mp_phase::{Crew, Gate};
-use mp_depend::{Stretch, Work};
 use std::alloc::{AllocError, Global};
 use std::sync::Wait;
 use std::thread::Threads;
@@ -43,12 +43,12 @@ pub fn redo<R: Threads + Wait + Sync, G: Gate + Sync>(
     // Their contracts tell that the netlists are well formed.
     let _old_horizon = old.horizon();
     let _new_horizon = new.horizon();
-    let Some(partition) = partition_of(alloc, old, new, crew)? else {
-        let (run, stretches) = crate::rerun::redo(rt, alloc, old, run, new, crew, gate)?;
-        return Ok((run, Work::of_change(old, new, stretches)));
+    let Some(partition) = choose_partition(alloc, old, new, crew)? else {
+        let (run, work_spans) = crate::rerun::redo(rt, alloc, old, run, new, crew, gate)?;
+        return Ok((run, Work::of_change(old, new, work_spans)));
     };
     let partition = &partition;
-    let change = Change {
+    let change = PartsChange {
         old,
         run,
         new,
@@ -61,7 +61,7 @@ pub fn redo<R: Threads + Wait + Sync, G: Gate + Sync>(
 fn redo_parts<R: Threads + Wait + Sync, G: Gate + Sync>(
     rt: &R,
     alloc: Global,
-    change: Change<'_>,
+    change: PartsChange<'_>,
     gate: &G,
 ) -> Result<(Run, Work), AllocError>
     requires change { IsChange change }
@@ -71,23 +71,23 @@ fn redo_parts<R: Threads + Wait + Sync, G: Gate + Sync>(
 {
     let parts = redo_together(rt, alloc, change, gate)?;
     let run = whole_run(alloc, &change, parts.as_slice())?;
-    let stretches = all_stretches(alloc, &change, parts.as_slice())?;
-    Ok((run, Work::of_change(change.old, change.new, stretches)))
+    let work_spans = all_work_spans(alloc, &change, parts.as_slice())?;
+    Ok((run, Work::of_change(change.old, change.new, work_spans)))
 }
 
-/// The stretches of all parts.
-fn all_stretches(
+/// The work spans of all parts.
+fn all_work_spans(
     alloc: Global,
-    change: &Change<'_>,
+    change: &PartsChange<'_>,
     parts: &[Redone],
-) -> Result<Vec<Stretch>, AllocError>
+) -> Result<Vec<WorkSpan>, AllocError>
     requires change { IsChange change.now }
     requires parts { AreRedone change.now parts.now }
-    ensures { IfOk result (λ all. AreStretches change.now.old.now change.now.new.now all.items) }
+    ensures { IfOk result (λ all. AreWorkSpans change.now.old.now change.now.new.now all.items) }
 {
     let mut all = Vec::new(alloc);
     for k in 0..change.partition.division.parts {
-        all.extend_from_slice(parts[k as usize].stretches.as_slice())?;
+        all.extend_from_slice(parts[k as usize].work_spans.as_slice())?;
     }
     Ok(all)
 }

@@ -6,8 +6,8 @@ ghost use Rattle.mp_depend.specs.work.Work.{IsEntry};
 ghost use Rattle.mp_redo.specs.parts.Changes.{IsChange};
 ghost use Rattle.mp_redo.specs.parts.Redone.{AreRedone, IsRedone};
 
-use crate::parts::change::Change;
-use crate::parts::part::Part;
+use crate::parts::changed_part::ChangedPart;
+use crate::parts::parts_change::PartsChange;
 use crate::parts::redone::Redone;
 use mp_phase::Gate;
 use std::alloc::{AllocError, Global};
@@ -19,7 +19,7 @@ use std::thread::Threads;
 pub(crate) fn redo_together<R: Threads + Wait + Sync, G: Gate + Sync>(
     rt: &R,
     alloc: Global,
-    change: Change<'_>,
+    change: PartsChange<'_>,
     gate: &G,
 ) -> Result<Vec<Redone>, AllocError>
     requires change { IsChange change }
@@ -38,7 +38,7 @@ pub(crate) fn redo_together<R: Threads + Wait + Sync, G: Gate + Sync>(
             requires allowed { IsAllowed (IsEntry change.old.now change.new.now) (G.may gate.now) }
             ensures { IfOk result (IsRedone change.entry number) }
         {
-            let part = Part {
+            let part = ChangedPart {
                 change,
                 number: number as u32,
             };

@@ -5,17 +5,17 @@ ghost use Rattle.mp_netlist.specs.Circuit.{wire_at};
 ghost use Rattle.mp_model.specs.Waves.{slot_wave};
 ghost use Rattle.mp_partition.specs.runs.Outcomes.{AreSlots};
 ghost use Rattle.mp_partition.specs.runs.Runs.{AreCheckpoints, IsRun, end_memory};
-ghost use Rattle.mp_depend.specs.history.Endings.{HasCheckpoints};
+ghost use Rattle.mp_depend.specs.recording.Endings.{HasCheckpoints};
 ghost use Rattle.mp_redo.specs.apart.Parts.{IsDrivenWithin};
 ghost use Rattle.mp_redo.specs.parts.Changes.{IsChange, homes_in};
 ghost use Rattle.mp_redo.specs.parts.Redone.{AreRedone};
 
-use crate::parts::change::Change;
+use crate::parts::parts_change::PartsChange;
 use crate::parts::redone::Redone;
-use mp_partition::{Checkpoints, Run, home_of};
 use mp_model::Waves;
 use mp_modules::Memory;
 use mp_netlist::{ModuleId, WireId};
+use mp_partition::{Checkpoints, Run, partition_of};
 use mp_wave::Wave;
 use std::alloc::{AllocError, Global};
 use std::sync::Arc;
@@ -23,7 +23,7 @@ use std::sync::Arc;
 /// The run of the new netlist: each wire's wave from the part whose modules drive it, and what is known of each module from its own part.
 pub(crate) fn whole_run(
     alloc: Global,
-    change: &Change<'_>,
+    change: &PartsChange<'_>,
     parts: &[Redone],
 ) -> Result<Run, AllocError>
     requires change { IsChange change.now }
@@ -38,7 +38,7 @@ pub(crate) fn whole_run(
 
 fn whole_waves(
     alloc: Global,
-    change: &Change<'_>,
+    change: &PartsChange<'_>,
     parts: &[Redone],
 ) -> Result<Vec<Option<Arc<Wave, Global>>>, AllocError>
     requires change { IsChange change.now }
@@ -53,7 +53,7 @@ fn whole_waves(
 }
 
 fn whole_wave(
-    change: &Change<'_>,
+    change: &PartsChange<'_>,
     parts: &[Redone],
     wire: WireId,
 ) -> Result<Option<Arc<Wave, Global>>, AllocError>
@@ -66,12 +66,12 @@ fn whole_wave(
 }
 
 /// The part whose modules drive a wire of the new netlist, or the first, where no port does.
-fn part_of_wire(change: &Change<'_>, wire: WireId) -> u32
+fn part_of_wire(change: &PartsChange<'_>, wire: WireId) -> u32
     requires { IsChange change.now }
     ensures low { result < change.now.partition.now.division.parts }
     ensures within { IsDrivenWithin change.now.new.now (homes_in change.now) result wire.0 }
 {
-    let home = home_of(change.partition.division.wires.as_slice(), wire.0);
+    let home = partition_of(change.partition.division.wires.as_slice(), wire.0);
     if home < change.partition.division.parts {
         home
     } else {
@@ -81,7 +81,7 @@ fn part_of_wire(change: &Change<'_>, wire: WireId) -> u32
 
 fn whole_ends(
     alloc: Global,
-    change: &Change<'_>,
+    change: &PartsChange<'_>,
     parts: &[Redone],
 ) -> Result<Vec<Option<Memory>>, AllocError>
     requires change { IsChange change.now }
@@ -96,18 +96,18 @@ fn whole_ends(
 }
 
 /// The last state of a module.
-fn whole_end(change: &Change<'_>, parts: &[Redone], id: ModuleId) -> Option<Memory>
+fn whole_end(change: &PartsChange<'_>, parts: &[Redone], id: ModuleId) -> Option<Memory>
     requires change { IsChange change.now }
     requires parts { AreRedone change.now parts.now }
     ensures { result ≡ end_memory change.now.new.now id.0 }
 {
-    let part = home_of(change.partition.division.homes.as_slice(), id.0);
+    let part = partition_of(change.partition.division.homes.as_slice(), id.0);
     parts[part as usize].run.end_memory(id)
 }
 
 fn whole_checkpoints(
     alloc: Global,
-    change: &Change<'_>,
+    change: &PartsChange<'_>,
     parts: &[Redone],
 ) -> Result<Vec<Option<Arc<Checkpoints, Global>>>, AllocError>
     requires change { IsChange change.now }
@@ -123,7 +123,7 @@ fn whole_checkpoints(
 
 /// The states of a module before the checkpoints, if it stands.
 fn whole_checkpoint(
-    change: &Change<'_>,
+    change: &PartsChange<'_>,
     parts: &[Redone],
     id: ModuleId,
 ) -> Result<Option<Arc<Checkpoints, Global>>, AllocError>
@@ -131,7 +131,7 @@ fn whole_checkpoint(
     requires parts { AreRedone change.now parts.now }
     ensures { IfOk result (λ kept. HasCheckpoints change.now.new.now id.0 (option_map arc_value kept)) }
 {
-    let part = home_of(change.partition.division.homes.as_slice(), id.0);
+    let part = partition_of(change.partition.division.homes.as_slice(), id.0);
     match change.new.module(id) {
         Some(_) => parts[part as usize].run.shared_checkpoints(id),
         None => Ok(None),

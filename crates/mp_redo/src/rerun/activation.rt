@@ -1,15 +1,15 @@
 //! Modules become active.
 ghost use Rattle.std.specs.Prelude.{◌≡◌};
 
-use crate::rerun::means::Means;
 use crate::rerun::rerun::Rerun;
-use mp_active::agreement::laws::sleepers_agree;
+use crate::rerun::rerun_context::RerunContext;
 use mp_active::Change;
+use mp_active::agreement::laws::sleepers_agree;
+use mp_depend::block_of;
 use mp_model::built;
 use mp_modules::Memory;
 use mp_netlist::{ModuleId, ModuleRecord};
 use mp_phase::Gate;
-use mp_depend::block_of;
 use std::alloc::AllocError;
 use std::sync::Wait;
 use std::thread::Threads;
@@ -21,7 +21,7 @@ impl Rerun {
     ghost use Rattle.mp_partition.specs.runs.Checkpoints.{state_before};
     ghost use Rattle.mp_phase.specs.Allowed.{IsAllowed};
     ghost use Rattle.mp_depend.specs.work.Work.{block_of, IsEntry};
-    ghost use Rattle.mp_depend.specs.history.Live.{HaveBecomeLive};
+    ghost use Rattle.mp_depend.specs.recording.Live.{HaveBecomeLive};
     ghost use Rattle.mp_active.specs.excerpt.Numberings.{Numbering};
     ghost use Rattle.mp_redo.specs.rerun.Entering.{AllWork};
     ghost use Rattle.mp_redo.specs.rerun.Joining.{HaveJoined};
@@ -33,7 +33,7 @@ impl Rerun {
     /// window, on the threads of the crew where they answer once more for units of the block and are as many as it shares out.
     pub(crate) fn activate_all<R: Threads + Wait + Sync, G: Gate + Sync>(
         &mut self,
-        means: &Means<'_, R, G>,
+        means: &RerunContext<'_, R, G>,
         change: &Change<'_>,
         time: u32,
     ) -> Result<(), AllocError>
@@ -60,7 +60,7 @@ impl Rerun {
     /// The same of few of them: each is active before the next one's state is found.
     fn activate_few<R: Wait, G: Gate>(
         &mut self,
-        means: &Means<'_, R, G>,
+        means: &RerunContext<'_, R, G>,
         change: &Change<'_>,
         time: u32,
     ) -> Result<(), AllocError>
@@ -92,7 +92,7 @@ impl Rerun {
     /// A module passes the gate and becomes active before the unit of a time. Up to then it has slept.
     fn activate_one<R: Wait, G: Gate>(
         &mut self,
-        means: &Means<'_, R, G>,
+        means: &RerunContext<'_, R, G>,
         change: &Change<'_>,
         id: ModuleId,
         found: &ModuleRecord,
@@ -120,7 +120,7 @@ impl Rerun {
     /// The same of as many as the crew shares out: their states are found first, as tasks.
     fn activate_many<R: Threads + Wait + Sync, G: Gate + Sync>(
         &mut self,
-        means: &Means<'_, R, G>,
+        means: &RerunContext<'_, R, G>,
         change: &Change<'_>,
         time: u32,
     ) -> Result<(), AllocError>

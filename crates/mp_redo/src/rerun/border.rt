@@ -3,10 +3,10 @@ ghost use Rattle.std.specs.Prelude.{◌≡◌};
 
 use crate::rerun::rerun::Rerun;
 use mp_active::Change;
-use mp_partition::Run;
 use mp_depend::old_state;
 use mp_modules::Memory;
 use mp_netlist::ModuleId;
+use mp_partition::Run;
 use std::alloc::AllocError;
 
 impl Rerun {
@@ -14,8 +14,8 @@ impl Rerun {
     ghost use Rattle.std.specs.List.{Contains};
     ghost use Rattle.mp_netlist.specs.Circuit.{module_at};
     ghost use Rattle.mp_partition.specs.runs.Checkpoints.{IsBorder};
-    ghost use Rattle.mp_depend.specs.history.Histories.{IsHistory};
-    ghost use Rattle.mp_depend.specs.history.Live.{IsWorking};
+    ghost use Rattle.mp_depend.specs.recording.Recorders.{IsRecorder};
+    ghost use Rattle.mp_depend.specs.recording.Live.{IsWorking};
     ghost use Rattle.mp_redo.specs.rerun.Leaving.{CanLeaveAt, CanLeave};
     ghost use Rattle.mp_redo.specs.rerun.Reruns.{IsChange, IsRerunAt, active_of};
     ghost use Rattle.mp_redo.specs.rerun.Windows.{AreTouched, IsAtWindow};
@@ -23,7 +23,7 @@ impl Rerun {
 
     /// From one block to the next: the states of active modules before the border are kept, and an untouched one whose state is the one that
     /// the old run kept falls asleep.
-    pub(crate) fn cross_border(&mut self, change: &Change<'_>, time: u32) -> Result<(), AllocError>
+    pub(crate) fn at_checkpoint(&mut self, change: &Change<'_>, time: u32) -> Result<(), AllocError>
         requires change { IsChange change.now }
         requires border { IsBorder change.now.new.now.horizon time }
         requires some { 0 < time }
@@ -39,7 +39,7 @@ impl Rerun {
             return Ok(());
         }
         self.put_to_sleep(change, leaving.as_slice(), time)?;
-        self.history.list_live();
+        self.recorder.list_live();
         Ok(())
     }
 
@@ -50,14 +50,14 @@ impl Rerun {
         requires some { 0 < time }
         requires below { time < change.now.new.now.horizon }
         requires before { IsAtWindow change.now.old.now change.now.new.now change.now.run.now (block_of change.now.new.now.horizon (time - 1)) (time - 1) self.old }
-        ensures kept { OnOk result (self.new ≡ record self.old { history = self.new.history }) }
-        ensures history { OnOk result (IsHistory change.now.old.now change.now.new.now change.now.run.now (λ m. time) time (active_of self.old) self.new.history) }
+        ensures kept { OnOk result (self.new ≡ record self.old { recorder = self.new.recorder }) }
+        ensures recorder { OnOk result (IsRecorder change.now.old.now change.now.new.now change.now.run.now (λ m. time) time (active_of self.old) self.new.recorder) }
     {
-        for place in 0..self.history.live().len() {
-            let id = self.history.live()[place];
+        for place in 0..self.recorder.live().len() {
+            let id = self.recorder.live()[place];
             if self.is_at_work(change, id) {
                 let memory = self.simulation.memory(id.0);
-                self.history.keep(id, time, memory)?;
+                self.recorder.keep(id, time, memory)?;
             }
         }
         Ok(())
@@ -79,10 +79,10 @@ impl Rerun {
         requires touched { AreTouched change.now.old.now change.now.new.now self.now.activity.touched.items }
         requires none { leaving.old.items ≡ [] }
         ensures can { OnOk result (CanLeave change.now.old.now change.now.new.now time leaving.new.items self.now) }
-        ensures others { OnOk result ((m : ℕ) → Contains self.now.history.live.items (record { 0 = m }) → IsSome (module_at change.now.new.now m) → active_of self.now m ≡ true →
+        ensures others { OnOk result ((m : ℕ) → Contains self.now.recorder.live.items (record { 0 = m }) → IsSome (module_at change.now.new.now m) → active_of self.now m ≡ true →
             Contains leaving.new.items (record { 0 = m }) ⊎ IsWorking change.now.old.now change.now.new.now time m time) }
     {
-        for id in self.history.live() {
+        for id in self.recorder.live() {
             if self.is_back(change, *id, time) {
                 leaving.push(*id)?;
             }
@@ -126,7 +126,7 @@ impl Rerun {
 
 ghost use Rattle.std.specs.Prelude.{◌↔◌, IsTrue};
 ghost use Rattle.mp_netlist.specs.Slots.{slot_at};
-ghost use Rattle.mp_depend.specs.history.Ledgers.{state_in};
+ghost use Rattle.mp_depend.specs.recording.Overlays.{state_in};
 
 /// Whether a state of a module is the one that the old run kept for a time.
 fn is_old_state(run: &Run, id: ModuleId, time: u32, memory: Memory) -> bool

@@ -1,4 +1,4 @@
-//! The run of a netlist that was evaluated again, and the stretches of work.
+//! The run of a netlist that was evaluated again, and the work spans of work.
 ghost use Rattle.std.specs.Prelude.{◌≡◌, ◌<◌, ◌≤◌, Some, IfOk, IsSome, length, map, option_map};
 ghost use Rattle.std.specs.Arc.{arc_value};
 ghost use Rattle.mp_netlist.specs.Circuit.{wire_at};
@@ -13,16 +13,16 @@ ghost use Rattle.mp_redo.specs.rerun.Reruns.{IsChange};
 use crate::rerun::change::Change;
 use crate::rerun::rerun::Rerun;
 use crate::rerun::splicing::spliced_wave;
-use mp_active::agreement::laws::{readers_agree, sleepers_agree, sleepers_rest, wires_agree};
 use mp_active::WireSource;
+use mp_active::agreement::laws::{readers_agree, sleepers_agree, sleepers_rest, wires_agree};
 use mp_active::compare::laws::runs_are_old;
-use mp_simulation::{DataWires, NetlistSimulation, Simulation, Simulator};
-use mp_partition::Run;
 use mp_active::excerpt::laws::{excerpts_are_circuits, excerpts_are_simulated, excerpts_show};
-use mp_depend::{Finished, History, Stretch};
+use mp_depend::{Finished, RerunRecorder, WorkSpan};
 use mp_model::Waves;
 use mp_modules::Memory;
 use mp_netlist::{ModuleId, WireId, WireRecord};
+use mp_partition::Run;
+use mp_simulation::{DataWires, NetlistSimulation, Simulation, Simulator};
 use mp_wave::{ToggleWave, Wave, WaveBuilder};
 use std::alloc::{AllocError, Global};
 use std::sync::Arc;
@@ -30,22 +30,22 @@ use std::sync::Arc;
 impl Rerun {
     ghost use Rattle.std.specs.Prelude.{◌≡◌, IfOk};
     ghost use Rattle.mp_partition.specs.runs.Runs.{IsRun};
-    ghost use Rattle.mp_depend.specs.work.Stretches.{AreStretches};
+    ghost use Rattle.mp_depend.specs.work.WorkSpans.{AreWorkSpans};
     ghost use Rattle.mp_redo.specs.rerun.Reruns.{IsChange};
     ghost use Rattle.mp_redo.specs.rerun.Settling.{HasEnded};
 
-    /// The run and all stretches of work, where all units before an end are over. From then on the rest is that of the old run. What is the
+    /// The run and all work spans of work, where all units before an end are over. From then on the rest is that of the old run. What is the
     /// old run's is shared.
     pub(crate) fn finish(
         self,
         alloc: Global,
         change: &Change<'_>,
         end: u32,
-    ) -> Result<(Run, Vec<Stretch>), AllocError>
+    ) -> Result<(Run, Vec<WorkSpan>), AllocError>
         requires change { IsChange change.now }
         requires over { HasEnded change.now.old.now change.now.new.now change.now.run.now end self }
         ensures run { IfOk result (λ both. IsRun change.now.new.now both.0) }
-        ensures stretches { IfOk result (λ both. AreStretches change.now.old.now change.now.new.now both.1.items) }
+        ensures work_spans { IfOk result (λ both. AreWorkSpans change.now.old.now change.now.new.now both.1.items) }
     {
         excerpts_are_circuits();
         excerpts_show();
@@ -59,13 +59,13 @@ impl Rerun {
             simulation,
             sources,
             active,
-            history,
+            recorder,
         } = remains_of(self);
         let ends = all_ends(alloc, change, &simulation, active.as_slice())?;
         let waves = all_waves(alloc, change, simulation, sources.as_slice(), end)?;
-        let Finished { kept, stretches } = history.finish(alloc, change.run, change.new)?;
+        let Finished { kept, work_spans } = recorder.finish(alloc, change.run, change.new)?;
         let run = Run::new(change.new.horizon(), Waves::new(waves), ends, kept);
-        Ok((run, stretches))
+        Ok((run, work_spans))
     }
 }
 
@@ -76,24 +76,24 @@ struct Remains {
     simulation: NetlistSimulation,
     sources: Vec<WireSource>,
     active: Vec<bool>,
-    history: History,
+    recorder: RerunRecorder,
 }
 
 fn remains_of(rerun: Rerun) -> Remains
-    ensures { result ≡ record { simulation = rerun.simulation; sources = rerun.comparison.sources; active = rerun.activity.active; history = rerun.history } }
+    ensures { result ≡ record { simulation = rerun.simulation; sources = rerun.comparison.sources; active = rerun.activity.active; recorder = rerun.recorder } }
 {
     let Rerun {
         simulation,
         comparison,
         activity,
-        history,
+        recorder,
         ..
     } = rerun;
     Remains {
         simulation,
         sources: comparison.sources,
         active: activity.active,
-        history,
+        recorder,
     }
 }
 

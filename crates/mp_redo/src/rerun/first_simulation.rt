@@ -3,12 +3,12 @@ ghost use Rattle.std.specs.Prelude.{◌≡◌, ℕ, IfOk};
 ghost use Rattle.mp_kernel.specs.automata.Codes.{bit};
 ghost use Rattle.mp_netlist.specs.Drivers.{driver};
 ghost use Rattle.mp_partition.specs.runs.Marks.{is_marked};
-ghost use Rattle.mp_partition.specs.regions.Regions.{home_of};
+ghost use Rattle.mp_partition.specs.regions.Regions.{partition_of};
 ghost use Rattle.mp_active.specs.excerpt.Excerpts.{is_followed};
 ghost use Rattle.mp_redo.specs.rerun.Starting.{IsFirst};
 
-use mp_kernel::TransitionTable;
 use mp_depend::drivers_of;
+use mp_kernel::TransitionTable;
 use mp_netlist::{Driver, Netlist};
 use mp_partition::Region;
 use mp_simulation::{Layout, NetlistSimulation, WiredInputs, all_outputs};
@@ -50,7 +50,7 @@ pub(crate) fn first_simulation(
 
 /// The part of each module, by number.
 fn homes_of(alloc: Global, active: &[bool]) -> Result<Vec<u32>, AllocError>
-    ensures { IfOk result (λ homes. (m : ℕ) → home_of homes.items m ≡ bit (is_marked active.now m)) }
+    ensures { IfOk result (λ homes. (m : ℕ) → partition_of homes.items m ≡ bit (is_marked active.now m)) }
 {
     let mut homes = Vec::new(alloc);
     for m in 0..active.len() {

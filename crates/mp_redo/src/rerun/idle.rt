@@ -7,10 +7,12 @@ ghost use Rattle.mp_redo.specs.rerun.Idle.{is_due};
 ghost use Rattle.mp_depend.specs.work.Work.{window_of};
 
 use crate::rerun::rerun::Rerun;
-use mp_active::agreement::laws::{readers_agree, sleepers_agree, sleepers_rest, wires_agree};
-use mp_kernel::calendar::laws::comes_up;
 use mp_active::Change;
-use mp_active::excerpt::laws::{excerpts_are_circuits, excerpts_are_simulated, numbers_stay, sets_are_stimuli};
+use mp_active::agreement::laws::{readers_agree, sleepers_agree, sleepers_rest, wires_agree};
+use mp_active::excerpt::laws::{
+    excerpts_are_circuits, excerpts_are_simulated, numbers_stay, sets_are_stimuli,
+};
+use mp_kernel::timers::laws::comes_up;
 use mp_netlist::checkpoint_units;
 use mp_simulation::StimulusChange;
 
@@ -19,7 +21,7 @@ const LOOK_UNITS: u32 = 1024;
 
 impl Rerun {
     ghost use Rattle.std.specs.Prelude.{◌≡◌, ◌≢◌, ℕ, ◌+◌, ◌-◌, ◌<◌, ◌≤◌, [], IsTrue};
-    ghost use Rattle.mp_kernel.specs.calendar.Calendars.{never, time_of, IsCalendar};
+    ghost use Rattle.mp_kernel.specs.timers.TimerWheels.{never, time_of, IsTimerWheel};
     ghost use Rattle.mp_simulation.specs.bits.Simulators.{slot_at};
     ghost use Rattle.mp_simulation.specs.bits.Simulations.{copy_slot};
     ghost use Rattle.mp_active.specs.compare.Comparing.{AreUntracked};
@@ -93,9 +95,13 @@ impl Rerun {
         requires is { (latest : ℕ) × IsRerunAt change.now.old.now change.now.new.now change.now.run.now latest (time - 1) self.now }
         ensures { IsTrue result → IsUnset time self.now }
     {
-        self.comparison.calendar.is_quiet()
+        self.comparison.timers.is_quiet()
             && !is_due(self.stimuli.list.as_slice(), self.stimuli.place, time)
-            && !is_due(self.tails.list.as_slice(), self.tails.place, time)
+            && !is_due(
+                self.pending_outputs.list.as_slice(),
+                self.pending_outputs.place,
+                time,
+            )
     }
 
     /// The unit of a time begins, in which nothing is set, and no module joins.
@@ -118,13 +124,13 @@ impl Rerun {
         wires_agree();
         readers_agree();
         sleepers_agree();
-        self.comparison.calendar.skip();
+        self.comparison.timers.skip();
         self.set.bits.clear();
         self.set.levels.clear();
     }
 
     /// Where no module is active, the last time at which a window begins, or the horizon, and before which, from a time on, nothing happens; else
-    /// that time. As all slots of the calendar are looked at, it isn't done at each window.
+    /// that time. As all slots of the timer wheel are looked at, it isn't done at each window.
     pub(crate) fn idle_end(&mut self, change: &Change<'_>, from: u32) -> u32
         requires change { IsChange change.now }
         requires some { 0 < from }
@@ -154,33 +160,41 @@ impl Rerun {
 
     /// Whether it is worth looking ahead at a time, nobody is active, nothing is under way in the simulation, and nothing is set anew then.
     fn is_idle(&self, time: u32) -> bool
-        ensures nobody { IsTrue result → self.now.history.live.items ≡ [] }
+        ensures nobody { IsTrue result → self.now.recorder.live.items ≡ [] }
         ensures rest { IsTrue result → IsAtRest self.now.simulation }
     {
         self.look_at <= time
-            && self.history.live().is_empty()
+            && self.recorder.live().is_empty()
             && self.simulation.is_at_rest()
             && !is_due(self.stimuli.list.as_slice(), self.stimuli.place, time)
-            && !is_due(self.tails.list.as_slice(), self.tails.place, time)
+            && !is_due(
+                self.pending_outputs.list.as_slice(),
+                self.pending_outputs.place,
+                time,
+            )
     }
 
     /// A time up to which nothing is due, from a time on and up to a horizon.
     fn rest_end(&self, horizon: u32, from: u32) -> u32
         requires some { 0 < from }
         requires below { from < horizon }
-        requires calendar { IsCalendar (from - 1) [] self.now.comparison.calendar }
+        requires timers { IsTimerWheel (from - 1) [] self.now.comparison.timers }
         requires stimuli { AreFrom from (left_of self.now.stimuli) }
-        requires tails { AreFrom from (left_of self.now.tails) }
+        requires pending_outputs { AreFrom from (left_of self.now.pending_outputs) }
         ensures later { from ≤ result }
         ensures within { result ≤ horizon }
-        ensures calendar { IsCalendar (result - 1) [] self.now.comparison.calendar }
-        ensures times { (x : ℕ) → time_of self.now.comparison.calendar x ≢ never → result - 1 < time_of self.now.comparison.calendar x }
+        ensures timers { IsTimerWheel (result - 1) [] self.now.comparison.timers }
+        ensures times { (x : ℕ) → time_of self.now.comparison.timers x ≢ never → result - 1 < time_of self.now.comparison.timers x }
         ensures stimuli { AreFrom result (left_of self.now.stimuli) }
-        ensures tails { AreFrom result (left_of self.now.tails) }
+        ensures pending_outputs { AreFrom result (left_of self.now.pending_outputs) }
     {
         let first = next_change(self.stimuli.list.as_slice(), self.stimuli.place, horizon);
-        let end = next_change(self.tails.list.as_slice(), self.tails.place, first);
-        from + self.comparison.calendar.slack(from, end - from)
+        let end = next_change(
+            self.pending_outputs.list.as_slice(),
+            self.pending_outputs.place,
+            first,
+        );
+        from + self.comparison.timers.slack(from, end - from)
     }
 }
 

@@ -9,8 +9,8 @@ ghost use Rattle.mp_redo.specs.rerun.Hearing.{AreHearing};
 use crate::rerun::coming::coming_changes;
 use crate::rerun::following::list_due;
 use crate::rerun::rerun::Rerun;
-use mp_active::agreement::laws::{readers_agree, wires_agree};
 use mp_active::Change;
+use mp_active::agreement::laws::{readers_agree, wires_agree};
 use mp_active::compare::laws::runs_are_old;
 use mp_kernel::FanoutEntry;
 use mp_netlist::ModuleId;
@@ -69,8 +69,8 @@ impl Rerun {
             &mut self.set,
         )?;
         list_due(
-            self.tails.list.as_slice(),
-            self.tails.place,
+            self.pending_outputs.list.as_slice(),
+            self.pending_outputs.place,
             time,
             &mut self.set,
         )?;

@@ -1,8 +1,8 @@
 //! The states in which modules become active.
 ghost use Rattle.std.specs.Prelude.{◌≡◌};
 
-use crate::rerun::means::Means;
 use crate::rerun::rerun::Rerun;
+use crate::rerun::rerun_context::RerunContext;
 use crate::rerun::tasks::{states_by, tasks_of};
 use mp_active::Change;
 use mp_depend::{block_of, old_state};
@@ -26,7 +26,7 @@ impl Rerun {
     /// they are as many as it shares out.
     pub(crate) fn joining_states<R: Threads + Wait + Sync, G: Gate + Sync>(
         &self,
-        means: &Means<'_, R, G>,
+        means: &RerunContext<'_, R, G>,
         change: &Change<'_>,
         time: u32,
     ) -> Result<Vec<Memory>, AllocError>
@@ -48,7 +48,7 @@ impl Rerun {
     /// The states that the old run kept of the modules that join, where a block begins with the unit.
     fn kept_states<R: Wait, G: Gate>(
         &self,
-        means: &Means<'_, R, G>,
+        means: &RerunContext<'_, R, G>,
         change: &Change<'_>,
         time: u32,
     ) -> Result<Vec<Memory>, AllocError>

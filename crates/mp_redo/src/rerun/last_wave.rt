@@ -13,9 +13,9 @@ ghost use Rattle.mp_redo.specs.rerun.Reruns.{IsChange};
 
 use crate::rerun::old_state::{old_pieces, old_state_before};
 use mp_active::Change;
-use mp_partition::Run;
 use mp_model::built;
 use mp_netlist::{ModuleId, ModuleRecord, Output};
+use mp_partition::Run;
 use mp_response::{Piece, respond};
 use mp_wave::{Wave, WaveBuilder};
 use std::alloc::{AllocError, Global};

@@ -4,21 +4,21 @@ ghost use Rattle.mp_partition.specs.runs.Runs.{IsRun};
 ghost use Rattle.mp_phase.specs.Allowed.{IsAllowed};
 ghost use Rattle.mp_redo.specs.rerun.Reruns.{IsChange};
 ghost use Rattle.mp_depend.specs.work.Revisions.{IsRevision};
-ghost use Rattle.mp_depend.specs.work.Stretches.{AreStretches};
+ghost use Rattle.mp_depend.specs.work.WorkSpans.{AreWorkSpans};
 ghost use Rattle.mp_depend.specs.work.Work.{IsEntry};
 
 use crate::rerun::change::Change;
-use crate::rerun::means::Means;
 use crate::rerun::rerun::Rerun;
-use mp_partition::Run;
+use crate::rerun::rerun_context::RerunContext;
+use mp_depend::WorkSpan;
 use mp_netlist::Netlist;
+use mp_partition::Run;
 use mp_phase::{Crew, Gate};
-use mp_depend::Stretch;
 use std::alloc::{AllocError, Global};
 use std::sync::Wait;
 use std::thread::Threads;
 
-/// The run of a netlist that was made of another, by the run of that one; and the stretches of the work, in no order. One simulation of the new
+/// The run of a netlist that was made of another, by the run of that one; and the work spans of the work, in no order. One simulation of the new
 /// netlist has just the active modules: those that the change touches from time 0 on, and any other from the unit on in which one of its inputs
 /// first differs from the old run. At the border of a block an untouched module whose state is that of the old run again becomes inactive. A
 /// module passes the gate for each entry of the work. Modules that become active in the same unit answer once more from their block's begin up to
@@ -32,15 +32,15 @@ pub fn redo<R: Threads + Wait + Sync, G: Gate + Sync>(
     new: &Netlist,
     crew: &Crew,
     gate: &G,
-) -> Result<(Run, Vec<Stretch>), AllocError>
+) -> Result<(Run, Vec<WorkSpan>), AllocError>
     requires allowed { IsAllowed (IsEntry old.now new.now) (G.may gate.now) }
     requires revision { IsRevision old.now new.now }
     requires run { IsRun old.now run.now }
     ensures run { IfOk result (λ both. IsRun new.now both.0) }
-    ensures stretches { IfOk result (λ both. AreStretches old.now new.now both.1.items) }
+    ensures work_spans { IfOk result (λ both. AreWorkSpans old.now new.now both.1.items) }
 {
     let change = change_between(old, run, new);
-    let means = Means {
+    let means = RerunContext {
         rt,
         alloc,
         crew,
@@ -51,13 +51,13 @@ pub fn redo<R: Threads + Wait + Sync, G: Gate + Sync>(
 
 /// The same.
 fn run_again<R: Threads + Wait + Sync, G: Gate + Sync>(
-    means: &Means<'_, R, G>,
+    means: &RerunContext<'_, R, G>,
     change: &Change<'_>,
-) -> Result<(Run, Vec<Stretch>), AllocError>
+) -> Result<(Run, Vec<WorkSpan>), AllocError>
     requires allowed { IsAllowed (IsEntry change.now.old.now change.now.new.now) (G.may means.now.gate.now) }
     requires change { IsChange change.now }
     ensures run { IfOk result (λ both. IsRun change.now.new.now both.0) }
-    ensures stretches { IfOk result (λ both. AreStretches change.now.old.now change.now.new.now both.1.items) }
+    ensures work_spans { IfOk result (λ both. AreWorkSpans change.now.old.now change.now.new.now both.1.items) }
 {
     let mut rerun = Rerun::begin(means.alloc, change)?;
     rerun.enter_window(means.rt, means.gate, change, 0);

@@ -2,7 +2,7 @@
 
 use crate::rerun::activity::Activity;
 use mp_active::{Comparison, SetWires};
-use mp_depend::History;
+use mp_depend::RerunRecorder;
 use mp_modules::MOST_INPUTS;
 use mp_simulation::{HeardChanges, NetlistSimulation};
 
@@ -16,9 +16,9 @@ pub(crate) struct Rerun {
     pub comparison: Comparison,
     pub inputs: Vec<[Option<u32>; MOST_INPUTS]>,
     pub stimuli: HeardChanges,
-    pub tails: HeardChanges,
+    pub pending_outputs: HeardChanges,
     pub activity: Activity,
-    pub history: History,
+    pub recorder: RerunRecorder,
     pub set: SetWires,
     pub window_end: u32,
     pub look_at: u32,

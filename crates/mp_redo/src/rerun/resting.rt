@@ -4,11 +4,11 @@ ghost use Rattle.std.specs.Prelude.{◌≡◌};
 use crate::rerun::old_state::old_state_before;
 use crate::rerun::rerun::Rerun;
 use mp_active::{Change, rests_near};
-use mp_partition::Run;
 use mp_depend::{block_of, old_state};
 use mp_model::built;
 use mp_modules::Memory;
 use mp_netlist::{Input, ModuleId, ModuleRecord};
+use mp_partition::Run;
 use std::alloc::{AllocError, Global};
 
 impl Rerun {

@@ -144,7 +144,7 @@ impl Rerun {
         let Some(wire) = output.wire else {
             return Ok(());
         };
-        let alloc = *self.tails.list.allocator();
+        let alloc = *self.pending_outputs.list.allocator();
         let wave = last_wave(alloc, change, id, found, port, now)?;
         let last = OldWire {
             number: wire.0,
@@ -159,25 +159,25 @@ impl Rerun {
     /// After the unit of a time, the tail of a wire, which ends before another time, goes back into the wheels.
     fn take_tail_back(&mut self, wire: OldWire<'_>, until: u32, now: u32) -> Result<(), AllocError>
         requires below { now < 2 ^ 32 - 1 }
-        requires tails { AreTailsIn wire.number now until (room wire.has_data self.old.simulation) wire.has_data (left_of self.old.tails) }
-        ensures kept { OnOk result (self.new ≡ record self.old { simulation = self.new.simulation; tails = self.new.tails }) }
-        ensures put { OnOk result (HasPut wire.entry.has_data (entries_of wire.entry.number now (tail_of wire.entry.number (left_of self.old.tails))) self.old.simulation self.new.simulation) }
-        ensures left { OnOk result (left_of self.new.tails ≡ others_of wire.entry.number (left_of self.old.tails)) }
+        requires pending_outputs { AreTailsIn wire.number now until (room wire.has_data self.old.simulation) wire.has_data (left_of self.old.pending_outputs) }
+        ensures kept { OnOk result (self.new ≡ record self.old { simulation = self.new.simulation; pending_outputs = self.new.pending_outputs }) }
+        ensures put { OnOk result (HasPut wire.entry.has_data (entries_of wire.entry.number now (tail_of wire.entry.number (left_of self.old.pending_outputs))) self.old.simulation self.new.simulation) }
+        ensures left { OnOk result (left_of self.new.pending_outputs ≡ others_of wire.entry.number (left_of self.old.pending_outputs)) }
     {
         if until <= now + 1 {
             return Ok(());
         }
-        let alloc = *self.tails.list.allocator();
+        let alloc = *self.pending_outputs.list.allocator();
         let mut others = Vec::new(alloc);
         put_tail(
             &mut self.simulation,
-            self.tails.list.as_slice(),
-            self.tails.place,
+            self.pending_outputs.list.as_slice(),
+            self.pending_outputs.place,
             wire,
             now,
             &mut others,
         )?;
-        self.tails = HeardChanges {
+        self.pending_outputs = HeardChanges {
             list: others,
             place: 0,
         };

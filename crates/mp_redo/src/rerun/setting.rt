@@ -3,8 +3,8 @@ ghost use Rattle.std.specs.Prelude.{◌≡◌};
 
 use crate::rerun::following::list_due;
 use crate::rerun::rerun::Rerun;
-use mp_active::agreement::laws::{sleepers_agree, wires_agree};
 use mp_active::Change;
+use mp_active::agreement::laws::{sleepers_agree, wires_agree};
 use mp_active::compare::laws::runs_are_old;
 use std::alloc::AllocError;
 
@@ -40,9 +40,9 @@ impl Rerun {
             time,
             &mut self.set,
         )?;
-        self.tails.place = list_due(
-            self.tails.list.as_slice(),
-            self.tails.place,
+        self.pending_outputs.place = list_due(
+            self.pending_outputs.list.as_slice(),
+            self.pending_outputs.place,
             time,
             &mut self.set,
         )?;

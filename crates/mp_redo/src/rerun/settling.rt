@@ -6,10 +6,10 @@ ghost use Rattle.mp_active.specs.compare.Comparing.{old_wave};
 ghost use Rattle.mp_redo.specs.rerun.Settling.{AreUpTo, IsSetUpTo};
 
 use crate::rerun::rerun::Rerun;
-use mp_kernel::NEVER;
 use mp_active::Change;
-use mp_partition::Run;
+use mp_kernel::NEVER;
 use mp_netlist::{Netlist, WireId, checkpoint_units};
+use mp_partition::Run;
 use mp_simulation::StimulusChange;
 
 impl Rerun {
@@ -36,13 +36,16 @@ impl Rerun {
 
     /// Whether nobody is live, and no change is to come that no active module makes.
     fn is_left_alone(&self) -> bool
-        ensures nobody { IsTrue result → self.now.history.live.items ≡ [] }
+        ensures nobody { IsTrue result → self.now.recorder.live.items ≡ [] }
         ensures stimuli { IsTrue result → left_of self.now.stimuli ≡ [] }
-        ensures tails { IsTrue result → left_of self.now.tails ≡ [] }
+        ensures pending_outputs { IsTrue result → left_of self.now.pending_outputs ≡ [] }
     {
-        self.history.live().is_empty()
+        self.recorder.live().is_empty()
             && is_past(self.stimuli.list.as_slice(), self.stimuli.place)
-            && is_past(self.tails.list.as_slice(), self.tails.place)
+            && is_past(
+                self.pending_outputs.list.as_slice(),
+                self.pending_outputs.place,
+            )
     }
 
     /// Whether each number that modules read that sleep has the levels of the old run from a time on.

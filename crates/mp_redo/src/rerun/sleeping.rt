@@ -11,14 +11,14 @@ impl Rerun {
     ghost use Rattle.std.specs.Prelude.{◌≡◌, ℕ, ◌+◌, ◌-◌, ◌<◌, ◌≤◌, ◌^◌, true, Some, IsSome, IfOk, OnOk, length};
     ghost use Rattle.mp_records.specs.declared.module_record.ModuleRecord.{ModuleRecord as Part};
     ghost use Rattle.mp_netlist.specs.Circuit.{module_at};
-    ghost use Rattle.mp_depend.specs.history.Histories.{CanLeave as CanLeaveHistory};
+    ghost use Rattle.mp_depend.specs.recording.Recorders.{CanLeave as CanLeaveHistory};
     ghost use Rattle.mp_partition.specs.runs.Checkpoints.{IsBorder};
-    ghost use Rattle.mp_depend.specs.history.Histories.{IsHistory};
+    ghost use Rattle.mp_depend.specs.recording.Recorders.{IsRecorder};
     ghost use Rattle.mp_redo.specs.rerun.Leaving.{CanLeave, CanFallAsleep, HasFallenAsleep, HasLeftOne, HasTakenTails, HaveLeft};
     ghost use Rattle.mp_redo.specs.rerun.Reruns.{IsChange, IsRerunAt, active_of};
 
     /// Active modules fall asleep before a border. Their states are those of the old run. What they have decided of their wires is a tail from
-    /// now on, and their stretches of work end.
+    /// now on, and their work spans of work end.
     pub(crate) fn put_to_sleep(
         &mut self,
         change: &Change<'_>,
@@ -31,10 +31,10 @@ impl Rerun {
         requires below { time < change.now.new.now.horizon }
         requires is { (latest : ℕ) × (latest ≤ time) × IsRerunAt change.now.old.now change.now.new.now change.now.run.now latest (time - 1) self.old }
         requires can { CanLeave change.now.old.now change.now.new.now time leaving.now self.old }
-        requires history { IsHistory change.now.old.now change.now.new.now change.now.run.now (λ m. time) time (active_of self.old) self.old.history }
+        requires recorder { IsRecorder change.now.old.now change.now.new.now change.now.run.now (λ m. time) time (active_of self.old) self.old.recorder }
         ensures left { OnOk result (HaveLeft leaving.now self.old self.new) }
         ensures is { OnOk result (IsRerunAt change.now.old.now change.now.new.now change.now.run.now time (time - 1) self.new) }
-        ensures history { OnOk result (IsHistory change.now.old.now change.now.new.now change.now.run.now (λ m. time) time (active_of self.new) self.new.history) }
+        ensures recorder { OnOk result (IsRecorder change.now.old.now change.now.new.now change.now.run.now (λ m. time) time (active_of self.new) self.new.recorder) }
     {
         let mut units = 0;
         for id in leaving {
@@ -45,12 +45,12 @@ impl Rerun {
         Ok(())
     }
 
-    /// A module falls asleep before the unit of a time, and its stretch of work ends. It returns the longest delay of its outputs, or 0 where
+    /// A module falls asleep before the unit of a time, and its work span of work ends. It returns the longest delay of its outputs, or 0 where
     /// it sleeps already.
     fn leave_one(&mut self, change: &Change<'_>, id: ModuleId, time: u32) -> Result<u32, AllocError>
         requires places { length self.old.activity.active.items ≡ length change.now.new.now.modules }
         requires can { (r : Part) → module_at change.now.new.now id.0 ≡ Some r → active_of self.old id.0 ≡ true → CanFallAsleep change.now.run.now id.0 time r self.old }
-        requires leaves { IsSome (module_at change.now.new.now id.0) → active_of self.old id.0 ≡ true → CanLeaveHistory self.old.history id.0 time }
+        requires leaves { IsSome (module_at change.now.new.now id.0) → active_of self.old id.0 ≡ true → CanLeaveHistory self.old.recorder id.0 time }
         ensures { IfOk result (λ units. HasLeftOne change.now.new.now change.now.run.now id.0 time units self.old self.new) }
     {
         let Some(found) = change.new.module(id) else {
@@ -60,7 +60,7 @@ impl Rerun {
             return Ok(0);
         }
         self.fall_asleep(change, id, found, time)?;
-        self.history.leave(id, time);
+        self.recorder.leave(id, time);
         Ok(longest(found))
     }
 
@@ -91,14 +91,20 @@ impl Rerun {
         requires { time + units < 2 ^ 32 }
         ensures { OnOk result (HasTakenTails units time self.old self.new) }
     {
-        let alloc = *self.tails.list.allocator();
-        let mut tails = Vec::new(alloc);
-        for place in self.tails.place..self.tails.list.len() {
-            tails.push(self.tails.list[place])?;
+        let alloc = *self.pending_outputs.list.allocator();
+        let mut pending_outputs = Vec::new(alloc);
+        for place in self.pending_outputs.place..self.pending_outputs.list.len() {
+            pending_outputs.push(self.pending_outputs.list[place])?;
         }
         let sources = self.comparison.sources.as_slice();
-        take_changes(&mut self.simulation, sources, units, time, &mut tails)?;
-        self.tails = HeardChanges::of(tails);
+        take_changes(
+            &mut self.simulation,
+            sources,
+            units,
+            time,
+            &mut pending_outputs,
+        )?;
+        self.pending_outputs = HeardChanges::of(pending_outputs);
         Ok(())
     }
 }

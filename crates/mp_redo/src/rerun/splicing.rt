@@ -6,8 +6,8 @@ ghost use Rattle.mp_model.specs.Tracks.{AreTimesIn, held_all};
 ghost use Rattle.mp_active.specs.compare.Comparing.{old_wave};
 ghost use Rattle.mp_redo.specs.rerun.Splicing.{switched, IsUpTo, IsWaveUpTo};
 
-use mp_partition::Run;
 use mp_netlist::WireId;
+use mp_partition::Run;
 use mp_wave::{Wave, WaveBuilder, WaveChanges};
 use std::alloc::{AllocError, Global};
 

@@ -10,7 +10,7 @@ use crate::rerun::first_simulation::{First, first_simulation};
 use crate::rerun::rerun::Rerun;
 use mp_active::compare::laws::reads_are_listed;
 use mp_active::{Change, Comparison, Numbers, SetWires, changed_stimuli};
-use mp_depend::{History, window_end};
+use mp_depend::{RerunRecorder, window_end};
 use mp_modules::MOST_INPUTS;
 use mp_netlist::Netlist;
 use mp_simulation::{HeardChanges, NetlistSimulation, WiredInputs, Wiring};
@@ -29,7 +29,7 @@ impl Rerun {
         reads_are_listed();
         let new = change.new;
         let touches = touched_marks(alloc, change)?;
-        let history = History::first(alloc, new, touches.as_slice())?;
+        let recorder = RerunRecorder::first(alloc, new, touches.as_slice())?;
         let first = first_run(alloc, change, touches.as_slice())?;
         let stimuli = changed_stimuli(alloc, new, first.comparison.sources.as_slice())?;
         let places = first.simulation.modules.places.as_slice();
@@ -44,12 +44,12 @@ impl Rerun {
             comparison,
             inputs,
             stimuli,
-            tails: HeardChanges {
+            pending_outputs: HeardChanges {
                 list: Vec::new(alloc),
                 place: 0,
             },
             activity,
-            history,
+            recorder,
             set: SetWires {
                 bits: Vec::new(alloc),
                 levels: Vec::new(alloc),

@@ -10,8 +10,8 @@ ghost use Rattle.mp_redo.specs.rerun.Tasks.{AreKept, IsDone, IsTaskOf};
 ghost use Rattle.mp_records.specs.declared.module_record.ModuleRecord.{ModuleRecord as Part};
 
 use crate::rerun::join::Join;
-use crate::rerun::means::Means;
 use crate::rerun::old_state::old_pieces;
+use crate::rerun::rerun_context::RerunContext;
 use mp_active::Change;
 use mp_depend::{block_of, old_state};
 use mp_model::built;
@@ -79,7 +79,7 @@ pub(crate) fn tasks_of(
 
 /// The states to which the tasks come: on the threads of the crew where there are as many as it shares out, and else on the calling thread.
 pub(crate) fn states_by<R: Threads + Wait + Sync, G: Gate + Sync>(
-    means: &Means<'_, R, G>,
+    means: &RerunContext<'_, R, G>,
     tasks: Vec<Join>,
 ) -> Result<Vec<Memory>, AllocError>
     requires allowed { AreAllowed Enters (G.may means.now.gate.now) tasks.items }

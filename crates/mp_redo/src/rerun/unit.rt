@@ -1,8 +1,8 @@
 //! A unit of a netlist that is evaluated again.
 ghost use Rattle.std.specs.Prelude.{◌≡◌};
 
-use crate::rerun::means::Means;
 use crate::rerun::rerun::Rerun;
+use crate::rerun::rerun_context::RerunContext;
 use mp_active::Change;
 use mp_phase::Gate;
 use std::alloc::AllocError;
@@ -23,7 +23,7 @@ impl Rerun {
     /// wires change that no active module drives, and active modules answer.
     pub(crate) fn pass_unit<R: Threads + Wait + Sync, G: Gate + Sync>(
         &mut self,
-        means: &Means<'_, R, G>,
+        means: &RerunContext<'_, R, G>,
         change: &Change<'_>,
         time: u32,
     ) -> Result<(), AllocError>

@@ -1,20 +1,20 @@
 //! A netlist that is evaluated again goes from window to window.
 ghost use Rattle.std.specs.Prelude.{◌≡◌};
 
-use crate::rerun::ahead::Ahead;
-use crate::rerun::means::Means;
+use crate::rerun::next_step::NextStep;
 use crate::rerun::rerun::Rerun;
+use crate::rerun::rerun_context::RerunContext;
 use mp_active::Change;
+use mp_depend::{block_of, window_end};
 use mp_netlist::checkpoint_units;
 use mp_phase::Gate;
-use mp_depend::{block_of, window_end};
 use std::alloc::{AllocError, Global};
 use std::sync::Wait;
 use std::thread::Threads;
 
 impl Rerun {
     ghost use Rattle.std.specs.Prelude.{◌≡◌, ◌-◌, ◌<◌, ◌≤◌, IfOk, OnOk};
-    ghost use Rattle.mp_depend.specs.history.Live.{AreAtWork};
+    ghost use Rattle.mp_depend.specs.recording.Live.{AreAtWork};
     ghost use Rattle.mp_phase.specs.Allowed.{IsAllowed};
     ghost use Rattle.mp_redo.specs.rerun.Reruns.{IsChange, active_of};
     ghost use Rattle.mp_redo.specs.rerun.Settling.{HasEnded, IsAhead};
@@ -24,7 +24,7 @@ impl Rerun {
     /// Goes through the units up to an end, which it returns: the horizon, or a time from which on the rest is that of the old run.
     pub(crate) fn pass_all<R: Threads + Wait + Sync, G: Gate + Sync>(
         &mut self,
-        means: &Means<'_, R, G>,
+        means: &RerunContext<'_, R, G>,
         change: &Change<'_>,
     ) -> Result<u32, AllocError>
         requires allowed { IsAllowed (IsEntry change.now.old.now change.now.new.now) (G.may means.now.gate.now) }
@@ -36,14 +36,14 @@ impl Rerun {
         let mut time = 1;
         while time < horizon {
             match self.look_ahead(means.rt, means.gate, change, time)? {
-                Ahead::Next(next) => {
+                NextStep::Next(next) => {
                     time = self.pass_still(change, next);
                     if time < self.window_end {
                         self.pass_unit(means, change, time)?;
                         time += 1;
                     }
                 }
-                Ahead::Over(end) => return Ok(end),
+                NextStep::Over(end) => return Ok(end),
             }
         }
         self.end_window(change, horizon)?;
@@ -58,7 +58,7 @@ impl Rerun {
         gate: &G,
         change: &Change<'_>,
         time: u32,
-    ) -> Result<Ahead, AllocError>
+    ) -> Result<NextStep, AllocError>
         requires allowed { IsAllowed (IsEntry change.now.old.now change.now.new.now) (G.may gate.now) }
         requires change { IsChange change.now }
         requires some { 0 < time }
@@ -67,21 +67,21 @@ impl Rerun {
         ensures { IfOk result (IsAhead change.now.old.now change.now.new.now change.now.run.now time self.new) }
     {
         if time < self.window_end {
-            return Ok(Ahead::Next(time));
+            return Ok(NextStep::Next(time));
         }
         self.end_window(change, time)?;
         let next = self.idle_end(change, time);
         if next == change.new.horizon() {
-            return Ok(Ahead::Over(next));
+            return Ok(NextStep::Over(next));
         }
         if self.is_settled(change, next) {
-            return Ok(Ahead::Over(next));
+            return Ok(NextStep::Over(next));
         }
         self.begin_window(rt, gate, change, next)?;
-        Ok(Ahead::Next(next))
+        Ok(NextStep::Next(next))
     }
 
-    /// The window ends at a time: modules that have joined in it are kept in the history.
+    /// The window ends at a time: modules that have joined in it are kept in the recorder.
     fn end_window(&mut self, change: &Change<'_>, time: u32) -> Result<(), AllocError>
         requires change { IsChange change.now }
         requires some { 0 < time }
@@ -91,7 +91,7 @@ impl Rerun {
         ensures { OnOk result (IsAtWindow change.now.old.now change.now.new.now change.now.run.now (block_of change.now.new.now.horizon (time - 1)) (time - 1) self.new) }
     {
         let block = block_of(change.new.horizon(), time - 1);
-        self.history.open_joined(
+        self.recorder.open_joined(
             change.run,
             change.new,
             block,
@@ -134,7 +134,7 @@ impl Rerun {
         ensures { OnOk result (IsAtWindow change.now.old.now change.now.new.now change.now.run.now (block_of change.now.new.now.horizon time) (time - 1) self.new) }
     {
         if time.is_multiple_of(checkpoint_units(change.new.horizon())) {
-            self.cross_border(change, time)?;
+            self.at_checkpoint(change, time)?;
         }
         Ok(())
     }
@@ -151,7 +151,7 @@ impl Rerun {
         requires window { IsWindow change.now.new.now time self.now.window_end }
         requires work { AreAtWork change.now.old.now change.now.new.now (block_of change.now.new.now.horizon time) time (active_of self.now) }
     {
-        for id in self.history.live() {
+        for id in self.recorder.live() {
             if self.is_at_work(change, *id) {
                 gate.enter(rt, *id, time, self.window_end);
             }

@@ -3,11 +3,11 @@ use Rattle.std.specs.Prelude.{◌≡◌, ℕ, ◌+◌, ◌<◌, List, [], length
 use Rattle.mp_version.specs.Stories.{Story}
 use Rattle.mp_desk.specs.Chronicles.{unsigned}
 use Rattle.mp_desk.specs.Holders.{Seeing}
-use Rattle.mp_desk.specs.meeting.Sittings.{Sitting}
+use Rattle.mp_desk.specs.meeting.Sittings.{DesignerTally}
 use Rattle.mp_seats.specs.Steps.{Seated}
 
 -- a designer at a seat
-abbrev pub sitter : Sitting → Seated
+abbrev pub sitter : DesignerTally → Seated
 sitter s = record { seen = s.seen; accepted = s.accepted; number = s.number; signed = s.signed }
 
 -- a viewer at a seat, of whom no edit is accepted
@@ -23,5 +23,5 @@ abbrev pub just_looking : Story → Seated
 just_looking story = record { seen = story; accepted = 0; number = 0; signed = [] }
 
 -- designers who have just come, numbered from 1
-abbrev pub HaveCome : Story → List Sitting → Type 0
-HaveCome story sittings = (k : ℕ) (s : Sitting) → k < length sittings → sitter (slice_index_or sittings k s) ≡ just_come (k + 1) story
+abbrev pub HaveCome : Story → List DesignerTally → Type 0
+HaveCome story sittings = (k : ℕ) (s : DesignerTally) → k < length sittings → sitter (slice_index_or sittings k s) ≡ just_come (k + 1) story

@@ -3,7 +3,7 @@ use Rattle.std.specs.Prelude.{ℕ, true, false, List, length, map, All, Option}
 use Rattle.mp_version.specs.Stories.{Story}
 use Rattle.mp_desk.specs.Extending.{Extends}
 use Rattle.mp_desk.specs.declared.meeting.tally.Tally.{Tally}
-use Rattle.mp_desk.specs.meeting.Sittings.{Sitting}
+use Rattle.mp_desk.specs.meeting.Sittings.{DesignerTally}
 use Rattle.mp_desk.specs.meeting.Seats.{HasAdjourned}
 use Rattle.mp_seats.specs.Replies.{Writing}
 use Rattle.mp_seats.specs.Steps.{Seated}
@@ -16,7 +16,7 @@ module _ (T : Type 0) {D : Type 0} (Comes : D → D → Option (List ℕ) → Op
   -- last extends what was seen at each; and the meeting ended with those who then sat there, so that the last story's edits are the first one's and
   -- as many as were accepted at all seats; and each of these edits has its place by one line of one seat, so that no place is anybody else's
   pub record IsHosted (first last : Story) (designers viewers : List D) (tallies : List Tally) (numbers : List ℕ) : Type 0 where
-    pub sittings : List Sitting
+    pub sittings : List DesignerTally
     pub looks : List Seated
     pub edited : AreAttended T Comes Leaves TurnsAway w true (λ number. just_come number first) 1 designers (map sitter sittings)
     pub looked : AreAttended T Comes Leaves TurnsAway w false (λ number. just_looking first) 1 viewers looks

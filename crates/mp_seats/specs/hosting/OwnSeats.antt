@@ -10,7 +10,7 @@ use Rattle.mp_seats.specs.Replies.{Writing}
 use Rattle.mp_seats.specs.Steps.{Seated, IsStep}
 use Rattle.mp_seats.specs.declared.hosting.host_fault.HostFault.{HostFault}
 use Rattle.mp_seats.specs.declared.hosting.host_fault.HostFault.TheVariants.{BadSize, Meeting, Talk}
-use Rattle.mp_seats.specs.declared.hosting.place.SeatName.{SeatName}
+use Rattle.mp_seats.specs.declared.hosting.seat_place.SeatName.{SeatName}
 use Rattle.mp_seats.specs.hosting.Guests.{just_looking}
 use Rattle.mp_seats.specs.hosting.Places.{TellsOf}
 

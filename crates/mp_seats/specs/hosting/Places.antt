@@ -1,8 +1,8 @@
 -- The seats of a desk by name, and what is told of them.
 use Rattle.std.specs.Prelude.{◌≡◌, ℕ, Bool, true, false, List, [], ◌∷◌, ◌++◌, map, codes}
 use Rattle.std.specs.Fmt.{decimal}
-use Rattle.mp_seats.specs.declared.hosting.place.SeatName.{SeatName}
-use Rattle.mp_seats.specs.declared.hosting.place.SeatName.TheVariants.{Designer, Viewer}
+use Rattle.mp_seats.specs.declared.hosting.seat_place.SeatName.{SeatName}
+use Rattle.mp_seats.specs.declared.hosting.seat_place.SeatName.TheVariants.{Designer, Viewer}
 
 -- the seats of a desk
 pub record SeatNames : Type 0 where

@@ -1,8 +1,8 @@
 //! A designer at a seat.
 use crate::hosting::rises::Rises;
-use mp_desk::{Desk, DeskName, Sitting};
+use crate::{Occupant, Refusal};
+use mp_desk::{DesignerTally, Desk, DeskName};
 use mp_netlist::Edit;
-use crate::{Guest, Refusal};
 use mp_version::{EditSession, Version};
 use std::alloc::AllocError;
 use std::sync::{Arc, Wait};
@@ -12,10 +12,10 @@ use std::thread::Threads;
 #[derive(Drop)]
 pub(crate) struct DesignerGuest<'a, S: EditSession, L: DeskName, R: Wait + Drop> {
     pub desk: &'a Desk<S, L, R>,
-    pub sitting: Sitting<L>,
+    pub sitting: DesignerTally<L>,
 }
 
-impl<'a, S: EditSession, L: DeskName, R: Wait + Drop> Guest for DesignerGuest<'a, S, L, R> {
+impl<'a, S: EditSession, L: DeskName, R: Wait + Drop> Occupant for DesignerGuest<'a, S, L, R> {
     ghost use Rattle.std.specs.Prelude.{true};
     ghost use Rattle.mp_seats.specs.hosting.Guests.{sitter};
 
@@ -43,11 +43,11 @@ impl<'a, S: EditSession, L: DeskName, R: Wait + Drop> Guest for DesignerGuest<'a
 impl<'a, S: EditSession, L: DeskName, R: Wait + Drop> Rises for DesignerGuest<'a, S, L, R> {
     ghost use Rattle.mp_seats.specs.hosting.Guests.{sitter};
 
-    type Person = Sitting<L>;
+    type Person = DesignerTally<L>;
 
     ghost seated_as = { sitter };
 
-    fn rise(self) -> Sitting<L> {
+    fn rise(self) -> DesignerTally<L> {
         let DesignerGuest { sitting, .. } = self;
         sitting
     }

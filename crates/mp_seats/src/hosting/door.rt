@@ -1,9 +1,9 @@
 //! Where those who sit down come from.
 ghost use Rattle.std.specs.Prelude.{◌≡◌, ◌++◌, ℕ, List, Option, IfSome, IfNone};
-ghost use Rattle.mp_seats.specs.declared.hosting.place.SeatName.{SeatName};
+ghost use Rattle.mp_seats.specs.declared.hosting.seat_place.SeatName.{SeatName};
 
 use crate::hosting::ended::Ended;
-use crate::hosting::place::Places;
+use crate::hosting::seat_place::Places;
 use mp_streams::{Sink, Source};
 
 /// Through which somebody comes to a seat, and later somebody else.

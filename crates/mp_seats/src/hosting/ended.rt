@@ -1,8 +1,8 @@
 //! That an input has ended.
 ghost use Rattle.mp_seats.specs.hosting.Endings.{HasEnded};
 
-use mp_text::LineReader;
 use mp_streams::Source;
+use mp_text::LineReader;
 
 /// Shows that what somebody wrote at a seat was read to its end, or can't be read any more, and that the input is closed. It is made of such an
 /// input alone.

@@ -3,8 +3,8 @@ ghost use Rattle.std.specs.Prelude.{◌≡◌};
 ghost use Rattle.mp_desk.specs.declared.meeting.meeting_fault.MeetingFault.TheVariants.{OutOfMemory};
 ghost use Rattle.mp_seats.specs.declared.hosting.host_fault.HostFault.TheVariants as faults;
 
-use mp_desk::MeetingFault;
 use crate::talk::TalkFault;
+use mp_desk::MeetingFault;
 use std::alloc::{AllocError, AllocFailed};
 use thiserror::Error;
 

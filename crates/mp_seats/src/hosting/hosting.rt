@@ -5,15 +5,18 @@ ghost use Rattle.mp_desk.specs.Holders.{fresh_viewer, AreFresh};
 ghost use Rattle.mp_seats.specs.hosting.OwnSeats.{HasTalked, EndsFor};
 ghost use Rattle.mp_seats.specs.hosting.Hostings.{IsHosted};
 
+use crate::ReplyWriter;
 use crate::hosting::door::{Door, Exit};
 use crate::hosting::hall::Hall;
 use crate::hosting::host_fault::HostFault;
 use crate::hosting::people::People;
 use crate::hosting::service::serve;
-use mp_desk::{BadDeskSize, Desk, DeskName, DeskParts, DeskSize, MeetingFault, Met, Staffed, adjourn, start_all};
-use mp_text::LineReader;
-use crate::Scribe;
+use mp_desk::{
+    BadDeskSize, Desk, DeskName, DeskOutcome, DeskParts, DeskSize, MeetingFault, Staffed, adjourn,
+    start_all,
+};
 use mp_streams::{Out, Sink, Source};
+use mp_text::LineReader;
 use mp_version::EditSession;
 use std::alloc::Global;
 use std::marker::Brand;
@@ -31,7 +34,7 @@ pub fn host<
     R: Threads + Wait + Sync + Send + Copy,
     D: Door + Send,
     X: Exit,
-    B: Scribe + Copy + Send + Sync,
+    B: ReplyWriter + Copy + Send + Sync,
     I: Source,
     T: Sink,
 >(
@@ -41,7 +44,7 @@ pub fn host<
     hall: Hall<D, X, B>,
     lines: &mut LineReader<I>,
     out: &mut Out<T>,
-) -> Result<Met<S>, HostFault>
+) -> Result<DeskOutcome<S>, HostFault>
 where
     S::Prepared: Send,
     D::Input: Send,
@@ -77,7 +80,7 @@ fn host_parts<
     R: Threads + Wait + Sync + Send + Copy,
     D: Door + Send,
     X: Exit,
-    B: Scribe + Copy + Send + Sync,
+    B: ReplyWriter + Copy + Send + Sync,
     I: Source,
     T: Sink,
 >(
@@ -87,7 +90,7 @@ fn host_parts<
     hall: Hall<D, X, B>,
     lines: &mut LineReader<I>,
     out: &mut Out<T>,
-) -> Result<Met<S>, HostFault>
+) -> Result<DeskOutcome<S>, HostFault>
 where
     S::Prepared: Send,
     D::Input: Send,
@@ -118,7 +121,7 @@ fn host_staffed<
     R: Threads + Wait + Sync + Send + Drop,
     D: Door + Send,
     X: Exit,
-    B: Scribe + Copy + Send + Sync,
+    B: ReplyWriter + Copy + Send + Sync,
     I: Source,
     T: Sink,
 >(
@@ -128,7 +131,7 @@ fn host_staffed<
     hall: Hall<D, X, B>,
     lines: &mut LineReader<I>,
     out: &mut Out<T>,
-) -> Result<Met<S>, HostFault>
+) -> Result<DeskOutcome<S>, HostFault>
 where
     S::Prepared: Send,
     D::Input: Send,

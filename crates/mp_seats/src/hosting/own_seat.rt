@@ -5,11 +5,11 @@ ghost use Rattle.mp_text.specs.lexing.Words.{words_of};
 ghost use Rattle.mp_seats.specs.hosting.OwnSeats.{IsSeatsLine};
 
 use crate::hosting::door::Exit;
-use crate::hosting::serves::Ends;
+use crate::hosting::serves::EndNotice;
 use crate::hosting::telling::put_places;
-use crate::{Guest, Scribe, Seat};
-use mp_streams::{Out, Sink, WriteError};
 use crate::talk::Answerer;
+use crate::{Occupant, ReplyWriter, Seat};
+use mp_streams::{Out, Sink, WriteError};
 use mp_text::{first_word, word_count};
 use std::marker::Model;
 use std::sync::Wait;
@@ -18,12 +18,12 @@ use std::thread::Threads;
 /// A seat at which the line `seats` is answered by a line for each seat of the desk, and any other line as at a seat; and how all others learn that
 /// the desk ends. A contract sees the seat, and the names of the desk's seats.
 #[derive(Drop)]
-pub(crate) struct OwnSeat<B: Scribe, G: Guest, X: Exit> {
+pub(crate) struct OwnSeat<B: ReplyWriter, G: Occupant, X: Exit> {
     pub seat: Seat<B, G>,
     pub exit: X,
 }
 
-impl<B: Scribe, G: Guest, X: Exit> Model for OwnSeat<B, G, X> {
+impl<B: ReplyWriter, G: Occupant, X: Exit> Model for OwnSeat<B, G, X> {
     ghost use Rattle.mp_seats.specs.hosting.OwnSeats.{Owner};
 
     ghost Value = { Owner };
@@ -31,7 +31,7 @@ impl<B: Scribe, G: Guest, X: Exit> Model for OwnSeat<B, G, X> {
     ghost view = { λ own. record { seated = own.seat; names = X.names own.exit } };
 }
 
-impl<B: Scribe, G: Guest, X: Exit> Answerer for OwnSeat<B, G, X> {
+impl<B: ReplyWriter, G: Occupant, X: Exit> Answerer for OwnSeat<B, G, X> {
     ghost use Rattle.mp_seats.specs.hosting.OwnSeats.{IsOwnStep};
 
     ghost Answers = { IsOwnStep (record { answer = B.answer_text; reply = B.reply_text }) G.edits };
@@ -49,7 +49,7 @@ impl<B: Scribe, G: Guest, X: Exit> Answerer for OwnSeat<B, G, X> {
     }
 }
 
-impl<B: Scribe, G: Guest, X: Exit> Ends for OwnSeat<B, G, X> {
+impl<B: ReplyWriter, G: Occupant, X: Exit> EndNotice for OwnSeat<B, G, X> {
     type Held = X::Held;
 
     fn end(&self) -> X::Held {

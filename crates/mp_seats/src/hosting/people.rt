@@ -2,13 +2,13 @@
 ghost use Rattle.std.specs.Prelude.{◌≡◌, map, vec_len, IfOk};
 ghost use Rattle.mp_seats.specs.hosting.Guests.{sitter, looker};
 
+use crate::ReplyWriter;
 use crate::hosting::designer_guest::DesignerGuest;
 use crate::hosting::door::Door;
-use crate::hosting::post::{Post, posts};
 use crate::hosting::rises::Rises;
+use crate::hosting::seat_server::{SeatServer, posts};
 use crate::hosting::viewer_guest::ViewerGuest;
-use mp_desk::{Desk, DeskName, Sitting, Viewer};
-use crate::Scribe;
+use mp_desk::{DesignerTally, Desk, DeskName, Viewer};
 use mp_version::EditSession;
 use std::alloc::{AllocError, Global};
 use std::sync::Wait;
@@ -17,7 +17,7 @@ use std::sync::Wait;
 #[derive(Drop)]
 pub(crate) struct People<'a, S: EditSession, L: DeskName, R: Wait + Drop> {
     pub desk: &'a Desk<S, L, R>,
-    pub sittings: Vec<Sitting<L>>,
+    pub sittings: Vec<DesignerTally<L>>,
     pub viewers: Vec<Viewer<L>>,
     pub own: Viewer<L>,
 }
@@ -26,7 +26,7 @@ pub(crate) struct People<'a, S: EditSession, L: DeskName, R: Wait + Drop> {
 fn designer_guests<'a, S: EditSession, L: DeskName, R: Wait + Drop>(
     alloc: Global,
     desk: &'a Desk<S, L, R>,
-    sittings: Vec<Sitting<L>>,
+    sittings: Vec<DesignerTally<L>>,
 ) -> Result<Vec<DesignerGuest<'a, S, L, R>>, AllocError>
     ensures { IfOk result (λ v. map (λ g. g.sitting) v.items ≡ sittings.items) }
 {
@@ -57,15 +57,15 @@ pub(crate) fn designer_posts<
     S: EditSession,
     L: DeskName,
     R: Wait + Drop,
-    B: Scribe + Copy,
+    B: ReplyWriter + Copy,
     D: Door,
 >(
     alloc: Global,
     scribe: B,
     desk: &'a Desk<S, L, R>,
-    sittings: Vec<Sitting<L>>,
+    sittings: Vec<DesignerTally<L>>,
     doors: Vec<D>,
-) -> Result<Vec<Post<B, DesignerGuest<'a, S, L, R>, D>>, AllocError>
+) -> Result<Vec<SeatServer<B, DesignerGuest<'a, S, L, R>, D>>, AllocError>
     requires { vec_len sittings ≡ vec_len doors }
     ensures seats { IfOk result (λ v. map (λ p. p.seat) v.items ≡ map sitter sittings.items) }
     ensures doors { IfOk result (λ v. map (λ p. p.door) v.items ≡ doors.items) }
@@ -76,12 +76,12 @@ pub(crate) fn designer_posts<
 }
 
 /// A post for each viewer, with the door in its place.
-pub(crate) fn viewer_posts<L: DeskName, B: Scribe + Copy, D: Door>(
+pub(crate) fn viewer_posts<L: DeskName, B: ReplyWriter + Copy, D: Door>(
     alloc: Global,
     scribe: B,
     viewers: Vec<Viewer<L>>,
     doors: Vec<D>,
-) -> Result<Vec<Post<B, ViewerGuest<L>, D>>, AllocError>
+) -> Result<Vec<SeatServer<B, ViewerGuest<L>, D>>, AllocError>
     requires { vec_len viewers ≡ vec_len doors }
     ensures seats { IfOk result (λ v. map (λ p. p.seat) v.items ≡ map looker viewers.items) }
     ensures doors { IfOk result (λ v. map (λ p. p.door) v.items ≡ doors.items) }
@@ -92,9 +92,9 @@ pub(crate) fn viewer_posts<L: DeskName, B: Scribe + Copy, D: Door>(
 }
 
 /// The people at these posts.
-pub(crate) fn people_at<B: Scribe, G: Rises, D: Door>(
+pub(crate) fn people_at<B: ReplyWriter, G: Rises, D: Door>(
     alloc: Global,
-    posts: Vec<Post<B, G, D>>,
+    posts: Vec<SeatServer<B, G, D>>,
 ) -> Result<Vec<G::Person>, AllocError>
     ensures { IfOk result (λ v. map G.seated_as v.items ≡ map (λ p. p.seat) posts.items) }
 {

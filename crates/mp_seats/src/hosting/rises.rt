@@ -2,10 +2,10 @@
 ghost use Rattle.std.specs.Prelude.{◌≡◌};
 ghost use Rattle.mp_seats.specs.Steps.{Seated};
 
-use crate::Guest;
+use crate::Occupant;
 
 /// A guest who rises as one of the people of a desk.
-pub(crate) trait Rises: Guest {
+pub(crate) trait Rises: Occupant {
     /// Who that is.
     type Person: Drop;
 

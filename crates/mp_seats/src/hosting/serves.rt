@@ -17,7 +17,7 @@ pub(crate) trait Serves {
 }
 
 /// How others learn that one has come to an end.
-pub(crate) trait Ends {
+pub(crate) trait EndNotice {
     /// What is to be kept until all of them know it.
     type Held: Drop;
 

@@ -12,15 +12,15 @@ use crate::hosting::hall::Hall;
 use crate::hosting::host_fault::HostFault;
 use crate::hosting::own_seat::OwnSeat;
 use crate::hosting::people::{People, designer_posts, people_at, viewer_posts};
-use crate::hosting::post::Post;
-use crate::hosting::serves::{Ends, Serves};
+use crate::hosting::seat_server::SeatServer;
+use crate::hosting::serves::{EndNotice, Serves};
 use crate::hosting::staff::Staff;
 use crate::hosting::viewer_guest::ViewerGuest;
-use mp_desk::{DeskName, MAX_DESIGNERS, MAX_VIEWERS, Sitting, Viewer};
-use mp_text::LineReader;
-use crate::{Scribe, Seat};
-use mp_streams::{Out, Sink, Source};
 use crate::talk::{Answerer, TalkFault, converse};
+use crate::{ReplyWriter, Seat};
+use mp_desk::{DesignerTally, DeskName, MAX_DESIGNERS, MAX_VIEWERS, Viewer};
+use mp_streams::{Out, Sink, Source};
+use mp_text::LineReader;
 use mp_version::EditSession;
 use std::alloc::{AllocError, Global};
 use std::sync::Wait;
@@ -33,7 +33,7 @@ pub(crate) fn serve<
     R: Threads + Wait + Sync + Send + Drop,
     D: Door + Send,
     X: Exit,
-    B: Scribe + Copy + Send + Sync,
+    B: ReplyWriter + Copy + Send + Sync,
     I: Source,
     T: Sink,
 >(
@@ -43,7 +43,7 @@ pub(crate) fn serve<
     hall: Hall<D, X, B>,
     lines: &mut LineReader<I>,
     out: &mut Out<T>,
-) -> Result<(Vec<Sitting<L>>, Vec<Viewer<L>>), HostFault>
+) -> Result<(Vec<DesignerTally<L>>, Vec<Viewer<L>>), HostFault>
 where
     S::Prepared: Send,
     D::Input: Send,
@@ -67,13 +67,21 @@ where
 }
 
 /// The posts of the people at a desk, each with the door in its place, and the seat of whoever runs it.
-fn seats_of<'a, S: EditSession, L: DeskName, R: Wait + Drop, D: Door, X: Exit, B: Scribe + Copy>(
+fn seats_of<
+    'a,
+    S: EditSession,
+    L: DeskName,
+    R: Wait + Drop,
+    D: Door,
+    X: Exit,
+    B: ReplyWriter + Copy,
+>(
     alloc: Global,
     people: People<'a, S, L, R>,
     hall: Hall<D, X, B>,
 ) -> Result<
     (
-        Staff<Post<B, DesignerGuest<'a, S, L, R>, D>, Post<B, ViewerGuest<L>, D>>,
+        Staff<SeatServer<B, DesignerGuest<'a, S, L, R>, D>, SeatServer<B, ViewerGuest<L>, D>>,
         OwnSeat<B, ViewerGuest<L>, X>,
     ),
     AllocError,
@@ -107,10 +115,10 @@ fn seats_of<'a, S: EditSession, L: DeskName, R: Wait + Drop, D: Door, X: Exit, B
 }
 
 /// The designers and the viewers at these posts.
-fn people_of<S: EditSession, L: DeskName, R: Wait + Drop, B: Scribe, D: Door>(
+fn people_of<S: EditSession, L: DeskName, R: Wait + Drop, B: ReplyWriter, D: Door>(
     alloc: Global,
-    staff: Staff<Post<B, DesignerGuest<'_, S, L, R>, D>, Post<B, ViewerGuest<L>, D>>,
-) -> Result<(Vec<Sitting<L>>, Vec<Viewer<L>>), AllocError>
+    staff: Staff<SeatServer<B, DesignerGuest<'_, S, L, R>, D>, SeatServer<B, ViewerGuest<L>, D>>,
+) -> Result<(Vec<DesignerTally<L>>, Vec<Viewer<L>>), AllocError>
     ensures designers { IfOk result (λ both. map sitter both.0.items ≡ map (λ p. p.seat) staff.entry.designers.items) }
     ensures viewers { IfOk result (λ both. map looker both.1.items ≡ map (λ p. p.seat) staff.entry.viewers.items) }
 {
@@ -124,7 +132,7 @@ fn serve_all<
     R: Threads + Wait + Sync + Send,
     P: Serves + Send,
     Q: Serves + Send,
-    O: Answerer + Ends,
+    O: Answerer + EndNotice,
     I: Source,
     T: Sink,
 >(
@@ -152,7 +160,7 @@ fn serve_all<
 }
 
 /// Has the lines of whoever runs the desk answered up to their end or a fault, and tells all others of it.
-fn talk<R: Threads + Wait + Sync, O: Answerer + Ends, I: Source, T: Sink>(
+fn talk<R: Threads + Wait + Sync, O: Answerer + EndNotice, I: Source, T: Sink>(
     rt: &R,
     own: &mut O,
     lines: &mut LineReader<I>,

@@ -5,7 +5,7 @@ ghost use Rattle.mp_streams.specs.Outgoing.{Writes as Sends};
 ghost use Rattle.mp_streams.specs.WriteErrors.{Writes};
 ghost use Rattle.mp_seats.specs.hosting.Places.{state_text, place_text, TellsOf};
 
-use crate::hosting::place::{Place, Places, SeatName};
+use crate::hosting::seat_place::{Places, SeatName, SeatPlace};
 use mp_streams::{Failed, Out, Sink, Text, WriteError};
 
 /// Writes a line for each seat, with whether it is taken.
@@ -17,7 +17,7 @@ pub(crate) fn put_places<T: Sink>(out: &mut Out<T>, places: &Places) -> Result<(
 }
 
 /// Writes a line for each of these seats.
-fn put_each<T: Sink>(out: &mut Out<T>, places: &[Place]) -> Result<(), Failed>
+fn put_each<T: Sink>(out: &mut Out<T>, places: &[SeatPlace]) -> Result<(), Failed>
     ensures { (text : List ℕ) × TellsOf places.now text × Sends result out.old out.new text }
 {
     for index in 0..places.len() {
@@ -27,7 +27,7 @@ fn put_each<T: Sink>(out: &mut Out<T>, places: &[Place]) -> Result<(), Failed>
 }
 
 /// Writes the line of a seat.
-fn put_place<T: Sink>(out: &mut Out<T>, place: &Place) -> Result<(), Failed>
+fn put_place<T: Sink>(out: &mut Out<T>, place: &SeatPlace) -> Result<(), Failed>
     ensures { (taken : Bool) × Sends result out.old out.new (place_text place.now taken) }
 {
     let taken = place.is_taken();

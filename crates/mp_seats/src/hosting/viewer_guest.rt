@@ -1,8 +1,8 @@
 //! A viewer at a seat.
 use crate::hosting::rises::Rises;
+use crate::{Occupant, Refusal};
 use mp_desk::{DeskName, Viewer};
 use mp_netlist::Edit;
-use crate::{Guest, Refusal};
 use mp_version::Version;
 use std::alloc::AllocError;
 use std::sync::{Arc, Wait};
@@ -14,7 +14,7 @@ pub(crate) struct ViewerGuest<L: DeskName> {
     pub viewer: Viewer<L>,
 }
 
-impl<L: DeskName> Guest for ViewerGuest<L> {
+impl<L: DeskName> Occupant for ViewerGuest<L> {
     ghost use Rattle.std.specs.Prelude.{false};
     ghost use Rattle.mp_seats.specs.hosting.Guests.{looker};
 

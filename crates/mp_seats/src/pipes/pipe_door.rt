@@ -1,7 +1,7 @@
 //! The named pipes of a seat as its door.
 
+use crate::hosting::{Door, Ended, Places, SeatPlace};
 use crate::pipes::pipe_paths::PipePaths;
-use crate::hosting::{Door, Ended, Place, Places};
 use mp_streams::{ReadSource, WriteSink};
 use std::fs::{File, OpenOptions};
 
@@ -10,7 +10,7 @@ use std::fs::{File, OpenOptions};
 pub(crate) struct PipeDoor<'a> {
     pub files: &'a HostRuntime,
     pub paths: &'a PipePaths,
-    pub seat: &'a Place,
+    pub seat: &'a SeatPlace,
     pub places: &'a Places,
 }
 

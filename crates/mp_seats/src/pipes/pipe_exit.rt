@@ -1,7 +1,7 @@
 //! The way out of the seats of a desk.
+use crate::hosting::{Exit, Places, SeatPlace};
 use crate::pipes::pipe_paths::PipePaths;
 use crate::pipes::pipes::Pipes;
-use crate::hosting::{Exit, Place, Places};
 use std::fs::{File, OpenOptions};
 
 /// The way out of the seats of a desk: the pipes of one that nobody has taken are opened for both ends, so that a thread that waits there goes on.
@@ -27,7 +27,7 @@ impl PipeExit<'_> {
     }
 
     /// Opens the pipes of the seats that nobody has taken.
-    fn open_free(&self, held: &mut Vec<File>, paths: &[PipePaths], seats: &[Place]) {
+    fn open_free(&self, held: &mut Vec<File>, paths: &[PipePaths], seats: &[SeatPlace]) {
         for (paths, seat) in paths.iter().zip(seats) {
             if !seat.is_taken() {
                 keep(held, self.open_both(paths.input.as_str()));

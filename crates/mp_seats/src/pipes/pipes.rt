@@ -2,14 +2,14 @@
 ghost use Rattle.std.specs.Prelude.{◌≡◌, ◌++◌, Ok, [], IfOk, IfErr};
 ghost use Rattle.mp_seats.specs.hosting.OwnSeats.{HasTalked, EndsFor};
 
+use crate::ReplyWriter;
+use crate::hosting::{Hall, HostFault, Places, SeatPlace, host};
 use crate::pipes::pipe_door::PipeDoor;
 use crate::pipes::pipe_exit::PipeExit;
 use crate::pipes::pipe_paths::PipePaths;
-use crate::hosting::{Hall, HostFault, Place, Places, host};
-use mp_text::LineReader;
-use mp_desk::Met;
-use crate::Scribe;
+use mp_desk::DeskOutcome;
 use mp_streams::{Out, Sink, Source};
+use mp_text::LineReader;
 use mp_version::EditSession;
 use std::alloc::{AllocError, Global};
 use std::sync::Wait;
@@ -55,7 +55,7 @@ impl<'a> Pipes<'a> {
     pub fn host<
         S: EditSession + Send,
         R: Threads + Wait + Sync,
-        B: Scribe + Copy + Send + Sync,
+        B: ReplyWriter + Copy + Send + Sync,
         I: Source,
         T: Sink,
     >(
@@ -65,7 +65,7 @@ impl<'a> Pipes<'a> {
         scribe: B,
         lines: &mut LineReader<I>,
         out: &mut Out<T>,
-    ) -> Result<Met<S>, HostFault>
+    ) -> Result<DeskOutcome<S>, HostFault>
     where
         S::Prepared: Send,
         requires { out.old.held ≡ [] }
@@ -80,7 +80,7 @@ impl<'a> Pipes<'a> {
     }
 
     /// The pipes as doors, and how replies are written.
-    fn hall<B: Scribe + Copy>(
+    fn hall<B: ReplyWriter + Copy>(
         &self,
         scribe: B,
     ) -> Result<Hall<PipeDoor<'_>, PipeExit<'_>, B>, AllocError>
@@ -100,7 +100,7 @@ impl<'a> Pipes<'a> {
     fn doors<'b>(
         &'b self,
         paths: &'b [PipePaths],
-        seats: &'b [Place],
+        seats: &'b [SeatPlace],
     ) -> Result<Vec<PipeDoor<'b>>, AllocError> {
         let mut doors = Vec::with_capacity(self.files.alloc(), seats.len())?;
         for (paths, seat) in paths.iter().zip(seats) {
@@ -116,7 +116,11 @@ impl<'a> Pipes<'a> {
 }
 
 /// The pipes of some seats in a folder.
-fn paths_of(alloc: Global, folder: &str, seats: &[Place]) -> Result<Vec<PipePaths>, AllocError> {
+fn paths_of(
+    alloc: Global,
+    folder: &str,
+    seats: &[SeatPlace],
+) -> Result<Vec<PipePaths>, AllocError> {
     let mut paths = Vec::with_capacity(alloc, seats.len())?;
     for seat in seats {
         paths.push(PipePaths::new(alloc, folder, seat.name())?)?;

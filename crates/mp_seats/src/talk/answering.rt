@@ -4,8 +4,8 @@ ghost use Rattle.std.specs.Option.{option_copied};
 ghost use Rattle.mp_seats.specs.talk.Answers.{PutsAnswer};
 
 use crate::talk::answerer::Answerer;
-use mp_text::{LineReader, TooLong};
 use mp_streams::{Out, Sink, Source, WriteError};
+use mp_text::{LineReader, TooLong};
 use std::sync::Wait;
 use std::thread::Threads;
 

@@ -6,8 +6,8 @@ ghost use Rattle.mp_seats.specs.talk.TalkFaults.{counted_reads};
 use crate::talk::answerer::Answerer;
 use crate::talk::answering::answer;
 use crate::talk::talk_fault::TalkFault;
-use mp_text::LineReader;
 use mp_streams::{Failed, Out, Sink, Source};
+use mp_text::LineReader;
 use std::sync::Wait;
 use std::thread::Threads;
 

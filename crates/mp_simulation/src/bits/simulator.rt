@@ -1,7 +1,10 @@
 //! A simulator of modules of width 1.
 ghost use Rattle.std.specs.Prelude.{◌≡◌};
 
-use mp_kernel::{AutomatonState, EventSlot, EventWheel, Fanout, OutputTable, PortLevels, TransitionTable, WaveTable, add_fanout_events, fire_modules, toggle_wires};
+use mp_kernel::{
+    AutomatonState, EventSlot, EventWheel, Fanout, OutputTable, PortLevels, TransitionTable,
+    WaveTable, add_fanout_events, fire_modules, toggle_wires,
+};
 use mp_modules::Memory;
 use std::alloc::AllocError;
 

@@ -5,12 +5,12 @@ ghost use Rattle.mp_simulation.specs.units.NetlistSimulations.{IsSimulated};
 ghost use Rattle.mp_simulation.specs.run.Narrow.{IsNarrow};
 ghost use Rattle.mp_simulation.specs.run.Evaluations.{IsEvaluated};
 
+use crate::bits::Simulation;
 use crate::run::layout::Layout;
 use crate::run::settling::all_outputs;
-use mp_kernel::TransitionTable;
-use crate::bits::Simulation;
-use mp_partition::Region;
 use crate::units::NetlistSimulation;
+use mp_kernel::TransitionTable;
+use mp_partition::Region;
 use std::alloc::{AllocError, Global};
 
 /// A simulation of a netlist at time 0: all wires have their initial levels, and each module is settled. An output whose level isn't the initial

@@ -6,9 +6,9 @@ ghost use Rattle.mp_simulation.specs.units.NetlistSimulations.{IsSimulated};
 ghost use Rattle.mp_simulation.specs.run.Runs.{wave_built, wave_for};
 
 use crate::bits::{Simulation, Simulator};
+use crate::units::{DataWires, NetlistSimulation};
 use mp_netlist::WireId;
 use mp_partition::Region;
-use crate::units::{DataWires, NetlistSimulation};
 use mp_wave::{ToggleWave, Wave, WaveBuilder};
 use std::alloc::{AllocError, Global};
 

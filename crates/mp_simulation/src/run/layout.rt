@@ -2,16 +2,19 @@
 ghost use Rattle.std.specs.Prelude.{◌≡◌, ◌<◌, IfOk, length};
 ghost use Rattle.mp_simulation.specs.run.Beginnings.{AreFirstWires};
 
+use crate::bits::{DelayedCopies, Simulation, Simulator};
 use crate::run::delays::Delays;
 use crate::run::first_levels::{first_buildings, first_waves};
 use crate::run::numbering::{bit_copies, data_copies, levels_of};
 use crate::run::seating::{Seating, seat_all};
 use crate::run::settling::{Settling, settle_all};
 use crate::run::wiring::{WiredInputs, Wiring, wiring_of};
-use mp_kernel::{EventSlot, EventWheel, Fanout, LevelSlot, LevelWheel, OutputPorts, OutputTable, TransitionTable, WaveTable};
-use crate::bits::{DelayedCopies, Simulation, Simulator};
-use mp_partition::Region;
 use crate::units::{DataWires, NetlistSimulation};
+use mp_kernel::{
+    EventSlot, EventWheel, Fanout, LevelSlot, LevelWheel, OutputPorts, OutputTable,
+    TransitionTable, WaveTable,
+};
+use mp_partition::Region;
 use std::alloc::{AllocError, Global};
 
 /// The longest delays of a netlist, the numbers of its wires and of their delayed copies, and which modules read each. The simulation of a part

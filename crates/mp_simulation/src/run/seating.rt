@@ -10,11 +10,14 @@ ghost use Rattle.mp_simulation.specs.run.Seating.{has_data_at, level_departs, le
 
 use crate::run::settling::{output_port, settled};
 use crate::run::widths::{has_data, is_bit_module};
-use mp_kernel::{DataModule, DataPart, DataPorts, LevelWheel, OutputLevels, OutputPort, OutputPorts, schedule_level_if};
+use crate::units::DataModules;
+use mp_kernel::{
+    DataModule, DataPart, DataPorts, LevelWheel, OutputLevels, OutputPort, OutputPorts,
+    schedule_level_if,
+};
 use mp_modules::{AnyModule, EventModule, MOST_INPUTS, Memory};
 use mp_netlist::{ModuleId, ModuleRecord, Output, WireId};
 use mp_partition::Region;
-use crate::units::DataModules;
 use std::alloc::{AllocError, Global};
 
 /// The modules with data, and the wheel of the levels to come of the wires with data that they drive.

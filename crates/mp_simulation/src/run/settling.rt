@@ -13,7 +13,9 @@ ghost use Rattle.mp_simulation.specs.units.DataLevels.{is_data};
 ghost use Rattle.mp_simulation.specs.run.Settling.{IsShort, ports_of, departs, departing, no_unit, first_unit_of, first_unit, first_entries, IsSettled, AreFirstLevels};
 
 use crate::run::widths::{has_data, is_bit_module};
-use mp_kernel::{Automaton, AutomatonState, EventWheel, OutputPort, OutputPorts, Phase, PortLevels, schedule_if};
+use mp_kernel::{
+    Automaton, AutomatonState, EventWheel, OutputPort, OutputPorts, Phase, PortLevels, schedule_if,
+};
 use mp_modules::{AnyModule, EventModule, MOST_INPUTS, Memory};
 use mp_netlist::{Input, ModuleId, ModuleRecord, Output, WireId};
 use mp_partition::Region;

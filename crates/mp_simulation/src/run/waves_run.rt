@@ -10,14 +10,14 @@ ghost use Rattle.mp_simulation.specs.run.Runs.{wave_in};
 ghost use Rattle.mp_simulation.specs.run.Stimuli.{rest_of, AreAhead};
 ghost use Rattle.mp_simulation.specs.run.WavesRuns.{IsAnySimulated};
 
+use crate::bits::{Simulation, Simulator};
 use crate::run::beginning::{begin, begin_bits};
 use crate::run::finishing::{found_waves, toggled_wave};
 use crate::run::narrow::is_narrow;
 use crate::run::stimuli::Stimuli;
-use crate::bits::{Simulation, Simulator};
+use crate::units::NetlistSimulation;
 use mp_netlist::{Netlist, WireId};
 use mp_partition::Region;
-use crate::units::NetlistSimulation;
 use mp_wave::{ToggleWave, Wave, WaveBuilder};
 use std::alloc::{AllocError, Global};
 

@@ -3,7 +3,10 @@ ghost use Rattle.std.specs.Prelude.{◌≡◌, ℕ, ◌-◌, ◌<◌, ◌≤◌,
 ghost use Rattle.mp_simulation.specs.units.DataLevels.{changes_of, number_of_change};
 ghost use Rattle.mp_simulation.specs.units.DataWaves.{building_at, with_level, pushed};
 
-use mp_kernel::{LevelChange, LevelSlot, LevelWheel, OutputPort, schedule_level_copies, set_levels, toggle_levels};
+use mp_kernel::{
+    LevelChange, LevelSlot, LevelWheel, OutputPort, schedule_level_copies, set_levels,
+    toggle_levels,
+};
 use mp_wave::WaveBuilder;
 use std::alloc::AllocError;
 

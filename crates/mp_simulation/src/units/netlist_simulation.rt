@@ -1,8 +1,8 @@
 //! A simulation of a netlist of any widths.
 
+use crate::bits::Simulation;
 use crate::units::data_modules::DataModules;
 use crate::units::data_wires::DataWires;
-use crate::bits::Simulation;
 use mp_kernel::{LevelChange, fire_data_modules};
 use mp_modules::Memory;
 use std::alloc::AllocError;

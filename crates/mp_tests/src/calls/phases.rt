@@ -1,6 +1,6 @@
 //! A phase in which memory is wanting, and the one behind it.
 use mp_netlist::ModuleId;
-use mp_phase::{Crew, Gate, Hands, OpenGate, Plan, Work};
+use mp_phase::{Crew, Gate, OpenGate, Plan, Work, Workers};
 use std::alloc::{AllocError, Global};
 use std::sync::Wait;
 use std::test::Fail;
@@ -49,11 +49,11 @@ impl Plan for Doubling {
     fn carry_out<R: Wait, G: Gate>(
         self,
         rt: &R,
-        hands: &mut Hands<'_, Number, G>,
+        workers: &mut Workers<'_, Number, G>,
     ) -> (bool, Result<Vec<u32>, AllocError>) {
         let Doubling { first, second } = self;
-        let refused = hands.run(rt, first).is_err();
-        (refused, hands.run(rt, second))
+        let refused = workers.run(rt, first).is_err();
+        (refused, workers.run(rt, second))
     }
 }
 
@@ -74,7 +74,7 @@ fn short_and_whole(alloc: Global, short: &[u32]) -> Result<Doubling, AllocError>
 /// Memory is wanting in a phase: the call says so, and the next phase has its own answers.
 fn goes_on(rt: &(impl Threads + Wait + Sync), alloc: Global, short: &[u32]) -> Result<bool, Fail> {
     let plan = short_and_whole(alloc, short)?;
-    let (refused, doubled) = Crew::new(3, 1)?.hold(rt, alloc, &OpenGate, plan)?;
+    let (refused, doubled) = Crew::new(3, 1)?.with_workers(rt, alloc, &OpenGate, plan)?;
     Ok(refused && doubled?.as_slice() == [2, 4, 6, 8, 10, 12, 14].as_slice())
 }
 

@@ -1,9 +1,9 @@
 //! Designers and viewers at one desk.
 mod closing;
 
+use crate::making::making::{PlannedEdit, PlannedNetlist};
 use mp_desk::{Designer, Desk, DeskName, ReadError, Viewer};
 use mp_netlist::Netlist;
-use crate::making::making::{Change, Plan};
 use mp_phase::{Crew, OpenGate};
 use mp_session::Session;
 use std::alloc::{AllocError, Global};
@@ -11,7 +11,7 @@ use std::sync::Wait;
 use std::test::Fail;
 use std::thread::Threads;
 
-static TWO_WIRES: Plan<'static> = Plan {
+static TWO_WIRES: PlannedNetlist<'static> = PlannedNetlist {
     horizon: 20,
     wires: &["a", "b"],
     parts: &[],
@@ -35,7 +35,7 @@ fn takes(
     rt: &(impl Threads + Wait + Sync),
     alloc: Global,
     session: &mut Session<OpenGate>,
-    change: &Change<'_>,
+    change: &PlannedEdit<'_>,
 ) -> bool {
     match change.edit(alloc) {
         Ok(edit) => session.take(rt, edit).err().is_none(),
@@ -48,7 +48,7 @@ fn edited(rt: &(impl Threads + Wait + Sync), alloc: Global) -> Result<Session<Op
     let crew = Crew::new(2, 1)?;
     let netlist = TWO_WIRES.netlist(alloc).ok_or("no netlist")?;
     let mut session = opened(rt, alloc, netlist, crew)?;
-    if takes(rt, alloc, &mut session, &Change::Wire("c")) {
+    if takes(rt, alloc, &mut session, &PlannedEdit::Wire("c")) {
         Ok(session)
     } else {
         drop(session);
@@ -62,7 +62,7 @@ fn submits<L: DeskName, R: Threads + Wait + Sync + Drop>(
     alloc: Global,
     desk: &Desk<Session<OpenGate>, L, R>,
     me: &mut Designer<L>,
-    change: &Change<'_>,
+    change: &PlannedEdit<'_>,
 ) -> bool {
     match change.edit(alloc) {
         Ok(edit) => {

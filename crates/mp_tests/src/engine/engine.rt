@@ -1,12 +1,12 @@
 //! Small netlists whose waves and states were worked out by hand.
 ghost use Rattle.mp_phase.specs.Allowed.{IsOpen};
 
+use crate::making::making::{PlannedModule, PlannedNetlist};
+use crate::making::waves::has_changes;
 use mp_engine::{Crew, Gate, OpenGate, evaluate};
-use mp_partition::Run;
 use mp_modules::Kind;
 use mp_netlist::{ModuleId, Netlist, WireId};
-use crate::making::making::{Part, Plan};
-use crate::making::waves::has_changes;
+use mp_partition::Run;
 use std::alloc::Global;
 use std::process::Abort;
 use std::sync::Wait;
@@ -15,18 +15,18 @@ use std::test::Fail;
 use std::thread::Threads;
 
 /// Two inverters, each with a wire of its own. It hears its own output 200 units later than that changes, which is 300 units after the answer.
-static LOOPS: Plan<'static> = Plan {
+static LOOPS: PlannedNetlist<'static> = PlannedNetlist {
     horizon: 2000,
     wires: &["y", "z"],
     parts: &[
-        Part {
+        PlannedModule {
             name: "y",
             kind: Kind::Not,
             params: &[],
             inputs: &[("y", 200)],
             outputs: &[("y", 300)],
         },
-        Part {
+        PlannedModule {
             name: "z",
             kind: Kind::Not,
             params: &[],
@@ -53,18 +53,18 @@ fn assert_loop(rt: &impl Abort, run: &Run, number: u32) {
 }
 
 /// Two buffers that read one wire.
-static BUFFERS: Plan<'static> = Plan {
+static BUFFERS: PlannedNetlist<'static> = PlannedNetlist {
     horizon: 20,
     wires: &["a", "y1", "y2"],
     parts: &[
-        Part {
+        PlannedModule {
             name: "b1",
             kind: Kind::Buf,
             params: &[],
             inputs: &[("a", 0)],
             outputs: &[("y1", 3)],
         },
-        Part {
+        PlannedModule {
             name: "b2",
             kind: Kind::Buf,
             params: &[],
@@ -76,18 +76,18 @@ static BUFFERS: Plan<'static> = Plan {
 };
 
 /// Two inverters that read each other's output: both answer at each even time.
-static CONNECTED: Plan<'static> = Plan {
+static CONNECTED: PlannedNetlist<'static> = PlannedNetlist {
     horizon: 20,
     wires: &["y", "z"],
     parts: &[
-        Part {
+        PlannedModule {
             name: "y",
             kind: Kind::Not,
             params: &[],
             inputs: &[("z", 0)],
             outputs: &[("y", 2)],
         },
-        Part {
+        PlannedModule {
             name: "z",
             kind: Kind::Not,
             params: &[],
@@ -184,7 +184,7 @@ fn late_self_loops(rt: HostRuntime) -> Result<(), Fail> {
 fn assert_meeting<R: Abort + Threads + Wait + Sync>(
     rt: &R,
     alloc: Global,
-    plan: &Plan<'_>,
+    plan: &PlannedNetlist<'_>,
     time: u32,
 ) -> Result<(), Fail> {
     let crew = Crew::new(2, 1)?;

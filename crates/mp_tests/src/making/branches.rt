@@ -1,5 +1,5 @@
 //! A netlist in which a change of what is set reaches one module, half of all, or nearly all.
-use crate::making::making::{Change, Part, Plan, Signal};
+use crate::making::making::{PlannedEdit, PlannedModule, PlannedNetlist, Signal};
 use mp_modules::Kind;
 
 /// How many modules the netlist has.
@@ -7,39 +7,39 @@ pub const MODULES: u32 = 5;
 
 /// Two buffers that read one wire, each with a buffer behind it, and one that reads another wire. The netlist falls into three groups of
 /// modules that no wire connects.
-pub const BRANCHES: Plan<'static> = Plan {
+pub const BRANCHES: PlannedNetlist<'static> = PlannedNetlist {
     horizon: 8,
     wires: &["a", "c", "y1", "y2", "y3", "z1", "z2"],
     parts: &[
-        Part {
+        PlannedModule {
             name: "b1",
             kind: Kind::Buf,
             params: &[],
             inputs: &[("a", 0)],
             outputs: &[("y1", 2)],
         },
-        Part {
+        PlannedModule {
             name: "b2",
             kind: Kind::Buf,
             params: &[],
             inputs: &[("a", 0)],
             outputs: &[("y2", 2)],
         },
-        Part {
+        PlannedModule {
             name: "b3",
             kind: Kind::Buf,
             params: &[],
             inputs: &[("c", 0)],
             outputs: &[("y3", 2)],
         },
-        Part {
+        PlannedModule {
             name: "b4",
             kind: Kind::Buf,
             params: &[],
             inputs: &[("y1", 0)],
             outputs: &[("z1", 2)],
         },
-        Part {
+        PlannedModule {
             name: "b5",
             kind: Kind::Buf,
             params: &[],
@@ -54,25 +54,25 @@ pub const BRANCHES: Plan<'static> = Plan {
 };
 
 /// The first two buffers hear another change so late that the netlist ends before the buffers behind them hear of it.
-pub static HALF: Change<'static> = Change::Signal(Signal {
+pub static HALF: PlannedEdit<'static> = PlannedEdit::Signal(Signal {
     wire: "a",
     changes: &[(1, 1), (7, 0)],
 });
 
 /// The same, where the netlist runs for 4 units.
-pub static SOON: Change<'static> = Change::Signal(Signal {
+pub static SOON: PlannedEdit<'static> = PlannedEdit::Signal(Signal {
     wire: "a",
     changes: &[(1, 1), (3, 0)],
 });
 
 /// The third buffer alone hears a change.
-pub static ONE: Change<'static> = Change::Signal(Signal {
+pub static ONE: PlannedEdit<'static> = PlannedEdit::Signal(Signal {
     wire: "c",
     changes: &[(1, 1)],
 });
 
 /// All but the third buffer hear the change later.
-pub static MOST: Change<'static> = Change::Signal(Signal {
+pub static MOST: PlannedEdit<'static> = PlannedEdit::Signal(Signal {
     wire: "a",
     changes: &[(2, 1)],
 });

@@ -1,12 +1,15 @@
 //! What tests make of data: edits, and netlists of wires of one bit that are 0 at first. What they own, as an edit or a netlist, they let go by
 //! `drop` and at one place, since at each other end of a function the proof spells out how each part of it is let go.
 use mp_modules::Kind;
-use mp_netlist::{Boxed, Changes, Edit, Format, InputName, InputNames, Name, Netlist, NewModule, OutputName, OutputNames, Params, SingleEdit};
+use mp_netlist::{
+    Boxed, Changes, Edit, Format, InputName, InputNames, Name, Netlist, NewModule, OutputName,
+    OutputNames, Params, SingleEdit,
+};
 use std::alloc::{AllocError, Global};
 
 /// A module: its ports are at wires, each with a delay in units.
 #[derive(Clone, Copy)]
-pub struct Part<'a> {
+pub struct PlannedModule<'a> {
     pub name: &'a str,
     pub kind: Kind,
     pub params: &'a [u64],
@@ -23,13 +26,13 @@ pub struct Signal<'a> {
 
 /// A change of one thing in a netlist.
 #[derive(Clone, Copy)]
-pub enum Change<'a> {
+pub enum PlannedEdit<'a> {
     /// A new wire.
     Wire(&'a str),
     /// The end of a wire.
     Removal(&'a str),
     /// A new module.
-    Part(Part<'a>),
+    PlannedModule(PlannedModule<'a>),
     Signal(Signal<'a>),
     /// The delay of a module's first output, in units.
     Delay { part: &'a str, delay: u64 },
@@ -37,10 +40,10 @@ pub enum Change<'a> {
 
 /// A netlist that runs for so many units: its wires, and what is at them.
 #[derive(Clone, Copy)]
-pub struct Plan<'a> {
+pub struct PlannedNetlist<'a> {
     pub horizon: u64,
     pub wires: &'a [&'a str],
-    pub parts: &'a [Part<'a>],
+    pub parts: &'a [PlannedModule<'a>],
     pub signals: &'a [Signal<'a>],
 }
 
@@ -97,7 +100,7 @@ fn outputs(alloc: Global, ports: &[(&str, u64)]) -> Result<OutputNames, AllocErr
 }
 
 /// A new module.
-pub fn module(alloc: Global, part: &Part<'_>) -> Result<SingleEdit, AllocError> {
+pub fn module(alloc: Global, part: &PlannedModule<'_>) -> Result<SingleEdit, AllocError> {
     let inputs = inputs(alloc, part.inputs)?;
     let outputs = outputs(alloc, part.outputs)?;
     let added = NewModule {
@@ -110,16 +113,16 @@ pub fn module(alloc: Global, part: &Part<'_>) -> Result<SingleEdit, AllocError> 
     Ok(SingleEdit::AddModule(Boxed::new(alloc, added)?))
 }
 
-impl Change<'_> {
+impl PlannedEdit<'_> {
     fn single(&self, alloc: Global) -> Result<SingleEdit, AllocError> {
         match self {
-            Change::Wire(text) => wire(alloc, text),
-            Change::Removal(text) => Ok(SingleEdit::RemoveWire {
+            PlannedEdit::Wire(text) => wire(alloc, text),
+            PlannedEdit::Removal(text) => Ok(SingleEdit::RemoveWire {
                 wire: name(alloc, text)?,
             }),
-            Change::Part(part) => module(alloc, part),
-            Change::Signal(signal) => stimulus(alloc, signal.wire, signal.changes),
-            Change::Delay { part, delay } => Ok(SingleEdit::SetDelay {
+            PlannedEdit::PlannedModule(part) => module(alloc, part),
+            PlannedEdit::Signal(signal) => stimulus(alloc, signal.wire, signal.changes),
+            PlannedEdit::Delay { part, delay } => Ok(SingleEdit::SetDelay {
                 module: name(alloc, part)?,
                 port: 0,
                 delay: *delay,
@@ -148,7 +151,7 @@ pub fn accepts(netlist: &mut Netlist, edit: Result<SingleEdit, AllocError>) -> b
     }
 }
 
-impl Plan<'_> {
+impl PlannedNetlist<'_> {
     /// Whether an empty netlist takes all that is planned.
     fn fills(&self, alloc: Global, netlist: &mut Netlist) -> bool {
         for text in self.wires {

@@ -1,7 +1,7 @@
 //! A gate that counts who passes it for what.
+use mp_depend::{Work, WorkEntries, WorkEntry};
 use mp_netlist::ModuleId;
 use mp_phase::Gate;
-use mp_depend::{Work, WorkEntries, WorkEntry};
 use std::alloc::{AllocError, Global};
 use std::sync::Wait;
 use std::sync::atomic::{AtomicU64, Ordering};

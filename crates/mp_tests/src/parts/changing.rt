@@ -2,9 +2,9 @@
 ghost use Rattle.std.specs.Prelude.{IfOk};
 ghost use Rattle.mp_depend.specs.work.Revisions.{IsRevision};
 
-use mp_netlist::{Edit, Netlist};
-use crate::making::making::Change;
+use crate::making::making::PlannedEdit;
 use mp_depend::work::laws::edits_revise;
+use mp_netlist::{Edit, Netlist};
 use std::alloc::Global;
 use std::test::Fail;
 
@@ -19,7 +19,11 @@ fn after_edit(old: &Netlist, edit: &Edit) -> Result<Netlist, Fail>
 }
 
 /// The netlist with the change.
-pub(super) fn changed(alloc: Global, old: &Netlist, change: &Change<'_>) -> Result<Netlist, Fail>
+pub(super) fn changed(
+    alloc: Global,
+    old: &Netlist,
+    change: &PlannedEdit<'_>,
+) -> Result<Netlist, Fail>
     ensures { IfOk result (λ new. IsRevision old.now new) }
 {
     let edit = change.edit(alloc)?;

@@ -3,12 +3,12 @@ ghost use Rattle.mp_partition.specs.runs.Runs.{IsRun};
 ghost use Rattle.mp_depend.specs.work.Revisions.{IsRevision};
 
 use super::changing::changed;
+use crate::making::making::{PlannedEdit, PlannedModule, PlannedNetlist, Signal};
+use crate::making::waves::has_changes;
 use mp_engine::{Crew, Gate, OpenGate, evaluate_here};
-use mp_partition::Run;
 use mp_modules::Kind;
 use mp_netlist::{ModuleId, Netlist, WireId};
-use crate::making::making::{Change, Part, Plan, Signal};
-use crate::making::waves::has_changes;
+use mp_partition::Run;
 use mp_redo::redo;
 use std::alloc::Global;
 use std::process::Abort;
@@ -22,12 +22,12 @@ const LOOKS: u32 = 100_000_000;
 
 /// A gate whose first two calls look for each other.
 #[derive(Drop)]
-struct Meeting {
+struct PartsMeeting {
     entered: AtomicU64,
     met: AtomicU64,
 }
 
-impl Gate for Meeting {
+impl Gate for PartsMeeting {
     ghost use Rattle.std.specs.Prelude.{true};
 
     ghost may = { λ gate m from to. true };
@@ -47,18 +47,18 @@ impl Gate for Meeting {
 }
 
 /// Two buffers that read one wire.
-static BUFFERS: Plan<'static> = Plan {
+static BUFFERS: PlannedNetlist<'static> = PlannedNetlist {
     horizon: 20,
     wires: &["a", "y1", "y2"],
     parts: &[
-        Part {
+        PlannedModule {
             name: "b1",
             kind: Kind::Buf,
             params: &[],
             inputs: &[("a", 0)],
             outputs: &[("y1", 3)],
         },
-        Part {
+        PlannedModule {
             name: "b2",
             kind: Kind::Buf,
             params: &[],
@@ -70,7 +70,7 @@ static BUFFERS: Plan<'static> = Plan {
 };
 
 /// The wire rises.
-static RISE: Change<'static> = Change::Signal(Signal {
+static RISE: PlannedEdit<'static> = PlannedEdit::Signal(Signal {
     wire: "a",
     changes: &[(2, 1)],
 });
@@ -94,7 +94,7 @@ fn assert_redone(
     requires run { IsRun old.now run.now }
 {
     let crew = Crew::new(2, 1)?;
-    let gate = Meeting {
+    let gate = PartsMeeting {
         entered: AtomicU64::new(0),
         met: AtomicU64::new(0),
     };

@@ -3,12 +3,12 @@ ghost use Rattle.mp_partition.specs.runs.Runs.{IsRun};
 ghost use Rattle.mp_depend.specs.work.Revisions.{IsRevision};
 
 use super::changing::changed;
-use mp_engine::{Crew, OpenGate, evaluate_here};
-use mp_partition::Run;
-use mp_netlist::Netlist;
 use crate::making::branches::{BRANCHES, HALF, MODULES, MOST, ONE, SOON};
-use crate::making::making::Change;
+use crate::making::making::PlannedEdit;
 use crate::making::passage_counter::{PassageCounter, counts};
+use mp_engine::{Crew, OpenGate, evaluate_here};
+use mp_netlist::Netlist;
+use mp_partition::Run;
 use mp_redo::redo;
 use std::alloc::Global;
 use std::process::Abort;
@@ -18,7 +18,7 @@ use std::thread::Threads;
 
 /// A change of the netlist, and how many modules it reaches.
 #[derive(Clone, Copy)]
-struct Reach<'a>(&'a Change<'a>, u32);
+struct Reach<'a>(&'a PlannedEdit<'a>, u32);
 
 /// A crew, a gate that counts, and how many modules are to pass it.
 #[derive(Drop)]

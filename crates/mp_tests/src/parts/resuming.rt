@@ -3,14 +3,14 @@ ghost use Rattle.mp_partition.specs.runs.Runs.{IsRun};
 ghost use Rattle.mp_depend.specs.work.Revisions.{IsRevision};
 
 use super::changing::changed;
+use crate::making::making::{PlannedEdit, PlannedModule, PlannedNetlist, Signal};
+use crate::making::waves::has_changes;
+use mp_depend::{Work, WorkEntries, WorkEntry, block_of};
 use mp_engine::{Crew, OpenGate, evaluate_here};
-use mp_partition::Run;
 use mp_modules::Kind;
 use mp_netlist::{ModuleId, Netlist, WireId};
-use crate::making::making::{Change, Part, Plan, Signal};
-use crate::making::waves::has_changes;
+use mp_partition::Run;
 use mp_redo::redo;
-use mp_depend::{Work, WorkEntries, WorkEntry, block_of};
 use std::alloc::Global;
 use std::process::Abort;
 use std::sync::Wait;
@@ -18,10 +18,10 @@ use std::test::Fail;
 use std::thread::Threads;
 
 /// A buffer that hears nothing.
-static QUIET: Plan<'static> = Plan {
+static QUIET: PlannedNetlist<'static> = PlannedNetlist {
     horizon: 2000,
     wires: &["a", "y"],
-    parts: &[Part {
+    parts: &[PlannedModule {
         name: "b",
         kind: Kind::Buf,
         params: &[],
@@ -32,7 +32,7 @@ static QUIET: Plan<'static> = Plan {
 };
 
 /// Its input rises at 1500.
-static RISE: Change<'static> = Change::Signal(Signal {
+static RISE: PlannedEdit<'static> = PlannedEdit::Signal(Signal {
     wire: "a",
     changes: &[(1500, 1)],
 });

@@ -1,6 +1,6 @@
 //! One who sits at a seat, makes no edits, and has no memory to read.
 use mp_netlist::Edit;
-use mp_seats::{Guest, Refusal};
+use mp_seats::{Occupant, Refusal};
 use mp_version::Version;
 use std::alloc::AllocError;
 use std::sync::{Arc, Wait};
@@ -10,7 +10,7 @@ use std::thread::Threads;
 #[derive(Drop)]
 pub(crate) struct Onlooker;
 
-impl Guest for Onlooker {
+impl Occupant for Onlooker {
     ghost use Rattle.std.specs.Prelude.{[], false};
     ghost use Rattle.mp_netlist.specs.declared.format.Format.TheVariants.{Standard};
     ghost use Rattle.mp_version.specs.Stories.{opening};

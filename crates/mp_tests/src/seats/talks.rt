@@ -1,9 +1,9 @@
 //! Lines that come to a seat over memory.
 use crate::seats::onlooker::Onlooker;
 use crate::seats::words::Words;
-use mp_text::LineReader;
 use mp_seats::{Seat, TalkFault};
 use mp_streams::{Out, ReadSource, WriteSink};
+use mp_text::LineReader;
 use std::alloc::{AllocError, Global};
 use std::sync::Wait;
 use std::thread::Threads;

@@ -1,5 +1,5 @@
 //! Replies as one word each.
-use mp_seats::{Reply, Scribe};
+use mp_seats::{Reply, ReplyWriter};
 use mp_streams::{Out, Sink, Text, WriteError};
 use mp_text::Question;
 use mp_version::Version;
@@ -10,7 +10,7 @@ use std::thread::Threads;
 #[derive(Drop)]
 pub(crate) struct Words;
 
-impl Scribe for Words {
+impl ReplyWriter for Words {
     ghost use Rattle.std.specs.Prelude.{[]};
     ghost use Rattle.mp_tests.specs.seats.Words.{word};
 

@@ -1,16 +1,16 @@
 //! Sessions of small netlists.
 ghost use Rattle.mp_phase.specs.Allowed.{IsOpen};
 
-use mp_modules::Kind;
-use mp_netlist::{ModuleId, Netlist, WireId};
 use crate::making::branches::{BRANCHES, HALF, MODULES, MOST, ONE};
-use crate::making::making::{Change, Part, Plan, Signal};
+use crate::making::making::{PlannedEdit, PlannedModule, PlannedNetlist, Signal};
 use crate::making::passage_counter::{PassageCounter, counts};
 use crate::making::waves::has_changes;
+use mp_depend::{Work, WorkEntries, WorkEntry};
+use mp_modules::Kind;
+use mp_netlist::{ModuleId, Netlist, WireId};
 use mp_phase::{Crew, Gate};
 use mp_session::Session;
 use mp_version::Version;
-use mp_depend::{Work, WorkEntries, WorkEntry};
 use std::alloc::{AllocError, Global};
 use std::sync::Wait;
 use std::test::Fail;
@@ -36,7 +36,7 @@ fn takes<G: Gate + Sync>(
     rt: &(impl Threads + Wait + Sync),
     alloc: Global,
     session: &mut Session<G>,
-    change: &Change<'_>,
+    change: &PlannedEdit<'_>,
 ) -> bool {
     match change.edit(alloc) {
         Ok(edit) => {
@@ -50,11 +50,11 @@ fn takes<G: Gate + Sync>(
 
 /// Entries of the first module: from one time, to before another, each of so many units.
 #[derive(Clone, Copy)]
-struct Piece(u32, u32, u32);
+struct SessionPiece(u32, u32, u32);
 
 /// Whether these entries come next.
-fn come_next(entries: &mut WorkEntries, piece: &Piece) -> bool {
-    let Piece(begin, end, units) = *piece;
+fn come_next(entries: &mut WorkEntries, piece: &SessionPiece) -> bool {
+    let SessionPiece(begin, end, units) = *piece;
     let mut from = begin;
     for _ in begin..end {
         if from >= end {
@@ -75,7 +75,7 @@ fn come_next(entries: &mut WorkEntries, piece: &Piece) -> bool {
 }
 
 /// Whether these entries are all.
-fn are_all(entries: &mut WorkEntries, pieces: &[Piece]) -> bool {
+fn are_all(entries: &mut WorkEntries, pieces: &[SessionPiece]) -> bool {
     for piece in pieces {
         if !come_next(entries, piece) {
             return false;
@@ -85,7 +85,7 @@ fn are_all(entries: &mut WorkEntries, pieces: &[Piece]) -> bool {
 }
 
 /// Whether the work has just these entries.
-fn has_entries(work: &Work, pieces: &[Piece]) -> bool {
+fn has_entries(work: &Work, pieces: &[SessionPiece]) -> bool {
     match work.entries() {
         Ok(mut entries) => {
             let same = are_all(&mut entries, pieces);
@@ -105,25 +105,25 @@ fn is_version(version: &Version, number: u32, wire: u32, changes: &[(u32, u64)])
 }
 
 /// A buffer of 4 units from a to y, and two of 2 units in a row from c over z to v.
-static CHAIN: Plan<'static> = Plan {
+static CHAIN: PlannedNetlist<'static> = PlannedNetlist {
     horizon: 100,
     wires: &["a", "c", "y", "z", "v"],
     parts: &[
-        Part {
+        PlannedModule {
             name: "b1",
             kind: Kind::Buf,
             params: &[],
             inputs: &[("a", 0)],
             outputs: &[("y", 4)],
         },
-        Part {
+        PlannedModule {
             name: "b2",
             kind: Kind::Buf,
             params: &[],
             inputs: &[("c", 0)],
             outputs: &[("z", 2)],
         },
-        Part {
+        PlannedModule {
             name: "b3",
             kind: Kind::Buf,
             params: &[],
@@ -134,7 +134,7 @@ static CHAIN: Plan<'static> = Plan {
     signals: &[],
 };
 
-static RISE: Change<'static> = Change::Signal(Signal {
+static RISE: PlannedEdit<'static> = PlannedEdit::Signal(Signal {
     wire: "a",
     changes: &[(50, 1)],
 });
@@ -142,7 +142,7 @@ static RISE: Change<'static> = Change::Signal(Signal {
 /// What an edit leads to: the work, in which so many modules are, and the version of this number.
 #[derive(Drop)]
 struct Effect<'a> {
-    pieces: &'a [Piece],
+    pieces: &'a [SessionPiece],
     modules: u32,
     number: u32,
 }
@@ -170,7 +170,7 @@ fn rises_twice(
     counter: PassageCounter<'_>,
 ) -> bool {
     let first = Effect {
-        pieces: &[Piece(0, 52, 52), Piece(52, 100, 2)],
+        pieces: &[SessionPiece(0, 52, 52), SessionPiece(52, 100, 2)],
         modules: 1,
         number: 1,
     };
@@ -202,7 +202,7 @@ fn passes(
     alloc: Global,
     session: &mut Session<PassageCounter<'_>>,
     counter: PassageCounter<'_>,
-    change: &Change<'_>,
+    change: &PlannedEdit<'_>,
     modules: u32,
 ) -> bool {
     counter.clear();

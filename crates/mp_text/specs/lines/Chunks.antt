@@ -2,6 +2,6 @@
 use Rattle.std.specs.Prelude.{ℕ, Bool, List}
 
 -- the bytes, and whether the source told its end
-pub record Chunk : Type 0 where
+pub record SourceChunk : Type 0 where
   pub bytes : List ℕ
   pub is_last : Bool

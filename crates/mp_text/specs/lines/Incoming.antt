@@ -4,7 +4,7 @@ use Rattle.std.specs.Io.KnownBytes.{Consumes}
 use Rattle.std.specs.List.{before_first, after_first}
 use Rattle.mp_streams.specs.declared.failed.Failed.{Failed}
 use Rattle.mp_text.specs.lexing.Lines.{is_line_feed}
-use Rattle.mp_text.specs.lines.Chunks.{Chunk}
+use Rattle.mp_text.specs.lines.Chunks.{SourceChunk}
 use Rattle.mp_text.specs.lines.Given.{given, has_line_feed}
 
 -- the bytes that the source has left, where it tells them, those that were taken and are in no line yet, whether the source told its end, the
@@ -17,7 +17,7 @@ pub record Incoming : Type 0 where
   pub faults : ℕ
 
 -- what comes of a source, by what it has left and its faults
-abbrev pub incoming : Option (List ℕ) → ℕ → Chunk → Option (List ℕ) → Incoming
+abbrev pub incoming : Option (List ℕ) → ℕ → SourceChunk → Option (List ℕ) → Incoming
 incoming left faults chunk line = record { left = left; held = chunk.bytes; ended = chunk.is_last; line = line; faults = faults }
 
 -- a line was read off these bytes: it is the first of them, and ends there or with the source

@@ -3,11 +3,11 @@ ghost use Rattle.std.specs.Prelude.{◌≡◌};
 ghost use Rattle.mp_streams.specs.Outgoing.{Writes};
 ghost use Rattle.mp_text.specs.edit_lines.EditLines.{single_text, wire_word, module_text, stimulus_text};
 
+use crate::Spaced;
 use crate::edit_lines::new_ports::{NewInputs, NewOutputs};
 use crate::edit_lines::pairs::Pairs;
 use mp_records::{Boxed, Name, NewModule, SingleEdit};
 use mp_streams::{Failed, Out, Sink, Text};
-use crate::Spaced;
 
 /// An edit of one thing, as a line of a script has it.
 #[derive(Clone, Copy)]

@@ -1,21 +1,21 @@
 //! Changes of waves.
 ghost use Rattle.mp_text.specs.lexing.Clauses.{changes_text};
 
-use crate::lexing::change::Change;
+use crate::lexing::change_text::ChangeText;
 use mp_streams::{Failed, Out, Sink, Text};
 
 /// Changes of a wave, each written as ` T=V`.
 #[derive(Clone, Copy)]
-pub struct Changes<'a> {
+pub struct ChangeTexts<'a> {
     pub changes: &'a [(u32, u64)],
 }
 
-impl<'a> Text for Changes<'a> {
+impl<'a> Text for ChangeTexts<'a> {
     ghost text = { λ wave. changes_text wave.changes.now };
 
     fn put_to<S: Sink>(&self, out: &mut Out<S>) -> Result<(), Failed> {
         for &(time, value) in self.changes {
-            out.put_piece(&Change { time, value })?;
+            out.put_piece(&ChangeText { time, value })?;
         }
         Ok(())
     }
@@ -33,7 +33,7 @@ impl<'a> Text for ShortChanges<'a> {
     fn put_to<S: Sink>(&self, out: &mut Out<S>) -> Result<(), Failed> {
         for &(time, value) in self.changes {
             let value = value as u64;
-            out.put_piece(&Change { time, value })?;
+            out.put_piece(&ChangeText { time, value })?;
         }
         Ok(())
     }

@@ -4,9 +4,9 @@ ghost use Rattle.std.specs.Io.KnownBytes.{IsAtEnd};
 ghost use Rattle.mp_streams.specs.StreamFaults.{counted};
 ghost use Rattle.mp_text.specs.lines.Incoming.{ReadsLine, StaysIfHeld};
 
-use crate::lines::chunk::Chunk;
 use crate::lines::line_room::LineRoom;
 use crate::lines::reading::read_on;
+use crate::lines::source_chunk::SourceChunk;
 use crate::lines::too_long::TooLong;
 use mp_streams::{Failed, Source};
 use std::alloc::{AllocError, Global};
@@ -18,7 +18,7 @@ use std::sync::Wait;
 #[derive(Drop)]
 pub struct LineReader<S: Source> {
     source: S,
-    chunk: Chunk,
+    chunk: SourceChunk,
     line: LineRoom,
 }
 
@@ -45,7 +45,7 @@ impl<S: Source> LineReader<S> {
         ensures line { IfOk result (λ reader. reader.line ≡ Some []) }
         ensures faults { IfOk result (λ reader. reader.faults ≡ S.fault_count source) }
     {
-        let chunk = Chunk::new(alloc)?;
+        let chunk = SourceChunk::new(alloc)?;
         let line = LineRoom::new(alloc)?;
         Ok(LineReader {
             source,

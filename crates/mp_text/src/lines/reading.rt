@@ -7,17 +7,17 @@ ghost use Rattle.mp_streams.specs.StreamFaults.{counted};
 ghost use Rattle.mp_text.specs.lines.Given.{with_more, has_line_feed};
 ghost use Rattle.mp_text.specs.lines.Incoming.{incoming, ReadsLine, StaysIfHeld};
 
-use crate::lines::chunk::Chunk;
-use crate::lines::line_room::LineRoom;
-use mp_streams::{Failed, Source};
 use crate::lexing::first_line;
+use crate::lines::line_room::LineRoom;
+use crate::lines::source_chunk::SourceChunk;
+use mp_streams::{Failed, Source};
 use std::sync::Wait;
 
 /// Reads the next line, as `LineReader::read` says.
 pub(crate) fn read_on<R: Wait, S: Source>(
     rt: &R,
     source: &mut S,
-    chunk: &mut Chunk,
+    chunk: &mut SourceChunk,
     line: &mut LineRoom,
 ) -> Result<bool, Failed>
     requires { chunk.old.is_last ≡ true → IsAtEnd (S.left source.old) }
@@ -41,7 +41,7 @@ pub(crate) fn read_on<R: Wait, S: Source>(
 
 /// Moves the bytes before the first line feed to the line, with all bytes where there is none, and passes over the line feed. Returns whether
 /// there was one.
-fn absorb(chunk: &mut Chunk, line: &mut LineRoom) -> bool
+fn absorb(chunk: &mut SourceChunk, line: &mut LineRoom) -> bool
     ensures ends { result ≡ has_line_feed chunk.old.bytes }
     ensures line { line.new ≡ with_more line.old (before_first is_line_feed chunk.old.bytes) }
     ensures rest { chunk.new.bytes ≡ after_first is_line_feed chunk.old.bytes }

@@ -17,7 +17,7 @@ use Rattle.mp_model.specs.Levels.{initial_of, driven_level}
 use Rattle.mp_model.specs.Waves.{level, state}
 use Rattle.mp_model.proofs.BehaviourLemmas.{satisfies}
 use Rattle.mp_model.proofs.HistoryLemmas.{late}
-use Rattle.mp_kernel.specs.calendar.Calendars.{never}
+use Rattle.mp_kernel.specs.timers.TimerWheels.{never}
 use Rattle.mp_depend.specs.work.Revisions.{IsKept, IsDrivenAlike}
 use Rattle.mp_depend.specs.work.Stays.{SourceAgrees}
 use Rattle.mp_depend.proofs.lemmas.work.LevelLemmas.{levels_stay}

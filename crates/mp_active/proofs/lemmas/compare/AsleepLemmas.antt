@@ -81,7 +81,7 @@ awake_reads ports i d was mid low before reads = record {
 -- fewer inputs asleep need fewer numbers
 pub awake_complete : (run : Outcome) (t : ℕ) (ports : List (Option ℕ)) (was is : Comparison) → AreAwake ports was is → IsComplete run t was → IsComplete run t is
 awake_complete run t ports was is awake =
-    step_complete run t was is is (ap (λ (c : Comparison). c.numbers) awake.kept) (ap (λ (c : Comparison). c.calendar) awake.kept)
+    step_complete run t was is is (ap (λ (c : Comparison). c.numbers) awake.kept) (ap (λ (c : Comparison). c.timers) awake.kept)
     (record { kept = refl; others = λ x listed. listed })
     (λ x low needed. inl (fewer x (or_cases (is_following is x) (is_tracked is x (t + 1)) needed)))
   where
@@ -105,7 +105,7 @@ awake_complete run t ports was is awake =
 
 -- inputs at so many ports are asleep, and what is needed is listed
 pub record AreAsleep (run : Outcome) (t : ℕ) (ports : List (Option ℕ)) (was is : Comparison) : Type 0 where
-  pub kept : is ≡ record was { asleep = is.asleep; calendar = is.calendar; places = is.places }
+  pub kept : is ≡ record was { asleep = is.asleep; timers = is.timers; places = is.places }
   pub cursors : HasCursors run t [] is
   pub complete : IsComplete run t was → IsComplete run t is
   pub counts : (x : ℕ) → asleep_at is x ≡ asleep_at was x + listed x (numbers_in ports)
@@ -116,7 +116,7 @@ asleep_none run t was has = record { kept = refl; cursors = has; complete = λ a
 pub asleep_more : (run : Outcome) (t : ℕ) (ports : List (Option ℕ)) (i : ℕ) (d : Option ℕ) (was mid is : Comparison) → i < length ports → AreAsleep run t (take i ports) was mid →
     AreAsleep run t (get_or ports i d ∷ []) mid is → AreAsleep run t (take (i + 1) ports) was is
 asleep_more run t ports i d was mid is low before one = record {
-  kept = one.kept ∙ ap (λ (c : Comparison). record c { asleep = is.asleep; calendar = is.calendar; places = is.places }) before.kept;
+  kept = one.kept ∙ ap (λ (c : Comparison). record c { asleep = is.asleep; timers = is.timers; places = is.places }) before.kept;
   cursors = one.cursors;
   complete = λ all. one.complete (before.complete all);
   counts = λ x.
@@ -145,17 +145,17 @@ asleep_reads run t ports i d was mid low before reads =
 pub one_asleep : (run : Outcome) (t number : ℕ) (was mid is : Comparison) → mid ≡ record was { asleep = mid.asleep } → ((x : ℕ) → asleep_at mid x ≡ asleep_at was x + listed x (number ∷ [])) →
     HasCursors run t [] is → HasRelisted run t mid is → (is_tracked mid number (t + 1) ≡ true → IsListed run t is number) → AreAsleep run t (Some number ∷ []) was is
 one_asleep run t number was mid is kept counts has listing own = record {
-  kept = listing.kept ∙ ap (λ (c : Comparison). record c { calendar = is.calendar; places = is.places }) kept ∙ asleep_of;
+  kept = listing.kept ∙ ap (λ (c : Comparison). record c { timers = is.timers; places = is.places }) kept ∙ asleep_of;
   cursors = has;
-  complete = step_complete run t was mid is numbers (ap (λ (c : Comparison). c.calendar) kept) listing (λ x low needed. new x needed (number == x) refl);
+  complete = step_complete run t was mid is numbers (ap (λ (c : Comparison). c.timers) kept) listing (λ x low needed. new x needed (number == x) refl);
   counts = λ x. ap (λ (c : Comparison). asleep_at c x) listing.kept ∙ counts x;
 }
   where
     numbers : mid.numbers ≡ was.numbers
     numbers = ap (λ (c : Comparison). c.numbers) kept
 
-    asleep_of : (record was { asleep = mid.asleep; calendar = is.calendar; places = is.places }) ≡ (record was { asleep = is.asleep; calendar = is.calendar; places = is.places })
-    asleep_of = ap (λ a. record was { asleep = a; calendar = is.calendar; places = is.places }) (sym (ap (λ (c : Comparison). c.asleep) listing.kept))
+    asleep_of : (record was { asleep = mid.asleep; timers = is.timers; places = is.places }) ≡ (record was { asleep = is.asleep; timers = is.timers; places = is.places })
+    asleep_of = ap (λ a. record was { asleep = a; timers = is.timers; places = is.places }) (sym (ap (λ (c : Comparison). c.asleep) listing.kept))
 
     follows : (x : ℕ) → is_following mid x ≡ is_following was x
     follows x = ap (λ (c : Comparison). is_following c x) kept

@@ -7,7 +7,7 @@ use Rattle.mp_netlist.proofs.LimitLemmas.{horizon_within}
 use Rattle.mp_partition.specs.runs.Marks.{is_marked}
 use Rattle.mp_partition.specs.runs.Outcomes.{Outcome}
 use Rattle.mp_partition.specs.runs.Runs.{IsRun}
-use Rattle.mp_kernel.specs.calendar.Calendars.{never}
+use Rattle.mp_kernel.specs.timers.TimerWheels.{never}
 use Rattle.mp_active.specs.declared.compare.numbers.Numbers.{Numbers}
 use Rattle.mp_active.specs.declared.compare.wire_source.WireSource.{WireSource}
 use Rattle.mp_active.specs.declared.compare.comparison.Comparison.{Comparison}
@@ -54,7 +54,7 @@ unread_cursors old n ok run is c are long unread = record {
     own = λ w low. are.own w (omega arith);
   };
   form = runs_have_waves old run is;
-  calendar = unread.calendar 0;
+  timers = unread.timers 0;
   room = λ x k low within.
       let early = runs_end old ok run is (wire_of c.numbers x) k within in
       let most = horizon_within old ok in
@@ -66,7 +66,7 @@ unread_cursors old n ok run is c are long unread = record {
   later = λ x listed. absurd (listed (unread.free x));
 }
 
--- what is noted of readers leaves the calendar
+-- what is noted of readers leaves the timer wheel
 pub read_cursors : (run : Outcome) (t : ℕ) (taken : List ℕ) (f : ℕ → ℕ) (p : ℕ → Bool) (was is : Comparison) → HasRead f p was is → HasCursors run t taken was → HasCursors run t taken is
 read_cursors run t taken f p was is read has = subst (HasCursors run t taken) (sym read.kept) (record {
   shape = record {
@@ -82,7 +82,7 @@ read_cursors run t taken f p was is read has = subst (HasCursors run t taken) (s
     own = λ w low. has.shape.own w (let long = read.long in omega arith);
   };
   form = has.form;
-  calendar = has.calendar;
+  timers = has.timers;
   room = has.room;
   place = has.place;
   time = has.time;
@@ -94,7 +94,7 @@ read_cursors run t taken f p was is read has = subst (HasCursors run t taken) (s
 pub are_first : (old new : Circuit) (active : List Bool) (inputs : List (List (Option ℕ))) (was read is : Comparison) → length was.sources.items ≡ length new.wires →
     ((w : ℕ) → w < length new.wires → IsFirst old new active w false (source_at was w)) → IsUnread was →
     HasRead (asleep_below new (is_marked active) inputs (length new.modules)) (active_below new (is_marked active) inputs was.numbers (length new.modules)) was read →
-    is ≡ record read { calendar = is.calendar; places = is.places } → AreFirst old new active inputs is
+    is ≡ record read { timers = is.timers; places = is.places } → AreFirst old new active inputs is
 are_first old new active inputs was read is long first unread reads kept = subst (AreFirst old new active inputs) (sym kept) (record {
   places = reads.long ∙ long;
   sources = λ w low.
@@ -104,7 +104,7 @@ are_first old new active inputs was read is long first unread reads kept = subst
 })
 
 -- no change was seen
-pub are_unseen : (was read is : Comparison) (f : ℕ → ℕ) (p : ℕ → Bool) → IsUnread was → HasRead f p was read → is ≡ record read { calendar = is.calendar; places = is.places } → AreUnseen 1 is
+pub are_unseen : (was read is : Comparison) (f : ℕ → ℕ) (p : ℕ → Bool) → IsUnread was → HasRead f p was read → is ≡ record read { timers = is.timers; places = is.places } → AreUnseen 1 is
 are_unseen was read is f p unread reads kept x =
     let same = ap (λ (c : Comparison). seen_at c x) kept in
     let before = ap (λ (c : Comparison). seen_at c x) reads.kept in
@@ -136,7 +136,7 @@ followed_listed run wire was is zero_is listed x of needed = elim (or_cases (is_
 
 -- the wires so far are listed where it is needed
 pub record AreListedTo (run : Outcome) (wires : ℕ) (was is : Comparison) : Type 0 where
-  pub kept : is ≡ record was { calendar = is.calendar; places = is.places }
+  pub kept : is ≡ record was { timers = is.timers; places = is.places }
   pub cursors : HasCursors run 0 [] is
   pub listed : ((w : ℕ) → w < length was.sources.items → IsNeverOrZero (source_at was w)) → (x : ℕ) → x < length was.numbers.wires.items → wire_of was.numbers x < wires →
       (is_following was x || is_tracked was x 1) ≡ true → IsListed run 0 is x
@@ -144,11 +144,11 @@ pub record AreListedTo (run : Outcome) (wires : ℕ) (was is : Comparison) : Typ
 pub nothing_listed : (run : Outcome) (c : Comparison) → HasCursors run 0 [] c → AreListedTo run 0 c c
 nothing_listed run c has = record { kept = refl; cursors = has; listed = λ sources x low less. absurd (omega arith) }
 
-pub listed_more : (run : Outcome) (wire : ℕ) (was mid is : Comparison) → wire < length was.sources.items → AreListedTo run wire was mid → is ≡ record mid { calendar = is.calendar; places = is.places } →
+pub listed_more : (run : Outcome) (wire : ℕ) (was mid is : Comparison) → wire < length was.sources.items → AreListedTo run wire was mid → is ≡ record mid { timers = is.timers; places = is.places } →
     HasCursors run 0 [] is → (IsNeverOrZero (source_at mid wire) → (x : ℕ) → x < length mid.numbers.wires.items → wire_of mid.numbers x ≡ wire → (is_following mid x || is_tracked mid x 1) ≡ true → IsListed run 0 is x) →
     ((x : ℕ) → IsListed run 0 mid x → IsListed run 0 is x) → AreListedTo run (wire + 1) was is
 listed_more run wire was mid is within before kept has here others = record {
-  kept = kept ∙ ap (λ (c : Comparison). record c { calendar = is.calendar; places = is.places }) before.kept;
+  kept = kept ∙ ap (λ (c : Comparison). record c { timers = is.timers; places = is.places }) before.kept;
   cursors = has;
   listed = λ sources x low less needed. elim (cases_eq (wire_of was.numbers x) wire) as (λ _. IsListed run 0 is x) [
     | inl own ↦

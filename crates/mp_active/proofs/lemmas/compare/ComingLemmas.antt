@@ -7,7 +7,7 @@ use Rattle.std.proofs.lemmas.List.Elements.{All-get_or}
 use Rattle.std.proofs.lemmas.List.Sums.{sum_by-append}
 use Rattle.mp_kernel.specs.automata.Codes.{bit}
 use Rattle.mp_kernel.specs.events.Adding.{listed}
-use Rattle.mp_kernel.specs.calendar.Calendars.{coming}
+use Rattle.mp_kernel.specs.timers.TimerWheels.{coming}
 use Rattle.mp_active.specs.declared.compare.numbers.Numbers.{Numbers}
 use Rattle.mp_active.specs.declared.compare.comparison.Comparison.{Comparison}
 use Rattle.mp_active.specs.compare.Comparing.{IsShaped}
@@ -88,25 +88,25 @@ some_shape time some was is met shape = subst IsShaped (sym met.kept) (record {
 })
 
 -- the numbers that come up stay
-some_coming : (time : ℕ) (some xs : List ℕ) (was is : Comparison) → HasMetSome time some was is → xs ≡ coming is.calendar → xs ≡ coming was.calendar
-some_coming time some xs was is met now = now ∙ ap (λ (c : Comparison). coming c.calendar) met.kept
+some_coming : (time : ℕ) (some xs : List ℕ) (was is : Comparison) → HasMetSome time some was is → xs ≡ coming is.timers → xs ≡ coming was.timers
+some_coming time some xs was is met now = now ∙ ap (λ (c : Comparison). coming c.timers) met.kept
 
-pub some_within : (time : ℕ) (some xs : List ℕ) (i : ℕ) (was is : Comparison) → HasMetSome time some was is → xs ≡ coming is.calendar → i < length (coming was.calendar) →
-    All (λ x. x < length was.numbers.wires.items) (coming was.calendar) → get_or xs i 0 < length is.numbers.wires.items
+pub some_within : (time : ℕ) (some xs : List ℕ) (i : ℕ) (was is : Comparison) → HasMetSome time some was is → xs ≡ coming is.timers → i < length (coming was.timers) →
+    All (λ x. x < length was.numbers.wires.items) (coming was.timers) → get_or xs i 0 < length is.numbers.wires.items
 some_within time some xs i was is met now low all =
     subst (λ (ys : List ℕ). get_or ys i 0 < length is.numbers.wires.items) (sym (some_coming time some xs was is met now))
-    (subst (λ (numbers : Numbers). get_or (coming was.calendar) i 0 < length numbers.wires.items) (sym (ap (λ (c : Comparison). c.numbers) met.kept))
-    (All-get_or (λ x. x < length was.numbers.wires.items) (coming was.calendar) i 0 low all))
+    (subst (λ (numbers : Numbers). get_or (coming was.timers) i 0 < length numbers.wires.items) (sym (ap (λ (c : Comparison). c.numbers) met.kept))
+    (All-get_or (λ x. x < length was.numbers.wires.items) (coming was.timers) i 0 low all))
 
-pub get_same : (time : ℕ) (some xs : List ℕ) (i : ℕ) (was then : Comparison) (pushed : List ℕ) → HasMetSome time some was then → xs ≡ coming then.calendar →
+pub get_same : (time : ℕ) (some xs : List ℕ) (i : ℕ) (was then : Comparison) (pushed : List ℕ) → HasMetSome time some was then → xs ≡ coming then.timers →
     pushed ≡ cond (is_old_alone then time (get_or xs i 0)) (then.departing.items ++ get_or xs i 0 ∷ []) then.departing.items →
-    pushed ≡ cond (is_old_alone then time (get_or (coming was.calendar) i 0)) (then.departing.items ++ get_or (coming was.calendar) i 0 ∷ []) then.departing.items
+    pushed ≡ cond (is_old_alone then time (get_or (coming was.timers) i 0)) (then.departing.items ++ get_or (coming was.timers) i 0 ∷ []) then.departing.items
 get_same time some xs i was then pushed met now is =
     subst (λ (ys : List ℕ). pushed ≡ cond (is_old_alone then time (get_or ys i 0)) (then.departing.items ++ get_or ys i 0 ∷ []) then.departing.items) (some_coming time some xs was then met now) is
 
 -- all have been met
-pub some_all : (time n : ℕ) (was is : Comparison) → length (coming was.calendar) ≤ n → HasMetSome time (take n (coming was.calendar)) was is → HasMetOld time was is
+pub some_all : (time n : ℕ) (was is : Comparison) → length (coming was.timers) ≤ n → HasMetSome time (take n (coming was.timers)) was is → HasMetOld time was is
 some_all time n was is long met = record {
   kept = met.kept;
-  departing = λ x. met.departing x ∙ ap (λ (xs : List ℕ). listed x was.departing.items + cond (is_old_alone was time x) (listed x xs) 0) (take_all n (coming was.calendar) long);
+  departing = λ x. met.departing x ∙ ap (λ (xs : List ℕ). listed x was.departing.items + cond (is_old_alone was time x) (listed x xs) 0) (take_all n (coming was.timers) long);
 }

@@ -4,7 +4,7 @@ use Rattle.std.specs.Prelude.{nat_lt}
 use Rattle.std.proofs.lemmas.Bool.{cases_eq, cases_lt, ltb-false, and_cases}
 use Rattle.std.proofs.lemmas.List.{get_or_past}
 use Rattle.mp_wave.specs.Waveform.{AreChanges, level_from}
-use Rattle.mp_kernel.specs.calendar.Calendars.{never, time_of}
+use Rattle.mp_kernel.specs.timers.TimerWheels.{never, time_of}
 use Rattle.mp_partition.specs.runs.Outcomes.{Outcome, wave_of}
 use Rattle.mp_active.specs.declared.compare.comparison.Comparison.{Comparison}
 use Rattle.mp_active.specs.compare.Comparing.{wire_of, delay_of, late, source_at, asleep_at, place_at, may_differ, old_wave, changes_at, change_time, IsOldRun, HasCursors, IsListed, AgreeFrom}
@@ -26,17 +26,17 @@ late_level before run last c x u is early =
 
 -- a number that is due comes to its next old level, and had another one
 pub due_comes : (before : ℕ → ℕ → ℕ) (run : Outcome) (t u : ℕ) (c : Comparison) (x : ℕ) → t + 1 ≡ u → u < never → IsOldRun before run u → HasCursors run t [] c →
-    time_of c.calendar x ≡ u → late before c.numbers x u ≡ old_level run c x
+    time_of c.timers x ≡ u → late before c.numbers x u ≡ old_level run c x
 due_comes before run t u c x next low old has due =
-    let listed : time_of c.calendar x ≢ never = λ e. absurd (omega arith) in
+    let listed : time_of c.timers x ≢ never = λ e. absurd (omega arith) in
     let at = has.time x listed in
     late_level before run u c x u old (omega arith)
     ∙ level_comes (old_wave run (wire_of c.numbers x)).initial (changes_at run c x) (delay_of c.numbers x) u (place_at c x) (changes_form run t [] c x has) (has.place x listed) (omega arith)
 
 pub due_leaves : (before : ℕ → ℕ → ℕ) (run : Outcome) (t u : ℕ) (c : Comparison) (x : ℕ) → t + 1 ≡ u → u < never → IsOldRun before run u → HasCursors run t [] c →
-    time_of c.calendar x ≡ u → late before c.numbers x t ≢ old_level run c x
+    time_of c.timers x ≡ u → late before c.numbers x t ≢ old_level run c x
 due_leaves before run t u c x next low old has due e =
-    let listed : time_of c.calendar x ≢ never = λ e. absurd (omega arith) in
+    let listed : time_of c.timers x ≢ never = λ e. absurd (omega arith) in
     let at = has.time x listed in
     level_leaves (old_wave run (wire_of c.numbers x)).initial (changes_at run c x) (delay_of c.numbers x) t u (place_at c x) next (changes_form run t [] c x has) (has.place x listed) (omega arith)
     (λ k less. has.over x k listed less) (sym (late_level before run u c x t old (omega arith)) ∙ e)
@@ -49,25 +49,25 @@ different a b ne = elim (cases_lt a b) as (λ _. (a < b) ⊎ (b < a)) [
 
 -- one that is listed, or has no old change to come, and isn't due keeps its level
 pub rests : (before : ℕ → ℕ → ℕ) (run : Outcome) (t u : ℕ) (c : Comparison) (x : ℕ) → t + 1 ≡ u → IsOldRun before run u → HasCursors run t [] c → IsListed run t c x →
-    time_of c.calendar x ≢ u → late before c.numbers x u ≡ late before c.numbers x t
+    time_of c.timers x ≢ u → late before c.numbers x u ≡ late before c.numbers x t
 rests before run t u c x next old has listed other =
     late_level before run u c x u old (omega arith)
     ∙ level_stays (old_wave run (wire_of c.numbers x)).initial (changes_at run c x) (delay_of c.numbers x) t u next (changes_form run t [] c x has) each
     ∙ sym (late_level before run u c x t old (omega arith))
   where
     each : (k : ℕ) → k < length (changes_at run c x) → (change_time run c x k ≤ t) ⊎ (u < change_time run c x k)
-    each k low = elim (cases_eq (time_of c.calendar x) never) as (λ _. (change_time run c x k ≤ t) ⊎ (u < change_time run c x k)) [
+    each k low = elim (cases_eq (time_of c.timers x) never) as (λ _. (change_time run c x k ≤ t) ⊎ (u < change_time run c x k)) [
       | inl none ↦ inl (listed none k low)
       | inr some ↦ by some (cases_lt k (place_at c x))
     ]
       where
-        by : time_of c.calendar x ≢ never → (k < place_at c x) ⊎ (place_at c x ≤ k) → (change_time run c x k ≤ t) ⊎ (u < change_time run c x k)
+        by : time_of c.timers x ≢ never → (k < place_at c x) ⊎ (place_at c x ≤ k) → (change_time run c x k ≤ t) ⊎ (u < change_time run c x k)
         by some (inl less) = inl (has.over x k some less)
         by some (inr more) =
             let ordered = in_order 0 (old_wave run (wire_of c.numbers x)).initial (changes_at run c x) (place_at c x) k (changes_form run t [] c x has) more low in
             let at = has.time x some in
             let later = has.later x some in
-            let apart = different (time_of c.calendar x) u other in
+            let apart = different (time_of c.timers x) u other in
             inr (omega arith)
 
 -- a number that a module reads is one

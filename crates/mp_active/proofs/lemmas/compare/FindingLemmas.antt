@@ -6,7 +6,7 @@ use Rattle.std.proofs.lemmas.Bool.{ne_eqb, eqb-true, eqb-false, ltb-true, and_pa
 use Rattle.std.proofs.lemmas.List.Sums.{sum_by-cons}
 use Rattle.mp_kernel.specs.automata.Codes.{bit}
 use Rattle.mp_kernel.specs.events.Adding.{listed}
-use Rattle.mp_kernel.specs.calendar.Calendars.{never, time_of, coming, ComesUp}
+use Rattle.mp_kernel.specs.timers.TimerWheels.{never, time_of, coming, ComesUp}
 use Rattle.mp_kernel.specs.declared.datapath.level_change.LevelChange.{LevelChange}
 use Rattle.mp_partition.specs.runs.Outcomes.{Outcome}
 use Rattle.mp_active.specs.declared.compare.comparison.Comparison.{Comparison}
@@ -63,9 +63,9 @@ finds before after run t u c met is new next low up has unseen none old complete
     let a = first.departing x in
     let b = second.departing x in
     let empty = nothing c.departing.items none in
-    let kept = ap (λ (v : Comparison). cond (is_due v x u && (not (seen_at met x == u) && is_tracked v x u)) (listed x (coming v.calendar)) 0) first.kept in
+    let kept = ap (λ (v : Comparison). cond (is_due v x u && (not (seen_at met x == u) && is_tracked v x u)) (listed x (coming v.timers)) 0) first.kept in
     let all = told (nat_lt 0 (asleep_at c x)) may (is_due c x u) (seen_at met x == u) (late before c.numbers x t) (late after c.numbers x t) (late before c.numbers x u) (late after c.numbers x u)
-    (old_level run c x) (listed x (bits_of new)) (changes_of x (levels_of new)) (others_of run c x (levels_of new)) (listed x (coming c.calendar)) tells in
+    (old_level run c x) (listed x (bits_of new)) (changes_of x (levels_of new)) (others_of run c x (levels_of new)) (listed x (coming c.timers)) tells in
     omega arith
   where
     may : Bool
@@ -79,22 +79,22 @@ finds before after run t u c met is new next low up has unseen none old complete
     reads some = is_number run t [] c x has (ltb-true 0 (asleep_at c x) some)
 
     tells : IsTold (nat_lt 0 (asleep_at c x)) may (is_due c x u) (seen_at met x == u) (late before c.numbers x t) (late after c.numbers x t) (late before c.numbers x u) (late after c.numbers x u)
-        (old_level run c x) (listed x (bits_of new)) (changes_of x (levels_of new)) (others_of run c x (levels_of new)) (listed x (coming c.calendar))
+        (old_level run c x) (listed x (bits_of new)) (changes_of x (levels_of new)) (others_of run c x (levels_of new)) (listed x (coming c.timers))
     tells = record {
       agreed = λ some. asleep x (ltb-true 0 (asleep_at c x) some);
       stays = λ some never_more. cannot_differ before after u c x (has.shape.wires x (reads some)) from never_more;
-      comes = λ due. due_comes before run t u c x next low old has (eqb-true (time_of c.calendar x) u due);
-      leaves = λ due. due_leaves before run t u c x next low old has (eqb-true (time_of c.calendar x) u due);
+      comes = λ due. due_comes before run t u c x next low old has (eqb-true (time_of c.timers x) u due);
+      leaves = λ due. due_leaves before run t u c x next low old has (eqb-true (time_of c.timers x) u due);
       rests = λ tracked other. rests before run t u c x next old has
           (complete x (reads (and_parts (nat_lt 0 (asleep_at c x)) may tracked).0) (or_right (is_following c x) (is_tracked c x u) tracked))
-          (eqb-false (time_of c.calendar x) u other);
+          (eqb-false (time_of c.timers x) u other);
       once = λ tracked. once x tracked;
       other_levels = λ tracked. others_are x (old_level run c x) (λ y. late after c.numbers y u) (λ y. is_tracked c y u) (levels_of new) tracked levels;
       low_was = λ some. (bits x t some).0;
       low_before = λ some. (bits x u some).0;
       low_after = λ some. (bits x u some).1;
       was_seen = first.seen x ∙ ap (λ b. b || (is_tracked c x u && nat_lt 0 (listed x (bits_of new) + changes_of x (levels_of new)))) (is_past (seen_at c x) u (unseen x));
-      up = λ due. up t c.calendar has.calendar x (eqb-true (time_of c.calendar x) u due ∙ sym next) (omega arith);
+      up = λ due. up t c.timers has.timers x (eqb-true (time_of c.timers x) u due ∙ sym next) (omega arith);
     }
       where
         or_right : (a b : Bool) → b ≡ true → (a || b) ≡ true

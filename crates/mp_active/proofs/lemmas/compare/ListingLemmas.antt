@@ -10,7 +10,7 @@ use Rattle.mp_wave.specs.Waveform.{AreChanges, between, later_than, earlier_than
 use Rattle.mp_wave.specs.Faults.{pair_at}
 use Rattle.mp_wave.proofs.PrefixLemmas.{later_than-drop, earlier_than-take}
 use Rattle.mp_kernel.specs.events.Adding.{listed}
-use Rattle.mp_kernel.specs.calendar.Calendars.{never, time_in, time_of, IsCalendar}
+use Rattle.mp_kernel.specs.timers.TimerWheels.{never, time_in, time_of, IsTimerWheel}
 use Rattle.mp_partition.specs.runs.Outcomes.{Outcome}
 use Rattle.mp_active.specs.declared.compare.comparison.Comparison.{Comparison}
 use Rattle.mp_active.specs.compare.Comparing.{place_at, changes_at, change_time, HasCursors}
@@ -67,23 +67,23 @@ counted time last level count changes is low e =
 -- a number that isn't listed is listed for its first change to come
 pub record IsFresh (run : Outcome) (t number time place : ℕ) (was is : Comparison) : Type 0 where
   pub within : number < length was.numbers.wires.items
-  pub free : time_of was.calendar number ≡ never
+  pub free : time_of was.timers number ≡ never
   pub low : place < length (changes_at run was number)
   pub first : time ≡ change_time run was number place
   pub over : (k : ℕ) → k < place → change_time run was number k ≤ t
   pub later : t < time
-  pub kept : is ≡ record was { calendar = is.calendar; places = is.places }
+  pub kept : is ≡ record was { timers = is.timers; places = is.places }
   pub places : is.places.items ≡ slice_set was.places.items number place
-  pub times : is.calendar.times.items ≡ slice_set was.calendar.times.items number time
-  pub calendar : IsCalendar t [] was.calendar → IsCalendar t [] is.calendar
+  pub times : is.timers.times.items ≡ slice_set was.timers.times.items number time
+  pub timers : IsTimerWheel t [] was.timers → IsTimerWheel t [] is.timers
 
-own_time : (run : Outcome) (t number time place : ℕ) (was is : Comparison) → HasCursors run t [] was → IsFresh run t number time place was is → time_of is.calendar number ≡ time
+own_time : (run : Outcome) (t number time place : ℕ) (was is : Comparison) → HasCursors run t [] was → IsFresh run t number time place was is → time_of is.timers number ≡ time
 own_time run t number time place was is has it =
-    ap (λ (ts : List ℕ). time_in ts number) it.times ∙ get_or-set_same was.calendar.times.items number time never (let a = has.shape.times in let b = it.within in omega arith)
+    ap (λ (ts : List ℕ). time_in ts number) it.times ∙ get_or-set_same was.timers.times.items number time never (let a = has.shape.times in let b = it.within in omega arith)
 
-other_time : (run : Outcome) (t number time place : ℕ) (was is : Comparison) → IsFresh run t number time place was is → (x : ℕ) → (number == x) ≡ false → time_of is.calendar x ≡ time_of was.calendar x
+other_time : (run : Outcome) (t number time place : ℕ) (was is : Comparison) → IsFresh run t number time place was is → (x : ℕ) → (number == x) ≡ false → time_of is.timers x ≡ time_of was.timers x
 other_time run t number time place was is it x other =
-    ap (λ (ts : List ℕ). time_in ts x) it.times ∙ get_or-set_other was.calendar.times.items number x time never (λ e. eqb-false number x other (sym e))
+    ap (λ (ts : List ℕ). time_in ts x) it.times ∙ get_or-set_other was.timers.times.items number x time never (λ e. eqb-false number x other (sym e))
 
 pub fresh_cursors : (run : Outcome) (t number time place : ℕ) (was is : Comparison) → HasCursors run t [] was → IsFresh run t number time place was is → HasCursors run t [] is
 fresh_cursors run t number time place was is has it = subst (HasCursors run t []) (sym it.kept) (record {
@@ -92,7 +92,7 @@ fresh_cursors run t number time place was is has it = subst (HasCursors run t []
     next = has.shape.next;
     have_data = has.shape.have_data;
     asleep = has.shape.asleep;
-    times = ap (length {A = ℕ}) it.times ∙ length-set was.calendar.times.items number time ∙ has.shape.times;
+    times = ap (length {A = ℕ}) it.times ∙ length-set was.timers.times.items number time ∙ has.shape.times;
     places = ap (length {A = ℕ}) it.places ∙ length-set was.places.items number place ∙ has.shape.places;
     seen = has.shape.seen;
     few = has.shape.few;
@@ -100,7 +100,7 @@ fresh_cursors run t number time place was is has it = subst (HasCursors run t []
     own = has.shape.own;
   };
   form = has.form;
-  calendar = it.calendar has.calendar;
+  timers = it.timers has.timers;
   room = has.room;
   place = λ x. place_by x (number == x) refl;
   time = λ x. time_by x (number == x) refl;
@@ -108,33 +108,33 @@ fresh_cursors run t number time place was is has it = subst (HasCursors run t []
   later = λ x. later_by x (number == x) refl;
 })
   where
-    now : time_of is.calendar number ≡ time
+    now : time_of is.timers number ≡ time
     now = own_time run t number time place was is has it
 
     at : place_at is number ≡ place
     at = ap (λ (ps : List ℕ). get_or ps number 0) it.places ∙ get_or-set_same was.places.items number place 0 (let a = has.shape.places in let b = it.within in omega arith)
 
-    same : (x : ℕ) → (number == x) ≡ false → time_of is.calendar x ≡ time_of was.calendar x
+    same : (x : ℕ) → (number == x) ≡ false → time_of is.timers x ≡ time_of was.timers x
     same x other = other_time run t number time place was is it x other
 
     placed : (x : ℕ) → (number == x) ≡ false → place_at is x ≡ place_at was x
     placed x other = ap (λ (ps : List ℕ). get_or ps x 0) it.places ∙ get_or-set_other was.places.items number x place 0 (λ e. eqb-false number x other (sym e))
 
-    place_by : (x : ℕ) (own : Bool) → (number == x) ≡ own → time_of is.calendar x ≢ never → place_at is x < length (changes_at run was x)
-    place_by x true e = subst (λ y. time_of is.calendar y ≢ never → place_at is y < length (changes_at run was y)) (eqb-true number x e) (λ some. let a = at in let b = it.low in omega arith)
+    place_by : (x : ℕ) (own : Bool) → (number == x) ≡ own → time_of is.timers x ≢ never → place_at is x < length (changes_at run was x)
+    place_by x true e = subst (λ y. time_of is.timers y ≢ never → place_at is y < length (changes_at run was y)) (eqb-true number x e) (λ some. let a = at in let b = it.low in omega arith)
     place_by x false e = λ some. let before = has.place x (λ none. some (same x e ∙ none)) in let p = placed x e in omega arith
 
-    time_by : (x : ℕ) (own : Bool) → (number == x) ≡ own → time_of is.calendar x ≢ never → time_of is.calendar x ≡ change_time run was x (place_at is x)
-    time_by x true e = subst (λ y. time_of is.calendar y ≢ never → time_of is.calendar y ≡ change_time run was y (place_at is y)) (eqb-true number x e)
+    time_by : (x : ℕ) (own : Bool) → (number == x) ≡ own → time_of is.timers x ≢ never → time_of is.timers x ≡ change_time run was x (place_at is x)
+    time_by x true e = subst (λ y. time_of is.timers y ≢ never → time_of is.timers y ≡ change_time run was y (place_at is y)) (eqb-true number x e)
         (λ some. now ∙ it.first ∙ ap (λ p. change_time run was number p) (sym at))
     time_by x false e = λ some. same x e ∙ has.time x (λ none. some (same x e ∙ none)) ∙ ap (λ p. change_time run was x p) (sym (placed x e))
 
-    over_by : (x k : ℕ) (own : Bool) → (number == x) ≡ own → time_of is.calendar x ≢ never → k < place_at is x → change_time run was x k ≤ t
-    over_by x k true e = subst (λ y. time_of is.calendar y ≢ never → k < place_at is y → change_time run was y k ≤ t) (eqb-true number x e) (λ some less. it.over k (let a = at in omega arith))
+    over_by : (x k : ℕ) (own : Bool) → (number == x) ≡ own → time_of is.timers x ≢ never → k < place_at is x → change_time run was x k ≤ t
+    over_by x k true e = subst (λ y. time_of is.timers y ≢ never → k < place_at is y → change_time run was y k ≤ t) (eqb-true number x e) (λ some less. it.over k (let a = at in omega arith))
     over_by x k false e = λ some less. has.over x k (λ none. some (same x e ∙ none)) (let p = placed x e in omega arith)
 
-    later_by : (x : ℕ) (own : Bool) → (number == x) ≡ own → time_of is.calendar x ≢ never → t < time_of is.calendar x + listed x []
-    later_by x true e = subst (λ y. time_of is.calendar y ≢ never → t < time_of is.calendar y + listed y []) (eqb-true number x e) (λ some. let a = now in let b = it.later in omega arith)
+    later_by : (x : ℕ) (own : Bool) → (number == x) ≡ own → time_of is.timers x ≢ never → t < time_of is.timers x + listed x []
+    later_by x true e = subst (λ y. time_of is.timers y ≢ never → t < time_of is.timers y + listed y []) (eqb-true number x e) (λ some. let a = now in let b = it.later in omega arith)
     later_by x false e = λ some. let before = has.later x (λ none. some (same x e ∙ none)) in let s = same x e in omega arith
 
 pub between_short : (from to : ℕ) (changes : List (ℕ × ℕ)) → length (between from to changes) ≤ length changes

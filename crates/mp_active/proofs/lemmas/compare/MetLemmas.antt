@@ -7,7 +7,7 @@ use Rattle.std.proofs.lemmas.List.Elements.{All-from_get_or}
 use Rattle.std.proofs.lemmas.List.Sums.{get_or-le-sum_by}
 use Rattle.mp_kernel.specs.automata.Codes.{bit}
 use Rattle.mp_kernel.specs.events.Adding.{listed}
-use Rattle.mp_kernel.specs.calendar.Calendars.{never, time_of, coming}
+use Rattle.mp_kernel.specs.timers.TimerWheels.{never, time_of, coming}
 use Rattle.mp_kernel.specs.declared.datapath.level_change.LevelChange.{LevelChange}
 use Rattle.mp_partition.specs.runs.Outcomes.{Outcome}
 use Rattle.mp_active.specs.declared.compare.numbers.Numbers.{Numbers}
@@ -59,7 +59,7 @@ cursors_kept run t taken was is kept long has = subst (HasCursors run t taken) (
     own = has.shape.own;
   };
   form = has.form;
-  calendar = has.calendar;
+  timers = has.timers;
   room = has.room;
   place = has.place;
   time = has.time;
@@ -75,28 +75,28 @@ pub within_kept : (run : Outcome) (time : ℕ) (bits : List ℕ) (levels : List 
 within_kept run time bits levels was is new met within = subst (λ (numbers : Numbers). AreWithin numbers new) (sym (numbers_kept run time bits levels was is met)) within
 
 -- what comes up is a number
-pub coming_numbers : (run : Outcome) (t : ℕ) (c : Comparison) → HasCursors run t [] c → AreNumbers c.numbers (coming c.calendar)
-coming_numbers run t c has = All-from_get_or (λ x. x < length c.numbers.wires.items) (coming c.calendar) 0 each
+pub coming_numbers : (run : Outcome) (t : ℕ) (c : Comparison) → HasCursors run t [] c → AreNumbers c.numbers (coming c.timers)
+coming_numbers run t c has = All-from_get_or (λ x. x < length c.numbers.wires.items) (coming c.timers) 0 each
   where
-    each : (i : ℕ) → i < length (coming c.calendar) → get_or (coming c.calendar) i 0 < length c.numbers.wires.items
+    each : (i : ℕ) → i < length (coming c.timers) → get_or (coming c.timers) i 0 < length c.numbers.wires.items
     each i low = elim (cases_lt x (length c.numbers.wires.items)) as (λ _. x < length c.numbers.wires.items) [
       | inl within ↦ within
       | inr past ↦
-          let none = get_or_past c.calendar.times.items x never (let long = has.shape.times in omega arith) in
-          let off = ap (λ b. bit (not b)) (eq-eqb (time_of c.calendar x) never none) in
-          let once = has.calendar.once x in
-          let in_wheel = get_or-le-sum_by (listed x) c.calendar.wheel 0 [] has.calendar.some in
-          let here = get_or-le-sum_by (λ d. cond (d == x) 1 0) (coming c.calendar) i 0 low in
+          let none = get_or_past c.timers.times.items x never (let long = has.shape.times in omega arith) in
+          let off = ap (λ b. bit (not b)) (eq-eqb (time_of c.timers x) never none) in
+          let once = has.timers.once x in
+          let in_wheel = get_or-le-sum_by (listed x) c.timers.wheel 0 [] has.timers.some in
+          let here = get_or-le-sum_by (λ d. cond (d == x) 1 0) (coming c.timers) i 0 low in
           let own = ap bit (eq-eqb x x refl) in
           absurd (omega arith)
     ]
       where
         x : ℕ
-        x = get_or (coming c.calendar) i 0
+        x = get_or (coming c.timers) i 0
 
 pub coming_kept : (run : Outcome) (time : ℕ) (bits : List ℕ) (levels : List LevelChange) (was is : Comparison) → HasMet run time bits levels was is →
-    AreNumbers was.numbers (coming was.calendar) → AreNumbers is.numbers (coming is.calendar)
-coming_kept run time bits levels was is met all = subst (λ (c : Comparison). AreNumbers c.numbers (coming c.calendar)) (sym met.kept) all
+    AreNumbers was.numbers (coming was.timers) → AreNumbers is.numbers (coming is.timers)
+coming_kept run time bits levels was is met all = subst (λ (c : Comparison). AreNumbers c.numbers (coming c.timers)) (sym met.kept) all
 
 pub kept_through : (was then is : Comparison) → then ≡ record was { seen = then.seen; departing = then.departing } → is ≡ record then { departing = is.departing } →
     is ≡ record was { seen = is.seen; departing = is.departing }

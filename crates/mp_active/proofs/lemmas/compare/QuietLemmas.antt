@@ -3,8 +3,8 @@ use Rattle.std.proofs.Common.{◌≡◌, ◌≢◌, ℕ, ◌+◌, ◌-◌, ◌<�
 use Rattle.std.specs.Prelude.{◌==◌}
 use Rattle.std.proofs.lemmas.Bool.{cases_lt, ne_eqb, lt-ltb}
 use Rattle.mp_kernel.specs.events.Adding.{listed}
-use Rattle.mp_kernel.specs.declared.calendar.calendar.Calendar.{Calendar}
-use Rattle.mp_kernel.specs.calendar.Calendars.{never, time_in, time_of, coming, IsCalendar, ComesUp}
+use Rattle.mp_kernel.specs.declared.timers.timer_wheel.TimerWheel.{TimerWheel}
+use Rattle.mp_kernel.specs.timers.TimerWheels.{never, time_in, time_of, coming, IsTimerWheel, ComesUp}
 use Rattle.mp_partition.specs.runs.Outcomes.{Outcome}
 use Rattle.mp_active.specs.declared.compare.comparison.Comparison.{Comparison}
 use Rattle.mp_active.specs.compare.Comparing.{wire_of, delay_of, late, source_at, follows, may_differ, asleep_at, is_following, is_tracked, IsOldRun, HasCursors, IsComplete, AgreeFrom, AgreeAsleep}
@@ -15,19 +15,19 @@ use Rattle.mp_active.proofs.lemmas.compare.UnitLemmas.{needed_now}
 
 -- no number is listed for a time
 abbrev pub NoneIsDue : ℕ → Comparison → Type 0
-NoneIsDue u c = (x : ℕ) → time_of c.calendar x ≢ u
+NoneIsDue u c = (x : ℕ) → time_of c.timers x ≢ u
 
 -- so it is where none comes up
-pub none_due : (t : ℕ) (c : Comparison) → ComesUp → IsCalendar t [] c.calendar → t + 1 < never → coming c.calendar ≡ [] → NoneIsDue (t + 1) c
+pub none_due : (t : ℕ) (c : Comparison) → ComesUp → IsTimerWheel t [] c.timers → t + 1 < never → coming c.timers ≡ [] → NoneIsDue (t + 1) c
 none_due t c up is low none x due =
-    let once = up t c.calendar is x due low in
+    let once = up t c.timers is x due low in
     let nothing = ap (listed x) none in
     absurd (omega arith)
 
 -- and where each that is listed has its time later
-pub later_due : (t u : ℕ) (c : Comparison) → u ≤ t → u < never → ((x : ℕ) → time_of c.calendar x ≢ never → t < time_of c.calendar x) → NoneIsDue u c
+pub later_due : (t u : ℕ) (c : Comparison) → u ≤ t → u < never → ((x : ℕ) → time_of c.timers x ≢ never → t < time_of c.timers x) → NoneIsDue u c
 later_due t u c early low later x due =
-    let some : time_of c.calendar x ≢ never = λ e. absurd (omega arith) in
+    let some : time_of c.timers x ≢ never = λ e. absurd (omega arith) in
     let after = later x some in
     absurd (omega arith)
 
@@ -58,15 +58,15 @@ module _ (before : ℕ → ℕ → ℕ) (run : Outcome) (t : ℕ) (c : Compariso
   pub none_set : (w : ℕ) → t + 1 < never → is_set before (t + 1) c w ≡ false
   none_set w low =
       sym (up_is before run t (t + 1) c refl low has old complete w)
-      ∙ ap (λ b. b && ((w == wire_of c.numbers w) && follows (source_at c (wire_of c.numbers w)) (t + 1))) (ne_eqb (time_of c.calendar w) (t + 1) (none w))
+      ∙ ap (λ b. b && ((w == wire_of c.numbers w) && follows (source_at c (wire_of c.numbers w)) (t + 1))) (ne_eqb (time_of c.timers w) (t + 1) (none w))
 
--- one unit later, with a calendar of the same times
-module _ (run : Outcome) (t : ℕ) (c : Comparison) (k : Calendar) (times : k.times.items ≡ c.calendar.times.items) where
-  same : (x : ℕ) → time_of k x ≡ time_of c.calendar x
+-- one unit later, with a timer wheel of the same times
+module _ (run : Outcome) (t : ℕ) (c : Comparison) (k : TimerWheel) (times : k.times.items ≡ c.timers.times.items) where
+  same : (x : ℕ) → time_of k x ≡ time_of c.timers x
   same x = ap (λ (ts : List ℕ). time_in ts x) times
 
-  pub cursors_on : HasCursors run t [] c → NoneIsDue (t + 1) c → IsCalendar (t + 1) [] k → HasCursors run (t + 1) [] (record c { calendar = k })
-  cursors_on has none calendar = record {
+  pub cursors_on : HasCursors run t [] c → NoneIsDue (t + 1) c → IsTimerWheel (t + 1) [] k → HasCursors run (t + 1) [] (record c { timers = k })
+  cursors_on has none timers = record {
     shape = record {
       delays = has.shape.delays;
       next = has.shape.next;
@@ -80,7 +80,7 @@ module _ (run : Outcome) (t : ℕ) (c : Comparison) (k : Calendar) (times : k.ti
       own = has.shape.own;
     };
     form = has.form;
-    calendar = calendar;
+    timers = timers;
     room = has.room;
     place = λ x some. has.place x (λ e. some (same x ∙ e));
     time = λ x some. same x ∙ has.time x (λ e. some (same x ∙ e));
@@ -88,13 +88,13 @@ module _ (run : Outcome) (t : ℕ) (c : Comparison) (k : Calendar) (times : k.ti
     later = λ x some.
         let after = has.later x (λ e. some (same x ∙ e)) in
         let e = same x in
-        elim (cases_lt (t + 1) (time_of c.calendar x)) as (λ _. t + 1 < time_of k x + 0) [
+        elim (cases_lt (t + 1) (time_of c.timers x)) as (λ _. t + 1 < time_of k x + 0) [
           | inl less ↦ omega arith
           | inr more ↦ absurd (none x (omega arith))
         ];
   }
 
-  pub complete_on : IsComplete run t c → IsComplete run (t + 1) (record c { calendar = k })
+  pub complete_on : IsComplete run t c → IsComplete run (t + 1) (record c { timers = k })
   complete_on complete x within needed gone j less =
       let once = complete x within (needed_now c x (t + 1) needed) (sym (same x) ∙ gone) j less in
       omega arith

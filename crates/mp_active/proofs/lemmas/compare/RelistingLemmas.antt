@@ -7,7 +7,7 @@ use Rattle.mp_active.specs.declared.compare.wire_source.WireSource.{WireSource}
 use Rattle.mp_active.specs.declared.compare.comparison.Comparison.{Comparison}
 use Rattle.mp_active.specs.compare.Comparing.{wire_of, delay_of, source_at, asleep_at, may_differ, is_to_follow, is_following, is_tracked, HasCursors, IsListed, IsComplete}
 
--- the calendar stays right where other inputs are asleep
+-- the timer wheel stays right where other inputs are asleep
 pub counted_cursors : (run : Outcome) (t : ℕ) (taken : List ℕ) (was is : Comparison) → is ≡ record was { asleep = is.asleep } → length is.asleep.items ≡ length was.asleep.items →
     HasCursors run t taken was → HasCursors run t taken is
 counted_cursors run t taken was is kept long has = subst (HasCursors run t taken) (sym kept) (record {
@@ -24,7 +24,7 @@ counted_cursors run t taken was is kept long has = subst (HasCursors run t taken
     own = has.shape.own;
   };
   form = has.form;
-  calendar = has.calendar;
+  timers = has.timers;
   room = has.room;
   place = has.place;
   time = has.time;
@@ -46,21 +46,21 @@ needed_same was is x u numbers asleep source =
     needed : Numbers → WireSource → ℕ → Bool
     needed ns s a = ((x == wire_of ns x) && is_to_follow s) || (nat_lt 0 a && may_differ s (delay_of ns x) u)
 
-pub listed_same : (run : Outcome) (t x : ℕ) (was is : Comparison) → is.numbers ≡ was.numbers → is.calendar ≡ was.calendar → IsListed run t was x → IsListed run t is x
-listed_same run t x was is numbers calendar before =
+pub listed_same : (run : Outcome) (t x : ℕ) (was is : Comparison) → is.numbers ≡ was.numbers → is.timers ≡ was.timers → IsListed run t was x → IsListed run t is x
+listed_same run t x was is numbers timers before =
     subst (λ (ns : Numbers). IsListed run t (record is { numbers = ns }) x) (sym numbers)
-    (subst (λ cal. IsListed run t (record is { numbers = was.numbers; calendar = cal }) x) (sym calendar) before)
+    (subst (λ cal. IsListed run t (record is { numbers = was.numbers; timers = cal }) x) (sym timers) before)
 
 -- a number was listed, or some were, where they weren't
 pub record HasRelisted (run : Outcome) (t : ℕ) (was is : Comparison) : Type 0 where
-  pub kept : is ≡ record was { calendar = is.calendar; places = is.places }
+  pub kept : is ≡ record was { timers = is.timers; places = is.places }
   pub others : (x : ℕ) → IsListed run t was x → IsListed run t is x
 
 -- all that is needed is listed after a step in which few numbers came to be needed
-pub step_complete : (run : Outcome) (t : ℕ) (was mid is : Comparison) → mid.numbers ≡ was.numbers → mid.calendar ≡ was.calendar → HasRelisted run t mid is →
+pub step_complete : (run : Outcome) (t : ℕ) (was mid is : Comparison) → mid.numbers ≡ was.numbers → mid.timers ≡ was.timers → HasRelisted run t mid is →
     ((x : ℕ) → x < length was.numbers.wires.items → (is_following mid x || is_tracked mid x (t + 1)) ≡ true → ((is_following was x || is_tracked was x (t + 1)) ≡ true) ⊎ IsListed run t is x) →
     IsComplete run t was → IsComplete run t is
-step_complete run t was mid is numbers calendar listing new complete x low needed =
+step_complete run t was mid is numbers timers listing new complete x low needed =
     by (new x within (ap (λ (c : Comparison). is_following c x || is_tracked c x (t + 1)) (sym listing.kept) ∙ needed))
   where
     within : x < length was.numbers.wires.items
@@ -70,5 +70,5 @@ step_complete run t was mid is numbers calendar listing new complete x low neede
         omega arith
 
     by : ((is_following was x || is_tracked was x (t + 1)) ≡ true) ⊎ IsListed run t is x → IsListed run t is x
-    by (inl old) = listing.others x (listed_same run t x was mid numbers calendar (complete x within old))
+    by (inl old) = listing.others x (listed_same run t x was mid numbers timers (complete x within old))
     by (inr here) = here

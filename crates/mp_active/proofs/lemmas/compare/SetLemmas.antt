@@ -7,7 +7,7 @@ use Rattle.std.proofs.lemmas.List.Elements.{All-append}
 use Rattle.std.proofs.lemmas.List.Sums.{sum_by-append}
 use Rattle.mp_kernel.specs.automata.Codes.{bit}
 use Rattle.mp_kernel.specs.events.Adding.{listed}
-use Rattle.mp_kernel.specs.calendar.Calendars.{never, time_of, coming, ComesUp}
+use Rattle.mp_kernel.specs.timers.TimerWheels.{never, time_of, coming, ComesUp}
 use Rattle.mp_kernel.specs.declared.datapath.level_change.LevelChange.{LevelChange}
 use Rattle.mp_partition.specs.runs.Outcomes.{Outcome}
 use Rattle.mp_active.specs.declared.compare.set_wires.SetWires.{SetWires}
@@ -114,7 +114,7 @@ set_more run t time number passed c then was mid is next low has before set up k
         let parts = and_parts (is_due c number time) ((number == wire_of c.numbers number) && follows (source_at c (wire_of c.numbers number)) time) e in
         let wire = and_parts (number == wire_of c.numbers number) (follows (source_at c (wire_of c.numbers number)) time) parts.1 in
         let own : number ≡ wire_of c.numbers number = eqb-true number (wire_of c.numbers number) wire.0 in
-        let comes = due_comes before run t time c number next low old has (eqb-true (time_of c.calendar number) time parts.0) in
+        let comes = due_comes before run t time c number next low old has (eqb-true (time_of c.timers number) time parts.0) in
         level ∙ sym comes ∙ at_wire before run t c number time time has own wire.1
 
 -- a number is up just where its wire is set, and comes up once
@@ -155,7 +155,7 @@ up_is before run t time c next low has old complete x = elim (cases_lt x (length
     inside within false e due d =
         plain within ∙ ap (λ b. is_due c x time && b) e ∙ and_none (is_due c x time) ∙ sym (ap (λ b. b && not (before x (time - 1) == before x time)) e)
     inside within true e true d =
-        let at = eqb-true (time_of c.calendar x) time d in
+        let at = eqb-true (time_of c.timers x) time d in
         let was = low_late before run t c x t has within in
         let is = low_late before run t c x time has within in
         let comes = due_comes before run t time c x next low old has at in
@@ -165,7 +165,7 @@ up_is before run t time c next low has old complete x = elim (cases_lt x (length
         plain within ∙ ap (λ b. b && follows (source_at c x) time) d ∙ e
         ∙ sym (ap (λ b. b && not (before x (time - 1) == before x time)) e ∙ ap (λ b. not b) (ne_eqb (before x (time - 1)) (before x time) apart))
     inside within true e false d =
-        let other = eqb-false (time_of c.calendar x) time d in
+        let other = eqb-false (time_of c.timers x) time d in
         let was = low_late before run t c x t has within in
         let is = low_late before run t c x time has within in
         let prior : time - 1 ≡ t = omega arith in
@@ -184,7 +184,7 @@ up_is before run t time c next low has old complete x = elim (cases_lt x (length
 
 -- so just those are set that follow and change
 pub set_all : (before : ℕ → ℕ → ℕ) (run : Outcome) (t time : ℕ) (c : Comparison) (was is : SetWires) → t + 1 ≡ time → time < never → ComesUp → HasCursors run t [] c → IsOldRun before run time →
-    ((x : ℕ) → x < length c.numbers.wires.items → (is_following c x || is_tracked c x time) ≡ true → IsListed run t c x) → AreSome run time (coming c.calendar) c was is → AreSet before time c was is
+    ((x : ℕ) → x < length c.numbers.wires.items → (is_following c x || is_tracked c x time) ≡ true → IsListed run t c x) → AreSome run time (coming c.timers) c was is → AreSet before time c was is
 set_all before run t time c was is next low comes has old complete some = record {
   bits = λ x. some.bits x ∙ ap (λ n. listed x was.bits.items + n) (once x (not (has_data_at c x)) (is_up c time x) refl);
   levels = λ x. some.levels x ∙ ap (λ n. changes_of x was.levels.items + n) (once x (has_data_at c x) (is_up c time x) refl);
@@ -195,10 +195,10 @@ set_all before run t time c was is next low comes has old complete some = record
     simple true = refl
     simple false = refl
 
-    once : (x : ℕ) (b up : Bool) → is_up c time x ≡ up → cond (is_up c time x && b) (listed x (coming c.calendar)) 0 ≡ bit (is_set before time c x && b)
+    once : (x : ℕ) (b up : Bool) → is_up c time x ≡ up → cond (is_up c time x && b) (listed x (coming c.timers)) 0 ≡ bit (is_set before time c x && b)
     once x b true e =
         let due = (and_parts (is_due c x time) ((x == wire_of c.numbers x) && follows (source_at c (wire_of c.numbers x)) time) e).0 in
-        let one = comes t c.calendar has.calendar x (eqb-true (time_of c.calendar x) time due ∙ sym next) (omega arith) in
+        let one = comes t c.timers has.timers x (eqb-true (time_of c.timers x) time due ∙ sym next) (omega arith) in
         ap (λ n. cond (is_up c time x && b) n 0) one ∙ simple (is_up c time x && b) ∙ ap (λ u. bit (u && b)) (up_is before run t time c next low has old complete x)
     once x b false e =
-        ap (λ u. cond (u && b) (listed x (coming c.calendar)) 0) e ∙ sym (ap (λ u. bit (u && b)) (sym (up_is before run t time c next low has old complete x) ∙ e))
+        ap (λ u. cond (u && b) (listed x (coming c.timers)) 0) e ∙ sym (ap (λ u. bit (u && b)) (sym (up_is before run t time c next low has old complete x) ∙ e))

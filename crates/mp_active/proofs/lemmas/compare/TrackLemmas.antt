@@ -22,7 +22,7 @@ left numbers (Some y) = suc (2 ^ 32 - delay_of numbers y)
 
 -- the numbers that were seen are listed, and what stands behind them was seen or is the next one
 pub record IsTracking (run : Outcome) (now wire : ℕ) (next : Option ℕ) (was is : Comparison) : Type 0 where
-  pub kept : is ≡ record was { calendar = is.calendar; places = is.places }
+  pub kept : is ≡ record was { timers = is.timers; places = is.places }
   pub cursors : HasCursors run now [] is
   pub others : (x : ℕ) → IsListed run now was x → IsListed run now is x
   pub number : IsNumber was.numbers next
@@ -48,7 +48,7 @@ tracking_starts run now wire c low has = record {
 
 -- a number was listed, where a module reads it that sleeps
 pub record HasListed (run : Outcome) (now number : ℕ) (was is : Comparison) : Type 0 where
-  pub kept : is ≡ record was { calendar = is.calendar; places = is.places }
+  pub kept : is ≡ record was { timers = is.timers; places = is.places }
   pub cursors : HasCursors run now [] is
   pub others : (x : ℕ) → IsListed run now was x → IsListed run now is x
   pub listed : 0 < asleep_at was number → IsListed run now is number
@@ -56,7 +56,7 @@ pub record HasListed (run : Outcome) (now number : ℕ) (was is : Comparison) : 
 pub listed_none : (run : Outcome) (now number : ℕ) (c : Comparison) → asleep_at c number ≤ 0 → HasCursors run now [] c → HasListed run now number c c
 listed_none run now number c none has = record { kept = refl; cursors = has; others = λ x listed. listed; listed = λ some. absurd (omega arith) }
 
-asleep_same : (was is : Comparison) (x : ℕ) → is ≡ record was { calendar = is.calendar; places = is.places } → asleep_at is x ≡ asleep_at was x
+asleep_same : (was is : Comparison) (x : ℕ) → is ≡ record was { timers = is.timers; places = is.places } → asleep_at is x ≡ asleep_at was x
 asleep_same was is x kept = ap (λ (c : Comparison). asleep_at c x) kept
 
 next_number : (numbers : Numbers) (x : ℕ) → AreLinked numbers → (next : Option ℕ) → after numbers x ≡ next → IsNumber numbers next
@@ -67,7 +67,7 @@ next_number numbers x linked (Some y) e = linked.within x y e
 pub tracking_goes_on : (run : Outcome) (now wire number : ℕ) (next : Option ℕ) (was mid is : Comparison) → AreLinked was.numbers → next ≡ after is.numbers number →
     IsTracking run now wire (Some number) was mid → HasListed run now number mid is → IsTracking run now wire next was is
 tracking_goes_on run now wire number next was mid is linked after_is tracking listed = record {
-  kept = listed.kept ∙ ap (λ (c : Comparison). record c { calendar = is.calendar; places = is.places }) tracking.kept;
+  kept = listed.kept ∙ ap (λ (c : Comparison). record c { timers = is.timers; places = is.places }) tracking.kept;
   cursors = listed.cursors;
   others = λ x before. listed.others x (tracking.others x before);
   number = next_number was.numbers number linked next behind;
@@ -78,7 +78,7 @@ tracking_goes_on run now wire number next was mid is linked after_is tracking li
 }
   where
     behind : after was.numbers number ≡ next
-    behind = sym (after_is ∙ ap (λ (c : Comparison). after c.numbers number) (listed.kept ∙ ap (λ (c : Comparison). record c { calendar = is.calendar; places = is.places }) tracking.kept))
+    behind = sym (after_is ∙ ap (λ (c : Comparison). after c.numbers number) (listed.kept ∙ ap (λ (c : Comparison). record c { timers = is.timers; places = is.places }) tracking.kept))
 
     here : (y : ℕ) → Some number ≡ Some y → ((y == number) || tracking.seen y) ≡ true
     here y e = or_left (y == number) (tracking.seen y) (eq-eqb y number (sym (same_Some number y e)))

@@ -8,7 +8,7 @@ use Rattle.mp_records.specs.declared.ports.Output.{Output}
 use Rattle.mp_records.specs.NamedWires.{is_wire}
 use Rattle.mp_records.specs.Outputs.{output_in}
 use Rattle.mp_kernel.specs.events.Adding.{listed}
-use Rattle.mp_kernel.specs.calendar.Calendars.{never}
+use Rattle.mp_kernel.specs.timers.TimerWheels.{never}
 use Rattle.mp_partition.specs.runs.Outcomes.{Outcome}
 use Rattle.mp_active.specs.declared.compare.numbers.Numbers.{Numbers}
 use Rattle.mp_active.specs.declared.compare.wire_source.WireSource.{WireSource}
@@ -19,7 +19,7 @@ use Rattle.mp_active.proofs.lemmas.compare.RelistingLemmas.{sources_long, needed
 
 -- sources have changed, and what is needed is listed
 pub record HaveTurned (run : Outcome) (t : ℕ) (change : ℕ → WireSource → WireSource) (was is : Comparison) : Type 0 where
-  pub kept : is ≡ record was { sources = is.sources; calendar = is.calendar; places = is.places }
+  pub kept : is ≡ record was { sources = is.sources; timers = is.timers; places = is.places }
   pub cursors : HasCursors run t [] is
   pub complete : IsComplete run t was → IsComplete run t is
   pub turned : (w : ℕ) → source_at is w ≡ change w (source_at was w)
@@ -30,7 +30,7 @@ turned_none run t was has = record { kept = refl; cursors = has; complete = λ a
 pub turned_more : (run : Outcome) (t : ℕ) (before after all : ℕ → WireSource → WireSource) (was mid is : Comparison) → ((w : ℕ) → after w (before w (source_at was w)) ≡ all w (source_at was w)) →
     HaveTurned run t before was mid → HaveTurned run t after mid is → HaveTurned run t all was is
 turned_more run t before after all was mid is same first second = record {
-  kept = second.kept ∙ ap (λ (c : Comparison). record c { sources = is.sources; calendar = is.calendar; places = is.places }) first.kept;
+  kept = second.kept ∙ ap (λ (c : Comparison). record c { sources = is.sources; timers = is.timers; places = is.places }) first.kept;
   cursors = second.cursors;
   complete = λ complete. second.complete (first.complete complete);
   turned = λ w. second.turned w ∙ ap (after w) (first.turned w) ∙ same w;
@@ -43,17 +43,17 @@ pub one_turned : (run : Outcome) (t wire : ℕ) (change : WireSource → WireSou
     ((is_following was x || is_tracked was x (t + 1)) ≡ true) ⊎ IsListed run t is x) →
     HaveTurned run t (λ w source. cond (w == wire) (change source) source) was is
 one_turned run t wire change was mid is kept turned has listing own = record {
-  kept = listing.kept ∙ ap (λ (c : Comparison). record c { calendar = is.calendar; places = is.places }) kept ∙ sources_of;
+  kept = listing.kept ∙ ap (λ (c : Comparison). record c { timers = is.timers; places = is.places }) kept ∙ sources_of;
   cursors = has;
-  complete = step_complete run t was mid is numbers (ap (λ (c : Comparison). c.calendar) kept) listing (λ x low needed. new x low needed (wire_of was.numbers x == wire) refl);
+  complete = step_complete run t was mid is numbers (ap (λ (c : Comparison). c.timers) kept) listing (λ x low needed. new x low needed (wire_of was.numbers x == wire) refl);
   turned = λ w. ap (λ (c : Comparison). source_at c w) listing.kept ∙ turned w;
 }
   where
     numbers : mid.numbers ≡ was.numbers
     numbers = ap (λ (c : Comparison). c.numbers) kept
 
-    sources_of : (record was { sources = mid.sources; calendar = is.calendar; places = is.places }) ≡ (record was { sources = is.sources; calendar = is.calendar; places = is.places })
-    sources_of = ap (λ a. record was { sources = a; calendar = is.calendar; places = is.places }) (sym (ap (λ (c : Comparison). c.sources) listing.kept))
+    sources_of : (record was { sources = mid.sources; timers = is.timers; places = is.places }) ≡ (record was { sources = is.sources; timers = is.timers; places = is.places })
+    sources_of = ap (λ a. record was { sources = a; timers = is.timers; places = is.places }) (sym (ap (λ (c : Comparison). c.sources) listing.kept))
 
     new : (x : ℕ) → x < length was.numbers.wires.items → (is_following mid x || is_tracked mid x (t + 1)) ≡ true → (same : Bool) → (wire_of was.numbers x == wire) ≡ same →
         ((is_following was x || is_tracked was x (t + 1)) ≡ true) ⊎ IsListed run t is x

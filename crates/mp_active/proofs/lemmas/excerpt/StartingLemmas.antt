@@ -16,7 +16,7 @@ use Rattle.mp_simulation.specs.bits.Changes.{change_at, late_change}
 use Rattle.mp_simulation.specs.bits.Copies.{later_by}
 use Rattle.mp_simulation.specs.bits.Traces.{IsTrace}
 use Rattle.mp_partition.specs.runs.Marks.{is_marked}
-use Rattle.mp_partition.specs.regions.Regions.{home_of, slots_at_home, set_on_slot, slots_heard}
+use Rattle.mp_partition.specs.regions.Regions.{partition_of, slots_at_home, set_on_slot, slots_heard}
 use Rattle.mp_simulation.specs.declared.units.netlist_simulation.NetlistSimulation.{NetlistSimulation}
 use Rattle.mp_simulation.specs.units.DataLevels.{is_data, is_bit_wire, late_level}
 use Rattle.mp_active.specs.excerpt.Excerpts.{active_slots, is_followed, slot_on, slots_on, ArePortsOn}
@@ -158,9 +158,9 @@ starts_are_simulated n ok active on other ports too s is =
 
 -- ---- parts
 
-same_modules : (homes : List ℕ) (part m : ℕ) (slots : List (Option ModuleRecord)) → slots_at_home homes part m slots ≡ active_slots (λ k. home_of homes k == part) m slots
+same_modules : (homes : List ℕ) (part m : ℕ) (slots : List (Option ModuleRecord)) → slots_at_home homes part m slots ≡ active_slots (λ k. partition_of homes k == part) m slots
 same_modules homes part m [] = refl
-same_modules homes part m (slot ∷ slots) = ap (λ (rest : List (Option ModuleRecord)). cond (home_of homes m == part) slot None ∷ rest) (same_modules homes part (m + 1) slots)
+same_modules homes part m (slot ∷ slots) = ap (λ (rest : List (Option ModuleRecord)). cond (partition_of homes m == part) slot None ∷ rest) (same_modules homes part (m + 1) slots)
 
 same_wires : (n : Circuit) (active : ℕ → Bool) (heard : List Bool) → ((w : ℕ) → is_marked heard w ≡ is_followed active (driver n w)) → (w : ℕ) (slots : List (Option WireRecord)) →
     slots_heard n heard w slots ≡ slots_on n active (λ v. true) w slots
@@ -172,6 +172,6 @@ same_wires n active heard marks w (slot ∷ slots) =
 pub regions_are_excerpts : RegionsAreExcerpts
 regions_are_excerpts n homes part heard marks =
     ap (λ (wires : List (Option WireRecord)). let seen : Circuit = record n { wires = wires; modules = slots_at_home homes part 0 n.modules } in seen)
-    (same_wires n (λ m. home_of homes m == part) heard marks 0 n.wires)
-    ∙ ap (λ (modules : List (Option ModuleRecord)). let seen : Circuit = record n { wires = slots_on n (λ m. home_of homes m == part) (λ w. true) 0 n.wires; modules = modules } in seen)
+    (same_wires n (λ m. partition_of homes m == part) heard marks 0 n.wires)
+    ∙ ap (λ (modules : List (Option ModuleRecord)). let seen : Circuit = record n { wires = slots_on n (λ m. partition_of homes m == part) (λ w. true) 0 n.wires; modules = modules } in seen)
     (same_modules homes part 0 n.modules)

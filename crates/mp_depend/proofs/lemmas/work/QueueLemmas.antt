@@ -6,25 +6,25 @@ use Rattle.std.proofs.lemmas.List.{append-nil}
 use Rattle.std.proofs.lemmas.List.Elements.{All-nil, All-cons, All-tail, All-head, All-append}
 use Rattle.mp_netlist.specs.Circuit.{Circuit, IsCircuit}
 use Rattle.mp_depend.specs.declared.work.work_entry.WorkEntry.{WorkEntry}
-use Rattle.mp_depend.specs.declared.work.stretch.Stretch.{Stretch}
+use Rattle.mp_depend.specs.declared.work.work_span.WorkSpan.{WorkSpan}
 use Rattle.mp_depend.specs.work.Work.{window_end, IsWindow, ComesBefore}
 use Rattle.mp_depend.specs.work.Merges.{first_entry, is_sooner, most_entries, takes_waiting, Takes}
-use Rattle.mp_depend.specs.work.Stretches.{IsPart}
+use Rattle.mp_depend.specs.work.WorkSpans.{IsPart}
 use Rattle.mp_depend.proofs.lemmas.work.WindowLemmas.{window_within, windows_apart}
 use Rattle.mp_depend.proofs.lemmas.work.OrderLemmas.{IsOrdered, joined, contains_first}
 use Rattle.mp_depend.proofs.lemmas.work.PartLemmas.{IsTiled, GoesOn, next_of, goes_on, rest_cases, IsOf, IsInSome, some_cases, part_rest}
 use Rattle.mp_depend.proofs.lemmas.work.LeftLemmas.{rest_in, left_in, IsLeftEntry, IsStep, find_step, left_sound, none_is_left}
 
-all_to : (P Q : Stretch → Type 0) → ((t : Stretch) → P t → Q t) → (q : List Stretch) → All P q → All Q q
+all_to : (P Q : WorkSpan → Type 0) → ((t : WorkSpan) → P t → Q t) → (q : List WorkSpan) → All P q → All Q q
 all_to P Q f [] all = All-nil Q
 all_to P Q f (t ∷ q) all = All-cons Q t q (f t (All-head P t q all)) (all_to P Q f q (All-tail P t q all))
 
--- the first entry of the stretch comes after that one
-abbrev pub IsAfter : WorkEntry → Stretch → Type 0
+-- the first entry of the work span comes after that one
+abbrev pub IsAfter : WorkEntry → WorkSpan → Type 0
 IsAfter x t = ComesBefore x (first_entry t)
 
 -- then all its entries do
-before_parts : (n : Circuit) → IsCircuit n → (x : WorkEntry) (t : Stretch) → IsAfter x t → (e : WorkEntry) → IsOf n t e.«module».0 e.from e.to → ComesBefore x e
+before_parts : (n : Circuit) → IsCircuit n → (x : WorkEntry) (t : WorkSpan) → IsAfter x t → (e : WorkEntry) → IsOf n t e.«module».0 e.from e.to → ComesBefore x e
 before_parts n ok x t before e is = by is.1 before
   where
     by : IsPart n t e.from e.to → IsAfter x t → ComesBefore x e
@@ -33,38 +33,38 @@ before_parts n ok x t before e is = by is.1 before
     by (inr other) (inl less) = let within = window_within n ok e.from e.to other.0 in inl (omega (arith, less, within.1, other.1))
     by (inr other) (inr same) = let within = window_within n ok e.from e.to other.0 in inl (omega (arith, same.0, within.1, other.1))
 
-all_before : (n : Circuit) → IsCircuit n → (x : WorkEntry) (q : List Stretch) → All (IsAfter x) q → (e : WorkEntry) → IsInSome n q e.«module».0 e.from e.to → ComesBefore x e
+all_before : (n : Circuit) → IsCircuit n → (x : WorkEntry) (q : List WorkSpan) → All (IsAfter x) q → (e : WorkEntry) → IsInSome n q e.«module».0 e.from e.to → ComesBefore x e
 all_before n ok x [] all e has = absurd has
 all_before n ok x (t ∷ q) all e (inl here) = before_parts n ok x t (All-head (IsAfter x) t q all) e here
 all_before n ok x (t ∷ q) all e (inr later) = all_before n ok x q (All-tail (IsAfter x) t q all) e later
 
 -- each comes before all behind it
-abbrev pub IsSorted : List Stretch → Type 0
+abbrev pub IsSorted : List WorkSpan → Type 0
 IsSorted [] = Unit {0}
 IsSorted (s ∷ q) = All (IsAfter (first_entry s)) q × IsSorted q
 
-sorted_end : (q : List Stretch) (r : Stretch) → IsSorted q → All (λ t. IsAfter (first_entry t) r) q → IsSorted (q ++ r ∷ [])
+sorted_end : (q : List WorkSpan) (r : WorkSpan) → IsSorted q → All (λ t. IsAfter (first_entry t) r) q → IsSorted (q ++ r ∷ [])
 sorted_end [] r sorted all = (All-nil (IsAfter (first_entry r)), tt)
 sorted_end (s ∷ q) r sorted all = (
   All-append (IsAfter (first_entry s)) q (r ∷ []) sorted.0 (All-cons (IsAfter (first_entry s)) r [] (All-head (λ t. IsAfter (first_entry t) r) s q all) (All-nil (IsAfter (first_entry s)))),
   sorted_end q r sorted.1 (All-tail (λ t. IsAfter (first_entry t) r) s q all),
 )
 
-pub all_after : (x : WorkEntry) (t : Stretch) (q : List Stretch) → IsAfter x t → All (IsAfter (first_entry t)) q → All (IsAfter x) (t ∷ q)
+pub all_after : (x : WorkEntry) (t : WorkSpan) (q : List WorkSpan) → IsAfter x t → All (IsAfter (first_entry t)) q → All (IsAfter x) (t ∷ q)
 all_after x t q first all = All-cons (IsAfter x) t q first (all_to (IsAfter (first_entry t)) (IsAfter x) (λ u after. joined x (first_entry t) (first_entry u) first after) q all)
 
 -- it goes on after the entry before, with a window
-pub record IsBegun (n : Circuit) (b : WorkEntry) (t : Stretch) : Type 0 where
+pub record IsBegun (n : Circuit) (b : WorkEntry) (t : WorkSpan) : Type 0 where
   pub window : IsWindow n t.from t.first_end
   pub since : (t.from < b.to) ⊎ ((t.from ≡ b.to) × (t.«module».0 ≤ b.«module».0))
 
--- no module has two entries that end together in the stretches
-abbrev pub AreOnce : Circuit → List Stretch → Type 0
+-- no module has two entries that end together in the work spans
+abbrev pub AreOnce : Circuit → List WorkSpan → Type 0
 AreOnce n [] = Unit {0}
 AreOnce n (t ∷ w) = ((m a c to : ℕ) → IsOf n t m a to → IsInSome n w m c to → ⊥) × AreOnce n w
 
--- what holds of the stretches that have begun and those that wait, behind an entry
-pub record AreQueues (n : Circuit) (b : WorkEntry) (q w : List Stretch) : Type 0 where
+-- what holds of the work spans that have begun and those that wait, behind an entry
+pub record AreQueues (n : Circuit) (b : WorkEntry) (q w : List WorkSpan) : Type 0 where
   pub begun : All (IsBegun n b) q
   pub above : All (IsAfter b) q
   pub waits : All (IsAfter b) w
@@ -74,7 +74,7 @@ pub record AreQueues (n : Circuit) (b : WorkEntry) (q w : List Stretch) : Type 0
   pub once : AreOnce n w
 
 -- what holds when one is taken
-record IsTaken (n : Circuit) (b : WorkEntry) (s : Stretch) (later others : List Stretch) : Type 0 where
+record IsTaken (n : Circuit) (b : WorkEntry) (s : WorkSpan) (later others : List WorkSpan) : Type 0 where
   pub after : All (IsAfter (first_entry s)) later
   pub rest : All (IsAfter (first_entry s)) others
   pub above : IsAfter b s
@@ -84,7 +84,7 @@ record IsTaken (n : Circuit) (b : WorkEntry) (s : Stretch) (later others : List 
   pub apart : (m a c to : ℕ) → IsInSome n (s ∷ later) m a to → IsInSome n others m c to → ⊥
   pub once : AreOnce n others
 
-is_before : (s t : Stretch) → is_sooner s t ≡ true → IsAfter (first_entry s) t
+is_before : (s t : WorkSpan) → is_sooner s t ≡ true → IsAfter (first_entry s) t
 is_before s t e = elim (or_cases (nat_lt s.first_end t.first_end) (s.first_end == t.first_end && nat_lt s.«module».0 t.«module».0) e) as (λ _. IsAfter (first_entry s) t) [
   | inl less ↦ inl (ltb-true s.first_end t.first_end less)
   | inr same ↦
@@ -105,7 +105,7 @@ both true y a b = b
 both false y a b = absurd (true≢false (sym a))
 
 -- of two that don't end together for one module
-not_before : (s t : Stretch) → is_sooner t s ≡ false → ((s.first_end ≡ t.first_end) → (s.«module».0 ≡ t.«module».0) → ⊥) → IsAfter (first_entry s) t
+not_before : (s t : WorkSpan) → is_sooner t s ≡ false → ((s.first_end ≡ t.first_end) → (s.«module».0 ≡ t.«module».0) → ⊥) → IsAfter (first_entry s) t
 not_before s t e differ = elim (cases_lt s.first_end t.first_end) as (λ _. IsAfter (first_entry s) t) [
   | inl less ↦ inl less
   | inr not ↦ elim (cases_eq s.first_end t.first_end) as (λ _. IsAfter (first_entry s) t) [
@@ -123,7 +123,7 @@ not_before s t e differ = elim (cases_lt s.first_end t.first_end) as (λ _. IsAf
   ]
 ]
 
-taken_queues : (n : Circuit) (b : WorkEntry) (q w : List Stretch) (s : Stretch) (later others : List Stretch) → AreQueues n b q w → Takes q w s later others → IsTaken n b s later others
+taken_queues : (n : Circuit) (b : WorkEntry) (q w : List WorkSpan) (s : WorkSpan) (later others : List WorkSpan) → AreQueues n b q w → Takes q w s later others → IsTaken n b s later others
 taken_queues n b q w s later others queues (inl takes) =
     let now : AreQueues n b (s ∷ later) others = subst (λ l. AreQueues n b (s ∷ later) l) (sym takes.2) (subst (λ l. AreQueues n b l w) takes.1 queues) in
     let not : takes_waiting (s ∷ later) others ≡ false = subst (λ l. takes_waiting (s ∷ later) l ≡ false) (sym takes.2) (subst (λ l. takes_waiting l w ≡ false) takes.1 takes.0) in record {
@@ -137,7 +137,7 @@ taken_queues n b q w s later others queues (inl takes) =
       once = now.once;
     }
   where
-    by : (l : List Stretch) → IsSorted l → ((m a c to : ℕ) → IsInSome n (s ∷ later) m a to → IsInSome n l m c to → ⊥) → takes_waiting (s ∷ later) l ≡ false → All (IsAfter (first_entry s)) l
+    by : (l : List WorkSpan) → IsSorted l → ((m a c to : ℕ) → IsInSome n (s ∷ later) m a to → IsInSome n l m c to → ⊥) → takes_waiting (s ∷ later) l ≡ false → All (IsAfter (first_entry s)) l
     by [] order apart not = All-nil (IsAfter (first_entry s))
     by (t ∷ l) order apart not = all_after (first_entry s) t l
         (not_before s t not (λ same one. apart s.«module».0 s.from t.from s.first_end (inl (refl, inl (refl, refl))) (inl (sym one, inl (refl, same))))) order.0
@@ -154,7 +154,7 @@ taken_queues n b q w s later others queues (inr takes) =
       once = now.once.1;
     }
   where
-    by : (l : List Stretch) → IsSorted l → takes_waiting l (s ∷ others) ≡ true → All (IsAfter (first_entry s)) l
+    by : (l : List WorkSpan) → IsSorted l → takes_waiting l (s ∷ others) ≡ true → All (IsAfter (first_entry s)) l
     by [] sorted is = All-nil (IsAfter (first_entry s))
     by (u ∷ l) sorted is = all_after (first_entry s) u l (is_before s u is) sorted.0
 
@@ -162,14 +162,14 @@ taken_queues n b q w s later others queues (inr takes) =
     both now m a c to (inl here) had = now.once.0 m a c to here had
     both now m a c to (inr more) had = now.apart m a c to more (inr had)
 
-rest_all : (n : Circuit) → IsCircuit n → (P : Stretch → Type 0) (s : Stretch) → IsTiled n s → (GoesOn n s → P (next_of n s)) → All P (rest_in n s)
+rest_all : (n : Circuit) → IsCircuit n → (P : WorkSpan → Type 0) (s : WorkSpan) → IsTiled n s → (GoesOn n s → P (next_of n s)) → All P (rest_in n s)
 rest_all n ok P s tiled holds = elim (rest_cases n s) as (λ _. All P (rest_in n s)) [
   | inl more ↦ subst (All P) (sym more.1) (All-cons P (next_of n s) [] (holds (goes_on n ok s tiled more.0)) (All-nil P))
   | inr none ↦ subst (All P) (sym none.1) (All-nil P)
 ]
 
 -- what begun before goes on before what is taken later
-goes_before : (n : Circuit) → IsCircuit n → (b : WorkEntry) (s t : Stretch) → IsAfter b s → GoesOn n s → IsBegun n b t → IsAfter (first_entry t) (next_of n s)
+goes_before : (n : Circuit) → IsCircuit n → (b : WorkEntry) (s t : WorkSpan) → IsAfter b s → GoesOn n s → IsBegun n b t → IsAfter (first_entry t) (next_of n s)
 goes_before n ok b s t above goes begun = by begun.since above
   where
     past : s.first_end < window_end n s.first_end
@@ -188,7 +188,7 @@ goes_before n ok b s t above goes begun = by begun.since above
     by (inr at) (inr same) = inr (begun.window.ends ∙ ap (window_end n) (at.0 ∙ same.0), omega (arith, at.1, same.1))
 
 -- and then it holds behind this one's entry
-taken_on : (n : Circuit) → IsCircuit n → (b : WorkEntry) (s : Stretch) (later others : List Stretch) → IsTiled n s → IsTaken n b s later others → AreQueues n (first_entry s) (later ++ rest_in n s) others
+taken_on : (n : Circuit) → IsCircuit n → (b : WorkEntry) (s : WorkSpan) (later others : List WorkSpan) → IsTiled n s → IsTaken n b s later others → AreQueues n (first_entry s) (later ++ rest_in n s) others
 taken_on n ok b s later others tiled taken = record {
   begun = All-append (IsBegun n (first_entry s)) later (rest_in n s)
       (all_to (IsBegun n b) (IsBegun n (first_entry s)) on later taken.begun)
@@ -202,7 +202,7 @@ taken_on n ok b s later others tiled taken = record {
   once = taken.once;
 }
   where
-    on : (t : Stretch) → IsBegun n b t → IsBegun n (first_entry s) t
+    on : (t : WorkSpan) → IsBegun n b t → IsBegun n (first_entry s) t
     on t begun = record { window = begun.window; since = by begun.since taken.above }
       where
         by : (t.from < b.to) ⊎ ((t.from ≡ b.to) × (t.«module».0 ≤ b.«module».0)) → IsAfter b s → (t.from < s.first_end) ⊎ ((t.from ≡ s.first_end) × (t.«module».0 ≤ s.«module».0))
@@ -235,7 +235,7 @@ more_ordered x (y ∷ ys) first ordered (suc k) d within =
     let e : suc (k + 1) ≡ suc k + 1 = omega arith in
     subst (λ j. ComesBefore (slice_index_or (y ∷ ys) k d) (slice_index_or (x ∷ y ∷ ys) j d)) e (ordered k d (omega (arith, within)))
 
-pub left_ordered : (n : Circuit) → IsCircuit n → (f : ℕ) (q w : List Stretch) → All (IsTiled n) q → All (IsTiled n) w → most_entries q + most_entries w ≤ f
+pub left_ordered : (n : Circuit) → IsCircuit n → (f : ℕ) (q w : List WorkSpan) → All (IsTiled n) q → All (IsTiled n) w → most_entries q + most_entries w ≤ f
     → (b : WorkEntry) → AreQueues n b q w → IsOrdered (left_in n q w)
 left_ordered n ok zero q w begun waiting enough b queues = elim (find_step n ok q w begun waiting) as (λ _. IsOrdered (left_in n q w)) [
   | inl none ↦ none_ordered (left_in n q w) (none_is_left n q w none)
@@ -246,8 +246,8 @@ left_ordered n ok (suc f) q w begun waiting enough b queues = elim (find_step n 
   | inr found ↦ by (left_ordered n ok f) found.0 found.1 found.2 found.3
 ]
   where
-    by : ((l r : List Stretch) → All (IsTiled n) l → All (IsTiled n) r → most_entries l + most_entries r ≤ f → (x : WorkEntry) → AreQueues n x l r → IsOrdered (left_in n l r))
-        → (s : Stretch) (later others : List Stretch) → IsStep n q w s later others → IsOrdered (left_in n q w)
+    by : ((l r : List WorkSpan) → All (IsTiled n) l → All (IsTiled n) r → most_entries l + most_entries r ≤ f → (x : WorkEntry) → AreQueues n x l r → IsOrdered (left_in n l r))
+        → (s : WorkSpan) (later others : List WorkSpan) → IsStep n q w s later others → IsOrdered (left_in n q w)
     by again s later others step = subst IsOrdered (sym step.first) (more_ordered (first_entry s) tail first
         (let fewer = step.fewer in again (later ++ rest_in n s) others step.after step.waiting (omega (arith, fewer, enough)) (first_entry s) on))
       where

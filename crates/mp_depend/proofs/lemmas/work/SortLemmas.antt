@@ -1,4 +1,4 @@
--- Stretches of all work in another order are stretches of all work, and their first entries are in order once they are sorted.
+-- Work spans of all work in another order are work spans of all work, and their first entries are in order once they are sorted.
 use Rattle.std.proofs.Common.{◌≡◌, ◌≢◌, ◌⊎◌, ℕ, ◌+◌, ◌<◌, ◌≤◌, ◌==◌, false, if◌then◌else◌, List, [], length, All, refl, ap, sym, subst, ◌∙◌, arith, inl, inr}
 use Rattle.std.specs.List.{swap}
 use Rattle.std.specs.List.Sorted.{IsPermutation, IsSortedByKey}
@@ -11,30 +11,30 @@ use Rattle.std.proofs.lemmas.List.Edits.{Swapped, swapped_from_swap, length-swap
 use Rattle.std.proofs.lemmas.List.Sorted.{IsPermutation-keeps}
 use Rattle.mp_netlist.specs.Circuit.{Circuit, IsCircuit}
 use Rattle.mp_netlist.specs.Delays.{least_delay}
-use Rattle.mp_depend.specs.declared.work.stretch.Stretch.{Stretch}
-use Rattle.mp_depend.specs.work.Merges.{IsStretch, entries_left}
-use Rattle.mp_depend.specs.work.Stretches.{no_stretch, stretch_at, IsIn, IsPart, HasBegun, EndsWithWindow, AreStretches, AreInOrder}
+use Rattle.mp_depend.specs.declared.work.work_span.WorkSpan.{WorkSpan}
+use Rattle.mp_depend.specs.work.Merges.{IsWorkSpan, entries_left}
+use Rattle.mp_depend.specs.work.WorkSpans.{no_work_span, work_span_at, IsIn, IsPart, HasBegun, EndsWithWindow, AreWorkSpans, AreInOrder}
 use Rattle.mp_depend.specs.work.Work.{IsWork}
-use Rattle.mp_depend.proofs.lemmas.work.StretchLemmas.{each_is, first_once, stretches_are_work}
+use Rattle.mp_depend.proofs.lemmas.work.WorkSpanLemmas.{each_is, first_once, work_spans_are_work}
 
 -- ---- in another order
 
 -- what stands at a place of the other list stands at this place of the one
-record AreMoved (one other : List Stretch) (place : ℕ → ℕ) : Type 0 where
+record AreMoved (one other : List WorkSpan) (place : ℕ → ℕ) : Type 0 where
   within : (k : ℕ) → k < length other → place k < length one
   back : (k : ℕ) → k < length one → place k < length other
-  same : (k : ℕ) → k < length other → stretch_at other k ≡ stretch_at one (place k)
+  same : (k : ℕ) → k < length other → work_span_at other k ≡ work_span_at one (place k)
   twice : (k : ℕ) → place (place k) ≡ k
 
-module _ (old new : Circuit) (one other : List Stretch) (place : ℕ → ℕ) (moved : AreMoved one other place) (are : AreStretches old new one) where
+module _ (old new : Circuit) (one other : List WorkSpan) (place : ℕ → ℕ) (moved : AreMoved one other place) (are : AreWorkSpans old new one) where
   from_one : (m from to k : ℕ) → IsIn new one m from to k → IsIn new other m from to (place k)
   from_one m from to k has =
       let within = moved.back k has.within in
-      let e : stretch_at one k ≡ stretch_at other (place k) = ap (stretch_at one) (sym (moved.twice k)) ∙ sym (moved.same (place k) within) in
+      let e : work_span_at one k ≡ work_span_at other (place k) = ap (work_span_at one) (sym (moved.twice k)) ∙ sym (moved.same (place k) within) in
       record {
         within = within;
-        part = subst (λ (s : Stretch). s.«module».0 ≡ m) e has.part;
-        at = subst (λ (s : Stretch). IsPart new s from to) e has.at;
+        part = subst (λ (s : WorkSpan). s.«module».0 ≡ m) e has.part;
+        at = subst (λ (s : WorkSpan). IsPart new s from to) e has.at;
       }
 
   to_one : (m from to k : ℕ) → IsIn new other m from to k → IsIn new one m from to (place k)
@@ -42,11 +42,11 @@ module _ (old new : Circuit) (one other : List Stretch) (place : ℕ → ℕ) (m
       let e = moved.same k has.within in
       record {
         within = moved.within k has.within;
-        part = subst (λ (s : Stretch). s.«module».0 ≡ m) e has.part;
-        at = subst (λ (s : Stretch). IsPart new s from to) e has.at;
+        part = subst (λ (s : WorkSpan). s.«module».0 ≡ m) e has.part;
+        at = subst (λ (s : WorkSpan). IsPart new s from to) e has.at;
       }
 
-  are_moved : AreStretches old new other
+  are_moved : AreWorkSpans old new other
   are_moved = record {
     known = λ m from to low entry. let found = are.known m from to low entry in (place found.0, from_one m from to found.0 found.1);
     only = λ m from to k low has. are.only m from to (place k) low (to_one m from to k has);
@@ -88,7 +88,7 @@ exchanged_twice i j k p q (inr (inr a)) (inl b) = absurd (a.0 (sym a.2 ∙ b.0))
 exchanged_twice i j k p q (inr (inr a)) (inr (inl b)) = absurd (a.1 (sym a.2 ∙ b.1))
 exchanged_twice i j k p q (inr (inr a)) (inr (inr b)) = b.2 ∙ a.2
 
-swap_moves : (one : List Stretch) (i j : ℕ) → i < length one → j < length one → AreMoved one (swap one i j) (exchanged i j)
+swap_moves : (one : List WorkSpan) (i j : ℕ) → i < length one → j < length one → AreMoved one (swap one i j) (exchanged i j)
 swap_moves one i j low high = record {
   within = λ k within. exchanged_within i j k (exchanged i j k) (length one) low high (omega (arith, size, within)) (is_exchanged i j k);
   back = λ k within. let inside = exchanged_within i j k (exchanged i j k) (length one) low high within (is_exchanged i j k) in omega (arith, size, inside);
@@ -99,21 +99,21 @@ swap_moves one i j low high = record {
     size : length (swap one i j) ≡ length one
     size = length-swap one i j
 
-    swapped : Swapped (stretch_at one) (stretch_at (swap one i j)) i j
-    swapped = swapped_from_swap one (swap one i j) i j no_stretch low high refl
+    swapped : Swapped (work_span_at one) (work_span_at (swap one i j)) i j
+    swapped = swapped_from_swap one (swap one i j) i j no_work_span low high refl
 
-    by : (k p : ℕ) → IsExchanged i j k p → stretch_at (swap one i j) k ≡ stretch_at one p
-    by k p (inl a) = ap (stretch_at (swap one i j)) a.0 ∙ swapped.0 ∙ ap (stretch_at one) (sym a.1)
-    by k p (inr (inl a)) = ap (stretch_at (swap one i j)) a.1 ∙ swapped.1 ∙ ap (stretch_at one) (sym a.2)
-    by k p (inr (inr a)) = swapped.2 k a.0 a.1 ∙ ap (stretch_at one) (sym a.2)
+    by : (k p : ℕ) → IsExchanged i j k p → work_span_at (swap one i j) k ≡ work_span_at one p
+    by k p (inl a) = ap (work_span_at (swap one i j)) a.0 ∙ swapped.0 ∙ ap (work_span_at one) (sym a.1)
+    by k p (inr (inl a)) = ap (work_span_at (swap one i j)) a.1 ∙ swapped.1 ∙ ap (work_span_at one) (sym a.2)
+    by k p (inr (inr a)) = swapped.2 k a.0 a.1 ∙ ap (work_span_at one) (sym a.2)
 
-stay : (old new : Circuit) (stretches sorted : List Stretch) → AreStretches old new stretches → IsPermutation stretches sorted → AreStretches old new sorted
-stay old new stretches sorted are permutation = IsPermutation-keeps stretches (AreStretches old new) are (λ one i j low high before. are_moved old new one (swap one i j) (exchanged i j) (swap_moves one i j low high) before) sorted permutation
+stay : (old new : Circuit) (work_spans sorted : List WorkSpan) → AreWorkSpans old new work_spans → IsPermutation work_spans sorted → AreWorkSpans old new sorted
+stay old new work_spans sorted are permutation = IsPermutation-keeps work_spans (AreWorkSpans old new) are (λ one i j low high before. are_moved old new one (swap one i j) (exchanged i j) (swap_moves one i j low high) before) sorted permutation
 
 -- ---- in order
 
 -- what is compared
-abbrev pub key_of : Stretch → ℕ × ℕ
+abbrev pub key_of : WorkSpan → ℕ × ℕ
 key_of s = (s.first_end, s.«module».0)
 
 abbrev pub compares : ℕ × ℕ → ℕ × ℕ → Ordering
@@ -129,30 +129,30 @@ rises a b c d e = by (nat_cmp c a) (nat_cmp d b) (ranked c a (nat_cmp c a) refl)
     by Equal Greater x y e = inr (sym x, omega (arith, y))
     by Greater p x y e = inl x
 
-in_order : (old new : Circuit) → IsCircuit new → (stretches : List Stretch) → AreStretches old new stretches → IsSortedByKey key_of compares stretches → AreInOrder stretches
-in_order old new ok stretches are sorted k within = by (rises s.first_end s.«module».0 t.first_end t.«module».0 (sorted k no_stretch (omega arith) within))
+in_order : (old new : Circuit) → IsCircuit new → (work_spans : List WorkSpan) → AreWorkSpans old new work_spans → IsSortedByKey key_of compares work_spans → AreInOrder work_spans
+in_order old new ok work_spans are sorted k within = by (rises s.first_end s.«module».0 t.first_end t.«module».0 (sorted k no_work_span (omega arith) within))
   where
-    s : Stretch
-    s = stretch_at stretches k
+    s : WorkSpan
+    s = work_span_at work_spans k
 
-    t : Stretch
-    t = stretch_at stretches (k + 1)
+    t : WorkSpan
+    t = work_span_at work_spans (k + 1)
 
     by : (s.first_end < t.first_end) ⊎ ((s.first_end ≡ t.first_end) × (s.«module».0 ≤ t.«module».0)) → (s.first_end < t.first_end) ⊎ ((s.first_end ≡ t.first_end) × (s.«module».0 < t.«module».0))
     by (inl before) = inl before
     by (inr (together, below)) = elim (cases_eq t.«module».0 s.«module».0) as (λ _. (s.first_end < t.first_end) ⊎ ((s.first_end ≡ t.first_end) × (s.«module».0 < t.«module».0))) [
       | inl same ↦
-          let e = first_once old new ok stretches are k (k + 1) (omega (arith, within)) within same together in
+          let e = first_once old new ok work_spans are k (k + 1) (omega (arith, within)) within same together in
           absurd (omega (arith, e))
       | inr other ↦ inr (together, omega (arith, below, other))
     ]
 
--- stretches of all work once they are sorted
-module _ (old new : Circuit) (ok : IsCircuit new) (stretches sorted : List Stretch) (are : AreStretches old new stretches) (permutation : IsPermutation stretches sorted) where
-  pub sorted_each : All (IsStretch new.horizon) sorted
-  sorted_each = each_is old new ok sorted (stay old new stretches sorted are permutation)
+-- work spans of all work once they are sorted
+module _ (old new : Circuit) (ok : IsCircuit new) (work_spans sorted : List WorkSpan) (are : AreWorkSpans old new work_spans) (permutation : IsPermutation work_spans sorted) where
+  pub sorted_each : All (IsWorkSpan new.horizon) sorted
+  sorted_each = each_is old new ok sorted (stay old new work_spans sorted are permutation)
 
   pub sorted_work : IsSortedByKey key_of compares sorted → IsWork old new (entries_left (least_delay new) new.horizon [] sorted)
   sorted_work order =
-      let all = stay old new stretches sorted are permutation in
-      stretches_are_work old new ok sorted all (in_order old new ok sorted all order)
+      let all = stay old new work_spans sorted are permutation in
+      work_spans_are_work old new ok sorted all (in_order old new ok sorted all order)

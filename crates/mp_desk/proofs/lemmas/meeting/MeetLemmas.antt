@@ -12,36 +12,36 @@ use Rattle.mp_version.specs.Stories.{Story, opening}
 use Rattle.mp_desk.specs.Extending.{Extends}
 use Rattle.mp_desk.specs.Holders.{Working, Seeing, ExtendsEach}
 use Rattle.mp_desk.specs.Holders as holders
-use Rattle.mp_desk.specs.meeting.Sittings.{Sitting, begun, HasWorked, WorkedEach}
+use Rattle.mp_desk.specs.meeting.Sittings.{DesignerTally, begun, HasWorked, WorkedEach}
 use Rattle.mp_desk.specs.meeting.Seats.{working, tally_of}
 use Rattle.mp_desk.specs.meeting.Meetings.{AreWorked, accepted_by, IsMeeting}
 use Rattle.mp_desk.proofs.lemmas.meeting.FateLemmas.{among_more, longer, extends_trans}
 
 -- each designer has worked through the block
-abbrev pub AllDone : Story → List (Bor (List ℕ)) → List Sitting → Type 0
+abbrev pub AllDone : Story → List (Bor (List ℕ)) → List DesignerTally → Type 0
 AllDone start [] [] = Unit {0}
 AllDone start (b ∷ bs) (s ∷ ss) = HasWorked start (lines_of b.now) s × AllDone start bs ss
 AllDone start bs ss = ⊥
 
-all_done : (start : Story) (bs : List (Bor (List ℕ))) (ss : List Sitting) → length bs ≡ length ss
-    → ((k : ℕ) (s : Sitting) (b : Bor (List ℕ)) → k < length ss → HasWorked start (lines_of (slice_index_or bs k b).now) (slice_index_or ss k s)) → AllDone start bs ss
+all_done : (start : Story) (bs : List (Bor (List ℕ))) (ss : List DesignerTally) → length bs ≡ length ss
+    → ((k : ℕ) (s : DesignerTally) (b : Bor (List ℕ)) → k < length ss → HasWorked start (lines_of (slice_index_or bs k b).now) (slice_index_or ss k s)) → AllDone start bs ss
 all_done start [] [] same h = tt
 all_done start [] (s ∷ ss) same h = absurd (omega (arith, same))
 all_done start (b ∷ bs) [] same h = absurd (omega (arith, same))
 all_done start (b ∷ bs) (s ∷ ss) same h = (h 0 s b (omega arith), all_done start bs ss (omega (arith, same)) (λ k t c within. h (suc k) t c (omega (arith, within))))
 
 -- those who have just come have seen the opening version
-all_begun : (start : Story) (ds : List Working) → All (λ (d : Working). d.seen ≡ start) ds → (k : ℕ) (s : Sitting) → k < length ds → (slice_index_or (map begun ds) k s).seen ≡ start
+all_begun : (start : Story) (ds : List Working) → All (λ (d : Working). d.seen ≡ start) ds → (k : ℕ) (s : DesignerTally) → k < length ds → (slice_index_or (map begun ds) k s).seen ≡ start
 all_begun start [] h k s within = absurd (omega (arith, within))
 all_begun start (d ∷ ds) h zero s within = All-head (λ (d : Working). d.seen ≡ start) d ds h
 all_begun start (d ∷ ds) h (suc k) s within = all_begun start ds (All-tail (λ (d : Working). d.seen ≡ start) d ds h) k s (omega (arith, within))
 
 module _ (now : Story) (numbers : List ℕ) where
   -- the viewers were told of this
-  abbrev Told : List Sitting → Type 0
-  Told ss = All (λ (n : ℕ). All (λ (s : Sitting). s.told ≤ n) ss) numbers
+  abbrev Told : List DesignerTally → Type 0
+  Told ss = All (λ (n : ℕ). All (λ (s : DesignerTally). s.told ≤ n) ss) numbers
 
-  worked : (base : Circuit) (bs : List (Bor (List ℕ))) (ss : List Sitting) → AllDone (opening base) bs ss → ExtendsEach now (map working ss) → Told ss → AreWorked now numbers (lines_of_each bs) (map tally_of ss)
+  worked : (base : Circuit) (bs : List (Bor (List ℕ))) (ss : List DesignerTally) → AllDone (opening base) bs ss → ExtendsEach now (map working ss) → Told ss → AreWorked now numbers (lines_of_each bs) (map tally_of ss)
   worked base [] [] done extends told = tt
   worked base [] (s ∷ ss) done extends told = absurd done
   worked base (b ∷ bs) [] done extends told = absurd done
@@ -53,31 +53,31 @@ module _ (now : Story) (numbers : List ℕ) where
           rise = h.rise now extends.0;
           accepted = h.accepted;
           refused = h.refused;
-          seen = λ k n within. among_more s.told (slice_index_or numbers k n) h.fates (All-head (λ (t : Sitting). t.told ≤ slice_index_or numbers k n) s ss (told k n within)) h.among;
+          seen = λ k n within. among_more s.told (slice_index_or numbers k n) h.fates (All-head (λ (t : DesignerTally). t.told ≤ slice_index_or numbers k n) s ss (told k n within)) h.among;
         },
-        worked base bs ss done.1 extends.1 (λ k n within. All-tail (λ (t : Sitting). t.told ≤ slice_index_or numbers k n) s ss (told k n within)),
+        worked base bs ss done.1 extends.1 (λ k n within. All-tail (λ (t : DesignerTally). t.told ≤ slice_index_or numbers k n) s ss (told k n within)),
       )
 
-  counted_alike : (ss : List Sitting) → accepted_by (map tally_of ss) ≡ holders.accepted_by (map working ss)
+  counted_alike : (ss : List DesignerTally) → accepted_by (map tally_of ss) ≡ holders.accepted_by (map working ss)
   counted_alike [] = refl
   counted_alike (s ∷ ss) = ap (λ (n : ℕ). s.accepted + n) (counted_alike ss)
 
-  based : (base : Circuit) (bs : List (Bor (List ℕ))) (ss : List Sitting) → 0 < length bs → AllDone (opening base) bs ss → ExtendsEach now (map working ss) → now.base ≡ base
+  based : (base : Circuit) (bs : List (Bor (List ℕ))) (ss : List DesignerTally) → 0 < length bs → AllDone (opening base) bs ss → ExtendsEach now (map working ss) → now.base ≡ base
   based base [] ss some done extends = absurd (omega (arith, some))
   based base (b ∷ bs) [] some done extends = absurd done
   based base (b ∷ bs) (s ∷ ss) some done extends = extends.0.same_base ∙ done.0.extends.same_base
 
-  pub met : (base : Circuit) (bs : List (Bor (List ℕ))) (ds : List Working) (old new : List Sitting) → All (λ (d : Working). d.seen ≡ opening base) ds
+  pub met : (base : Circuit) (bs : List (Bor (List ℕ))) (ds : List Working) (old new : List DesignerTally) → All (λ (d : Working). d.seen ≡ opening base) ds
       → old ≡ map begun ds → length ds ≡ length bs → 0 < length bs → length new ≡ length old
-      → WorkedEach bs old new → All (λ (s : Sitting). s.wanting ≡ false) new → Told new → ExtendsEach now (map working new) → length now.edits ≡ holders.accepted_by (map working new)
+      → WorkedEach bs old new → All (λ (s : DesignerTally). s.wanting ≡ false) new → Told new → ExtendsEach now (map working new) → length now.edits ≡ holders.accepted_by (map working new)
       → All (λ (n : ℕ). n ≤ length now.edits) numbers → IsMeeting base (lines_of_each bs) now (map tally_of new) numbers
   met base bs ds old new fresh seated count some same done whole told extends counted within =
-      let size : length old ≡ length ds = ap (λ (l : List Sitting). length l) seated ∙ length-map ds begun in
+      let size : length old ≡ length ds = ap (λ (l : List DesignerTally). length l) seated ∙ length-map ds begun in
       let all : AllDone (opening base) bs new =
       all_done (opening base) bs new (omega (arith, count, same, size))
       (λ k s b inside.
       subst (λ (start : Story). HasWorked start (lines_of (slice_index_or bs k b).now) (slice_index_or new k s))
-      (ap (λ (l : List Sitting). (slice_index_or l k s).seen) seated ∙ all_begun (opening base) ds fresh k s (omega (arith, inside, same, size)))
+      (ap (λ (l : List DesignerTally). (slice_index_or l k s).seen) seated ∙ all_begun (opening base) ds fresh k s (omega (arith, inside, same, size)))
       (done k s b (omega (arith, inside, same)) (whole k s inside))) in
       record {
         same_base = based base bs new some all extends;
@@ -87,10 +87,10 @@ module _ (now : Story) (numbers : List ℕ) where
       }
 
 -- those who sat down have only just come
-pub seated_fresh : (ds : List Working) (ss : List Sitting) → ss ≡ map begun ds → All (λ (s : Sitting). s ≡ begun (working s)) ss
-seated_fresh ds ss same = subst (All (λ (s : Sitting). s ≡ begun (working s))) (sym same) (by ds)
+pub seated_fresh : (ds : List Working) (ss : List DesignerTally) → ss ≡ map begun ds → All (λ (s : DesignerTally). s ≡ begun (working s)) ss
+seated_fresh ds ss same = subst (All (λ (s : DesignerTally). s ≡ begun (working s))) (sym same) (by ds)
   where
-    by : (ds : List Working) → All (λ (s : Sitting). s ≡ begun (working s)) (map begun ds)
+    by : (ds : List Working) → All (λ (s : DesignerTally). s ≡ begun (working s)) (map begun ds)
     by [] k s within = absurd (omega (arith, within))
     by (d ∷ ds) zero s within = refl
     by (d ∷ ds) (suc k) s within = by ds k s (omega (arith, within))

@@ -11,12 +11,12 @@ use Rattle.mp_version.specs.Stories.{Story, one_more, judged}
 use Rattle.mp_desk.specs.Extending.{Extends}
 use Rattle.mp_desk.specs.Holders.{Working, Signs}
 use Rattle.mp_desk.specs.meeting.Fates.{Fate, Accepted, Refused, said, unless_empty, IsFate, AreFates, Rise, AreAmong, accepted_of, refused_of}
-use Rattle.mp_desk.specs.meeting.Sittings.{Sitting, begun, with_edit, with_refusal, IsAccepted, IsRefused, Takes, HasWorked}
+use Rattle.mp_desk.specs.meeting.Sittings.{DesignerTally, begun, with_edit, with_refusal, IsAccepted, IsRefused, Takes, HasWorked}
 use Rattle.mp_desk.specs.meeting.Seats.{working}
 use Rattle.mp_desk.proofs.lemmas.meeting.FateLemmas.{accepted_snoc, refused_snoc, among_more, among_snoc, extends_self, extends_trans, extends_one_more, longer, accepted_at, up_to-earlier}
 
 -- these became of the lines before the rest
-pub record SoFar (start : Story) (all rest : List (List ℕ)) (p : Sitting) : Type 0 where
+pub record SoFar (start : Story) (all rest : List (List ℕ)) (p : DesignerTally) : Type 0 where
   pub fates : List Fate
   pub extends : Extends p.seen start
   pub judged : (now : Story) → Extends now p.seen → (later : List Fate) → AreFates now (said rest) later → AreFates now (said all) (fates ++ later)
@@ -39,7 +39,7 @@ none_yet me lines = record {
 }
 
 -- what the desk tells of an edit that was accepted
-pub accepted_there : (old new : Sitting) (edit : Edit) (before version : Story) → Extends before old.seen → version ≡ one_more before edit → new.seen ≡ version
+pub accepted_there : (old new : DesignerTally) (edit : Edit) (before version : Story) → Extends before old.seen → version ≡ one_more before edit → new.seen ≡ version
     → new.accepted ≡ old.accepted + 1 → new.refused ≡ old.refused → new.told ≡ length version.edits → new.wanting ≡ old.wanting → new.number ≡ old.number
     → Signs (working old) (working new) version → IsAccepted old new edit
 accepted_there old new edit before version extends is seen accepted refused told wanting number signs =
@@ -56,7 +56,7 @@ accepted_there old new edit before version extends is seen accepted refused told
     } in
     (before, extends, signs.0, signs.1, omega (arith, size, many), same)
 
-module _ (start : Story) (all : List (List ℕ)) (line : List ℕ) (rest : List (List ℕ)) (old new : Sitting) (before : SoFar start all (line ∷ rest) old) where
+module _ (start : Story) (all : List (List ℕ)) (line : List ℕ) (rest : List (List ℕ)) (old new : DesignerTally) (before : SoFar start all (line ∷ rest) old) where
   -- a line with this fate
   one_fate : (read : Result Line LineError) (fate : Fate) → said (line ∷ rest) ≡ read ∷ said rest → ((now : Story) → Extends now new.seen → IsFate now read fate) → Extends new.seen old.seen
       → ((last : ℕ) (later : List Fate) → Rise (length new.seen.edits) last later → Rise (length old.seen.edits) last (fate ∷ later)) → new.accepted ≡ old.accepted + accepted_of (fate ∷ [])
@@ -137,7 +137,7 @@ module _ (start : Story) (all : List (List ℕ)) (line : List ℕ) (rest : List 
       by (Err error) is h = was_refused (Err error) old.seen (ap (λ r. unless_empty r (said rest)) is) (λ now more. tt) (extends_self old.seen) h
 
 -- all lines were submitted
-pub has_worked : (start : Story) (all : List (List ℕ)) (p : Sitting) → SoFar start all [] p → HasWorked start all p
+pub has_worked : (start : Story) (all : List (List ℕ)) (p : DesignerTally) → SoFar start all [] p → HasWorked start all p
 has_worked start all p h = record {
   fates = h.fates;
   extends = h.extends;
@@ -149,7 +149,7 @@ has_worked start all p h = record {
 }
 
 -- at most one line more was refused
-pub refused_by_one : (old new : Sitting) (read : Result Line LineError) → Takes old new read → new.refused ≤ old.refused + 1
+pub refused_by_one : (old new : DesignerTally) (read : Result Line LineError) → Takes old new read → new.refused ≤ old.refused + 1
 refused_by_one old new (Ok Empty) h = let e : new.refused ≡ old.refused = ap (λ s. s.refused) h in omega (arith, e)
 refused_by_one old new (Ok (Change edit)) (inl h) = let e : new.refused ≡ old.refused = ap (λ s. s.refused) h.5 in omega (arith, e)
 refused_by_one old new (Ok (Change edit)) (inr h) = let e : new.refused ≡ old.refused + 1 = ap (λ s. s.refused) h.4 in omega (arith, e)

@@ -1,7 +1,7 @@
 use Rattle.std.proofs.Common.{◌≤◌, ◌-◌, [], true, sym, subst, arith}
 use Rattle.mp_partition.specs.runs.Marks.{is_marked}
 use Rattle.mp_engine.proofs.lemmas.region_runs.RegionRunLemmas.{can_less}
-use Rattle.mp_engine.specs.Looks.{IsLookedAt}
+use Rattle.mp_engine.specs.ActivityProbes.{IsLookedAt}
 use Rattle.mp_engine.proofs.quiet.look_at.Goals as goal
 
 pub next-requires : goal.next-requires

@@ -1,4 +1,4 @@
-use Rattle.mp_engine.specs.Looks.{IsLookedAt}
+use Rattle.mp_engine.specs.ActivityProbes.{IsLookedAt}
 use Rattle.mp_engine.proofs.quiet.look_at.Given as goal
 
 -- the units before the last look are over

@@ -5,7 +5,7 @@ use Rattle.mp_partition.specs.regions.Regions.{HasStimuli}
 use Rattle.mp_partition.proofs.lemmas.regions.RegionLemmas.{has_stimuli, whole_is}
 use Rattle.mp_partition.specs.merging.PartRuns.{IsPartRun}
 use Rattle.mp_engine.proofs.lemmas.region_runs.RegionRunLemmas.{none_marked}
-use Rattle.mp_engine.specs.Looks.{IsLookedAt}
+use Rattle.mp_engine.specs.ActivityProbes.{IsLookedAt}
 use Rattle.mp_engine.proofs.quiet.run_quiet.Goals as goal
 
 pub look_at-requires-clause-before : goal.look_at-requires-clause-before

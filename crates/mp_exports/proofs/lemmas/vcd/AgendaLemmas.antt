@@ -1,20 +1,20 @@
 -- The changes of a time, one before the others.
-use Rattle.mp_exports.proofs.lemmas.vcd.Names.{rules, vec_len, told_at, left_whole, left_then, left_as, ◌≡◌, ◌≢◌, ◌+◌, ◌-◌, ◌<◌, ◌≤◌, ◌==◌, ◌∷◌, ◌++◌, None, map, get_or-map, left_none, nat_lt-false, nat_lt-true, earlier_than-take, get_or_default, ℕ, Bool, true, not, cond, nat_le, List, [], length, length-append, take, slice_index, slice_set, Some, zero, suc, refl, sym, ap, subst, ◌∙◌, zero-add, add-one, get_or, arith, get_or-set_other, get_or-set_same, nat_tests, cases_lt, eq-eqb, eqb-true, le-leb, lt-leb, lt-ltb, ne_eqb, get_or-append, length-set, get_or-append_seam, take-suc, change_after, changes_after, between, WireRecord, Circuit, wire_at, width_of, level, filter, flat_map, flat_map-map, value_line, value_at, marked, time_mark, Entry, no_entry, entry_at, IsChain, Tells, told_from, with_told, onto, onto_slot, with_levels, told_lines}
-use Rattle.mp_exports.specs.declared.vcd.agenda.Agenda.{Agenda}
+use Rattle.mp_exports.proofs.lemmas.vcd.Names.{rules, vec_len, told_at, left_whole, left_then, left_as, ◌≡◌, ◌≢◌, ◌+◌, ◌-◌, ◌<◌, ◌≤◌, ◌==◌, ◌∷◌, ◌++◌, None, map, get_or-map, left_none, nat_lt-false, nat_lt-true, earlier_than-take, get_or_default, ℕ, Bool, true, not, cond, nat_le, List, [], length, length-append, take, slice_index, slice_set, Some, zero, suc, refl, sym, ap, subst, ◌∙◌, zero-add, add-one, get_or, arith, get_or-set_other, get_or-set_same, nat_tests, cases_lt, eq-eqb, eqb-true, le-leb, lt-leb, lt-ltb, ne_eqb, get_or-append, length-set, get_or-append_seam, take-suc, change_after, changes_after, between, WireRecord, Circuit, wire_at, width_of, level, filter, flat_map, flat_map-map, value_line, value_at, marked, time_mark, QueuedChange, no_entry, entry_at, IsChain, Tells, told_from, with_told, onto, onto_slot, with_levels, told_lines}
+use Rattle.mp_exports.specs.declared.vcd.change_queue.ChangeQueue.{ChangeQueue}
 
 -- one entry more at the end leaves a chain
-pub chain_more : (entries : List Entry) (added : Entry) (place : ℕ) (told : List (ℕ × ℕ)) → IsChain entries place told → IsChain (entries ++ added ∷ []) place told
+pub chain_more : (entries : List QueuedChange) (added : QueuedChange) (place : ℕ) (told : List (ℕ × ℕ)) → IsChain entries place told → IsChain (entries ++ added ∷ []) place told
 chain_more entries added place [] chain = chain
 chain_more entries added place (x ∷ told) chain = grind (arith, nat_tests, get_or-append, length-append, (chain_more entries added (entry_at entries (place - 1)).next told chain.5))
 
-pub chain_within : (entries : List Entry) (place : ℕ) (told : List (ℕ × ℕ)) → IsChain entries place told → place ≤ length entries
+pub chain_within : (entries : List QueuedChange) (place : ℕ) (told : List (ℕ × ℕ)) → IsChain entries place told → place ≤ length entries
 chain_within entries place [] chain = grind (arith, nat_tests)
 chain_within entries place (x ∷ told) chain = grind (arith, nat_tests)
 
-pub told_as : (firsts : List ℕ) (entries : List Entry) (told other : ℕ → List (ℕ × ℕ)) → ((t : ℕ) → t < length firsts → told t ≡ other t) → Tells firsts entries told → Tells firsts entries other
+pub told_as : (firsts : List ℕ) (entries : List QueuedChange) (told other : ℕ → List (ℕ × ℕ)) → ((t : ℕ) → t < length firsts → told t ≡ other t) → Tells firsts entries told → Tells firsts entries other
 told_as firsts entries told other same tells t within = subst (IsChain entries (slice_index firsts t)) (same t within) (tells t within)
 
-module _ (firsts : List ℕ) (entries : List Entry) (told : ℕ → List (ℕ × ℕ)) (time place : ℕ) (added : Entry) (tells : Tells firsts entries told) (within : time < length firsts)
+module _ (firsts : List ℕ) (entries : List QueuedChange) (told : ℕ → List (ℕ × ℕ)) (time place : ℕ) (added : QueuedChange) (tells : Tells firsts entries told) (within : time < length firsts)
     (next : added.next ≡ slice_index firsts time) (last : place ≡ length entries + 1) where
   first_here : IsChain (entries ++ added ∷ []) place ((added.wire, added.level) ∷ told time)
   first_here =
@@ -66,35 +66,35 @@ pub width_is : (n : Circuit) (widths : List ℕ) (w : ℕ) → widths ≡ map wi
 width_is n widths w are = ap (λ ws. slice_index ws w) are ∙ get_or-map width_of n.wires w None
 
 -- the chain of a time
-pub chain_at : (n : Circuit) (agenda : Agenda) (t place : ℕ) → agenda.from ≤ t → t < agenda.from + vec_len agenda.firsts → Tells agenda.firsts.items agenda.entries.items (told_from agenda.from (told_at n))
+pub chain_at : (n : Circuit) (agenda : ChangeQueue) (t place : ℕ) → agenda.from ≤ t → t < agenda.from + vec_len agenda.firsts → Tells agenda.firsts.items agenda.entries.items (told_from agenda.from (told_at n))
     → place ≡ slice_index agenda.firsts.items (t - agenda.from) → IsChain agenda.entries.items place (told_at n t)
 chain_at n agenda t place low high told is =
     let same : agenda.from + (t - agenda.from) ≡ t = omega (arith, low) in
     subst (λ u. IsChain agenda.entries.items place (told_at n u)) same (rw is (told (t - agenda.from) (omega (arith, low, high))))
 
 -- a chain that is not over has an entry, whose line comes first
-pub record HasEntry (n : Circuit) (entries : List Entry) (entry : Entry) (place : ℕ) (told : List (ℕ × ℕ)) (line : List ℕ) : Type 0 where
+pub record HasEntry (n : Circuit) (entries : List QueuedChange) (entry : QueuedChange) (place : ℕ) (told : List (ℕ × ℕ)) (line : List ℕ) : Type 0 where
   pub later : List (ℕ × ℕ)
   pub smaller : entry.next < place
   pub chain : IsChain entries entry.next later
   pub lines : told_lines n told ≡ line ++ told_lines n later
 
-pub chain_next : (n : Circuit) (widths : List ℕ) (entries : List Entry) (entry : Entry) (place : ℕ) (told : List (ℕ × ℕ)) (line : List ℕ) → widths ≡ map width_of n.wires
+pub chain_next : (n : Circuit) (widths : List ℕ) (entries : List QueuedChange) (entry : QueuedChange) (place : ℕ) (told : List (ℕ × ℕ)) (line : List ℕ) → widths ≡ map width_of n.wires
     → entry_at entries (place - 1) ≡ entry → IsChain entries place told → 0 < place → line ≡ value_line (slice_index widths entry.wire) entry.wire entry.level → HasEntry n entries entry place told line
 chain_next n widths entries entry place [] line are is chain some same = grind (arith, nat_tests)
 chain_next n widths entries entry place (x ∷ later) line are is chain some same = grind (arith, nat_tests, width_is)
 
-pub chain_over : (n : Circuit) (entries : List Entry) (place : ℕ) (told : List (ℕ × ℕ)) → place ≡ 0 → IsChain entries place told → told_lines n told ≡ []
+pub chain_over : (n : Circuit) (entries : List QueuedChange) (place : ℕ) (told : List (ℕ × ℕ)) → place ≡ 0 → IsChain entries place told → told_lines n told ≡ []
 chain_over n entries place [] none chain = refl
 chain_over n entries place (x ∷ told) none chain = grind (arith, nat_tests)
 
 -- the text of a unit with changes
-pub marked_some : (n : Circuit) (t : ℕ) (ws : List ℕ) (entries : List Entry) (place : ℕ) → IsChain entries place (with_levels n t ws) → place ≢ 0 → marked n t ws ≡ time_mark t ++ told_lines n (with_levels n t ws)
+pub marked_some : (n : Circuit) (t : ℕ) (ws : List ℕ) (entries : List QueuedChange) (place : ℕ) → IsChain entries place (with_levels n t ws) → place ≢ 0 → marked n t ws ≡ time_mark t ++ told_lines n (with_levels n t ws)
 marked_some n t ws entries place chain some =
     grind (arith, nat_tests, (flat_map-map (λ (change : ℕ × ℕ). value_line (width_of (wire_at n change.0)) change.0 change.1) (λ (w : ℕ). (w, level n w t)) ws))
 
 -- and of one without
-pub marked_none : (n : Circuit) (t : ℕ) (ws : List ℕ) (entries : List Entry) (place : ℕ) → IsChain entries place (with_levels n t ws) → place ≡ 0 → marked n t ws ≡ []
+pub marked_none : (n : Circuit) (t : ℕ) (ws : List ℕ) (entries : List QueuedChange) (place : ℕ) → IsChain entries place (with_levels n t ws) → place ≡ 0 → marked n t ws ≡ []
 marked_none n t ws entries place chain none = grind (arith, nat_tests)
 
 pub ruleset parts_count_before_steps = (get_or_default, cases_lt, earlier_than-take, nat_lt-true, nat_lt-false)

@@ -19,7 +19,7 @@ pub use Rattle.mp_streams.proofs.PlaceLemmas.{placed_between, placed_both, place
 pub use Rattle.mp_streams.specs.declared.write_error.WriteError.TheVariants.{OutOfMemory, WriteFailed}
 unfoldable pub use Rattle.mp_exports.specs.vcd.Codes.{code}
 unfoldable pub use Rattle.mp_exports.specs.vcd.Dumps.{dump}
-pub use Rattle.mp_exports.specs.vcd.Names.{AllDigits, AllWithin, Circuit, Entry, IsCircuit, Waveform, WireRecord, between, change_after, changes_after, changes_in, digit_value, digits_value, digits_value_after, is_ascii_digit, is_ascii_whitespace, level, list_all, list_any, range_with_len, slot_wave, wave, width_of, wire_at}
+pub use Rattle.mp_exports.specs.vcd.Names.{AllDigits, AllWithin, Circuit, QueuedChange, IsCircuit, Waveform, WireRecord, between, change_after, changes_after, changes_in, digit_value, digits_value, digits_value_after, is_ascii_digit, is_ascii_whitespace, level, list_all, list_any, range_with_len, slot_wave, wave, width_of, wire_at}
 unfoldable pub use Rattle.mp_exports.specs.vcd.Readings.{reading}
 unfoldable pub use Rattle.mp_exports.specs.vcd.Values.{bits}
 pub use Rattle.mp_wave.proofs.PrefixLemmas.{earlier_than-take, later_than-drop, nat_lt-false, nat_lt-true}

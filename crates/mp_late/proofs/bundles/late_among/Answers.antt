@@ -17,13 +17,14 @@ loop-place-preserved c =
     let i = c.loop-place.place in
     let changes = changes_in c.args.changes in
     let within : i < length changes = omega (arith, c.loop-place-test.true, c.len-place-end.ensures) in
-    let value = subst (λ (d : Driven). c.in_ok-units.field-0 ≡ units_behind d.netlist.now b t (last_event (level d.netlist.now b.request.0) (t - 1))) c.loop-place.invariant.0 c.in_ok-units.ensures.value in
-    (c.in_ok-units.ensures.of ∙ c.loop-place.invariant.0,
-    elim c.match-branch-2.branch [
-      | in-Some+in_ok-push w ↦
-          ap (λ (v : Vec Late Global). v.items) w.late-is ∙ w.in_ok-push.ensures.items
-          ∙ late_more n c.args.id.0 b changes i within t w.in-Some.units c.loop-place.late.items c.time_at-time.ensures (sym w.in-Some.is ∙ value) c.loop-place.invariant.1
-      | in_default w ↦
-          ap (λ (v : Vec Late Global). v.items) w.late-is
-          ∙ late_same n c.args.id.0 b changes i within t c.loop-place.late.items c.time_at-time.ensures (sym w.in_default.is ∙ value) c.loop-place.invariant.1
-    ])
+    let value = subst (λ (d : Driven). c.in_ok-units.field-0 ≡ units_behind d.netlist.now b t (last_event (level d.netlist.now b.request.0) (t - 1))) c.loop-place.invariant.0 c.in_ok-units.ensures.value in (
+      c.in_ok-units.ensures.of ∙ c.loop-place.invariant.0,
+      elim c.match-branch-2.branch [
+        | in-Some+in_ok-push w ↦
+            ap (λ (v : Vec Late Global). v.items) w.late-is ∙ w.in_ok-push.ensures.items
+            ∙ late_more n c.args.id.0 b changes i within t w.in-Some.units c.loop-place.late.items c.time_at-time.ensures (sym w.in-Some.is ∙ value) c.loop-place.invariant.1
+        | in_default w ↦
+            ap (λ (v : Vec Late Global). v.items) w.late-is
+            ∙ late_same n c.args.id.0 b changes i within t c.loop-place.late.items c.time_at-time.ensures (sym w.in_default.is ∙ value) c.loop-place.invariant.1
+      ],
+    )

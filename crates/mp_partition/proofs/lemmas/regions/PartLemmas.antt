@@ -25,7 +25,7 @@ use Rattle.mp_model.proofs.EvaluationLemmas.{delay_positive}
 use Rattle.mp_partition.specs.runs.Checkpoints.{state_before}
 use Rattle.mp_partition.specs.runs.Marks.{is_marked}
 use Rattle.mp_partition.specs.regions.Readers.{Reads}
-use Rattle.mp_partition.specs.regions.Regions.{home_of, set_on_slot, region, HearsOthers}
+use Rattle.mp_partition.specs.regions.Regions.{partition_of, set_on_slot, region, HearsOthers}
 use Rattle.mp_partition.proofs.lemmas.regions.RegionLemmas.{module_here, is_here, drives_there, drives_here, wire_heard, wire_unheard, has_stimuli, initial_there, stands_there, module_width_there, region_is}
 
 same_changes : (f g : ℕ → ℕ) (time n last : ℕ) → time + n ≤ last → ((t : ℕ) → t ≤ last → f t ≡ g t) → changes_after f time n ≡ changes_after g time n
@@ -43,7 +43,7 @@ same_wave f g last same =
 
 -- every port that drives the wire is of the part
 abbrev pub IsSeen : Circuit → List ℕ → ℕ → ℕ → Type 0
-IsSeen n homes part w = (m p : ℕ) → Drives n m p w → home_of homes m ≡ part
+IsSeen n homes part w = (m p : ℕ) → Drives n m p w → partition_of homes m ≡ part
 
 -- the part hears of the wire, or drives it if any port does
 abbrev pub IsKnownTo : Circuit → List ℕ → ℕ → List Bool → ℕ → Type 0
@@ -51,7 +51,7 @@ IsKnownTo n homes part heard w = (is_marked heard w ≡ true) ⊎ IsSeen n homes
 
 -- the modules of a part read nothing else
 abbrev pub IsClosed : Circuit → List ℕ → ℕ → List Bool → Type 0
-IsClosed n homes part heard = (m w : ℕ) → home_of homes m ≡ part → Reads n m w → IsKnownTo n homes part heard w
+IsClosed n homes part heard = (m w : ℕ) → partition_of homes m ≡ part → Reads n m w → IsKnownTo n homes part heard w
 
 module _ (n : Circuit) (ok : IsCircuit n) (homes : List ℕ) (part : ℕ) (heard : List Bool) (apart : HearsOthers n homes part heard) where
   form : IsCircuit (region n homes part heard)

@@ -20,7 +20,7 @@ use Rattle.mp_model.specs.Levels.{initial_of, built}
 use Rattle.mp_model.specs.Waves.{level}
 use Rattle.mp_model.proofs.LevelFitLemmas.{level_fits}
 use Rattle.mp_partition.specs.runs.Marks.{is_marked}
-use Rattle.mp_partition.specs.regions.Regions.{home_of, slots_at_home, set_on_slot, slots_heard, width_in, region, HearsOthers, HasStimuli}
+use Rattle.mp_partition.specs.regions.Regions.{partition_of, slots_at_home, set_on_slot, slots_heard, width_in, region, HearsOthers, HasStimuli}
 
 -- the slots are as many
 pub length_at_home : (homes : List ℕ) (part m : ℕ) (slots : List (Option ModuleRecord)) → length (slots_at_home homes part m slots) ≡ length slots
@@ -36,8 +36,8 @@ cond_none true = refl
 cond_none false = refl
 
 -- each has what it had, where this is at home
-slot_here : (homes : List ℕ) (part m : ℕ) (slots : List (Option ModuleRecord)) (k : ℕ) → slot_at (slots_at_home homes part m slots) k ≡ cond (home_of homes (m + k) == part) (slot_at slots k) None
-slot_here homes part m [] k = sym (cond_none (home_of homes (m + k) == part))
+slot_here : (homes : List ℕ) (part m : ℕ) (slots : List (Option ModuleRecord)) (k : ℕ) → slot_at (slots_at_home homes part m slots) k ≡ cond (partition_of homes (m + k) == part) (slot_at slots k) None
+slot_here homes part m [] k = sym (cond_none (partition_of homes (m + k) == part))
 slot_here homes part m (slot ∷ slots) zero = let e : m + 0 ≡ m = omega arith in rw e refl
 slot_here homes part m (slot ∷ slots) (suc k) = let e : m + suc k ≡ m + 1 + k = omega arith in rw e (slot_here homes part (m + 1) slots k)
 
@@ -93,19 +93,19 @@ whole_is n =
     ∙ ap (λ (modules : List (Option ModuleRecord)). let part : Circuit = record n { modules = modules } in part) (all_here 0 n.modules)
 
 module _ (n : Circuit) (homes : List ℕ) (part : ℕ) (heard : List Bool) where
-  pub module_here : (m : ℕ) → home_of homes m ≡ part → module_at (region n homes part heard) m ≡ module_at n m
-  module_here m home = let e : 0 + m ≡ m = omega arith in slot_here homes part 0 n.modules m ∙ rw e (rw (eq-eqb (home_of homes m) part home) refl)
+  pub module_here : (m : ℕ) → partition_of homes m ≡ part → module_at (region n homes part heard) m ≡ module_at n m
+  module_here m home = let e : 0 + m ≡ m = omega arith in slot_here homes part 0 n.modules m ∙ rw e (rw (eq-eqb (partition_of homes m) part home) refl)
 
-  pub module_elsewhere : (m : ℕ) → (home_of homes m ≡ part → ⊥) → module_at (region n homes part heard) m ≡ None
-  module_elsewhere m other = let e : 0 + m ≡ m = omega arith in slot_here homes part 0 n.modules m ∙ rw e (rw (ne_eqb (home_of homes m) part other) refl)
+  pub module_elsewhere : (m : ℕ) → (partition_of homes m ≡ part → ⊥) → module_at (region n homes part heard) m ≡ None
+  module_elsewhere m other = let e : 0 + m ≡ m = omega arith in slot_here homes part 0 n.modules m ∙ rw e (rw (ne_eqb (partition_of homes m) part other) refl)
 
   -- a module of the part
   pub record IsHere (m : ℕ) (r : ModuleRecord) : Type 0 where
-    pub home : home_of homes m ≡ part
+    pub home : partition_of homes m ≡ part
     pub stands : module_at n m ≡ Some r
 
   pub is_here : (m : ℕ) (r : ModuleRecord) → module_at (region n homes part heard) m ≡ Some r → IsHere m r
-  is_here m r at = elim (cases_eq (home_of homes m) part) as (λ _. IsHere m r) [
+  is_here m r at = elim (cases_eq (partition_of homes m) part) as (λ _. IsHere m r) [
     | inl same ↦ record { home = same; stands = sym (module_here m same) ∙ at }
     | inr other ↦ let none = module_elsewhere m other in let no : ⊥ = cc in absurd no
   ]
@@ -114,10 +114,10 @@ module _ (n : Circuit) (homes : List ℕ) (part : ℕ) (heard : List Bool) where
   pub drives_there : (m p w : ℕ) → Drives (region n homes part heard) m p w → Drives n m p w
   drives_there m p w drives = record { part = drives.part; stands = (is_here m drives.part drives.stands).stands; output = drives.output }
 
-  pub drives_home : (m p w : ℕ) → Drives (region n homes part heard) m p w → home_of homes m ≡ part
+  pub drives_home : (m p w : ℕ) → Drives (region n homes part heard) m p w → partition_of homes m ≡ part
   drives_home m p w drives = (is_here m drives.part drives.stands).home
 
-  pub drives_here : (m p w : ℕ) → home_of homes m ≡ part → Drives n m p w → Drives (region n homes part heard) m p w
+  pub drives_here : (m p w : ℕ) → partition_of homes m ≡ part → Drives n m p w → Drives (region n homes part heard) m p w
   drives_here m p w home drives = record { part = drives.part; stands = module_here m home ∙ drives.stands; output = drives.output }
 
   -- what stands in a wire's slot

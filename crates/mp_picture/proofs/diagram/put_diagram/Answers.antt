@@ -9,7 +9,7 @@ use Rattle.mp_report.specs.Lines.{finding_lines}
 use Rattle.mp_streams.proofs.OutLemmas.{puts_as, puts_unmade, puts_then, puts_sooner}
 use Rattle.mp_streams.specs.declared.write_error.WriteError.TheVariants.{WriteFailed, OutOfMemory}
 use Rattle.mp_picture.specs.declared.columns.Columns.{Columns}
-use Rattle.mp_picture.specs.declared.layout.Layout.{Layout}
+use Rattle.mp_picture.specs.declared.layout.DiagramLayout.{DiagramLayout}
 use Rattle.mp_picture.specs.declared.mark.Charset.{Charset}
 use Rattle.mp_picture.specs.Diagrams.{diagram, margin, wire_line}
 use Rattle.mp_picture.specs.Found.{place_row, place_rows, within}
@@ -18,7 +18,7 @@ use Rattle.mp_picture.proofs.PutLemmas.{puts_ok}
 use Rattle.mp_picture.proofs.diagram.put_diagram.Goals as goal
 
 module _ (n : Circuit) (columns : Columns) (charset : Charset) (wires : List WireId) (found : List Finding) (places : List Place) (m : ℕ) where
-  abbrev layout : Layout
+  abbrev layout : DiagramLayout
   layout = record { columns = columns; charset = charset; margin = m }
 
   abbrev from_places : List ℕ

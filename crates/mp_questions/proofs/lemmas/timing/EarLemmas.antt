@@ -9,7 +9,7 @@ use Rattle.mp_model.specs.Levels.{input_by, inputs_by}
 use Rattle.mp_model.specs.Waves.{level, wave}
 use Rattle.mp_model.proofs.InputLemmas.{input_is}
 use Rattle.mp_questions.specs.timing.Hearing.{Hears}
-use Rattle.mp_questions.specs.declared.timing.heard.Heard.{Heard}
+use Rattle.mp_questions.specs.declared.timing.delayed_input.DelayedInput.{DelayedInput}
 
 pub map_at : (g : Input → ℕ) (xs : List Input) (p : ℕ) (d : Input) → p < length xs → slice_index (map g xs) p ≡ g (get_or xs p d)
 map_at g [] p d within = absurd (omega (arith, within))
@@ -17,7 +17,7 @@ map_at g (x ∷ xs) zero d within = refl
 map_at g (x ∷ xs) (suc p) d within = map_at g xs p d (omega (arith, within))
 
 -- a port hears its wire
-pub hears_input : (n : Circuit) → IsCircuit n → (r : ModuleRecord) (p : ℕ) (i : Input) (h : Heard) → p < length r.inputs → i ≡ get_or r.inputs p i → h.wave.now ≡ wave n i.wire.0 → h.delay ≡ i.delay
+pub hears_input : (n : Circuit) → IsCircuit n → (r : ModuleRecord) (p : ℕ) (i : Input) (h : DelayedInput) → p < length r.inputs → i ≡ get_or r.inputs p i → h.wave.now ≡ wave n i.wire.0 → h.delay ≡ i.delay
     → Hears (λ t. slice_index (inputs_by n (level n) r t) p) n.horizon h
 hears_input n ok r p i h within at is late = record {
   form = subst IsWaveform (sym is) (form_of_wave (level n i.wire.0) (n.horizon - 1));
@@ -27,7 +27,7 @@ hears_input n ok r p i h within at is late = record {
 }
 
 -- a wire is heard without a delay
-pub hears_wire : (n : Circuit) (w : ℕ) (h : Heard) → h.wave.now ≡ wave n w → h.delay ≡ 0 → Hears (level n w) n.horizon h
+pub hears_wire : (n : Circuit) (w : ℕ) (h : DelayedInput) → h.wave.now ≡ wave n w → h.delay ≡ 0 → Hears (level n w) n.horizon h
 hears_wire n w h is prompt = record {
   form = subst IsWaveform (sym is) (form_of_wave (level n w) (n.horizon - 1));
   levels = λ t below.

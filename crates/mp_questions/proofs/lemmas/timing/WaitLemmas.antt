@@ -13,7 +13,7 @@ use Rattle.mp_text.specs.Written.{wire_name}
 use Rattle.mp_questions.specs.timing.Events.{since}
 use Rattle.mp_questions.specs.timing.Waits.{heard, given, since_line, input_line, rendezvous_wait, call_wait, owner_wait, kept_request, register_wait, busy_wait, held}
 use Rattle.mp_questions.specs.timing.Hearing.{IsWatch}
-use Rattle.mp_questions.specs.declared.timing.watch.Watch.{Watch}
+use Rattle.mp_questions.specs.declared.timing.client_watch.ClientWatch.{ClientWatch}
 use Rattle.mp_questions.proofs.lemmas.timing.EventLemmas.{same_true, same_false}
 
 module _ (n : Circuit) (m : ℕ) (r : ModuleRecord) (t : ℕ) where
@@ -42,7 +42,7 @@ module _ (n : Circuit) (m : ℕ) (r : ModuleRecord) (t : ℕ) where
 
   -- ---- CALL and ARBITER
 
-  module _ (w : Watch) (is : IsWatch n m r t w) where
+  module _ (w : ClientWatch) (is : IsWatch n m r t w) where
     served : (client : Client) → w.memory.served ≡ client → (state n m t).served ≡ client
     served client at = ap (λ (s : Memory). s.served) (sym is.memory) ∙ at
 

@@ -23,7 +23,7 @@ use Rattle.mp_questions.specs.timing.Events.{last_event, since}
 use Rattle.mp_questions.specs.timing.Waits.{given, waiting}
 use Rattle.mp_questions.specs.timing.Hearing.{marked, bit, no_marks, IsWatch}
 use Rattle.mp_questions.specs.declared.timing.marks.Marks.{Marks}
-use Rattle.mp_questions.specs.declared.timing.watch.Watch.{Watch}
+use Rattle.mp_questions.specs.declared.timing.client_watch.ClientWatch.{ClientWatch}
 use Rattle.mp_questions.proofs.lemmas.timing.EventLemmas.{no_event, last_quiet}
 
 -- ---- since when, one unit further
@@ -113,7 +113,7 @@ module _ (n : Circuit) (ok : IsCircuit n) (m : ℕ) (r : ModuleRecord) (at : mod
 
   -- ---- a watch
 
-  pub watch_first : (w : Watch) → w.memory ≡ settle part (input_levels (x 0)) → w.marks ≡ no_marks → IsWatch n m r 0 w
+  pub watch_first : (w : ClientWatch) → w.memory ≡ settle part (input_levels (x 0)) → w.marks ≡ no_marks → IsWatch n m r 0 w
   watch_first w memory none = record {
     memory = memory ∙ settle_wide part (x 0) ∙ sym ((satisfies n ok).settled m r at);
     marks = record {
@@ -129,7 +129,7 @@ module _ (n : Circuit) (ok : IsCircuit n) (m : ℕ) (r : ModuleRecord) (at : mod
   mark_is look f t last new before now was is looks known moved =
       moved ∙ ap (λ v. marked last (t + 1) v (look now)) (ap look was ∙ looks t) ∙ ap (marked last (t + 1) (f t)) (ap look is ∙ looks (t + 1)) ∙ since_next f t last known
 
-  watch_next : (t : ℕ) (w new : Watch) → IsWatch n m r t w → new.memory ≡ step part w.memory (input_levels (x (t + 1))) → HaveMoved (t + 1) w.memory new.memory w.marks new.marks → IsWatch n m r (t + 1) new
+  watch_next : (t : ℕ) (w new : ClientWatch) → IsWatch n m r t w → new.memory ≡ step part w.memory (input_levels (x (t + 1))) → HaveMoved (t + 1) w.memory new.memory w.marks new.marks → IsWatch n m r (t + 1) new
   watch_next t w new is stepped moved =
       let was = is.memory in
       let now : new.memory ≡ state n m (t + 1) =
@@ -144,14 +144,14 @@ module _ (n : Circuit) (ok : IsCircuit n) (m : ℕ) (r : ModuleRecord) (at : mod
         };
       }
 
-  pub watch_turn : (t time : ℕ) (w new : Watch) → t + 1 ≡ time → IsWatch n m r t w → new.memory ≡ step part w.memory (input_levels (x time)) → HaveMoved time w.memory new.memory w.marks new.marks → IsWatch n m r time new
+  pub watch_turn : (t time : ℕ) (w new : ClientWatch) → t + 1 ≡ time → IsWatch n m r t w → new.memory ≡ step part w.memory (input_levels (x time)) → HaveMoved time w.memory new.memory w.marks new.marks → IsWatch n m r time new
   watch_turn t time w new next is stepped moved =
       subst (λ (k : ℕ). new.memory ≡ step part w.memory (input_levels (x k)) → HaveMoved k w.memory new.memory w.marks new.marks → IsWatch n m r k new) next (watch_next t w new is) stepped moved
 
   look_stays : (look : Memory → ℕ) (f : ℕ → ℕ) (t last : ℕ) → state n m (t + 1) ≡ state n m t → ((u : ℕ) → look (state n m u) ≡ f u) → last ≡ since f t → last ≡ since f (t + 1)
   look_stays look f t last same looks known = known ∙ since_stays f t (sym (looks (t + 1)) ∙ ap look same ∙ looks t)
 
-  watch_stays : (t : ℕ) (w : Watch) → input_levels (x (t + 1)) ≡ input_levels (x t) → IsWatch n m r t w → IsWatch n m r (t + 1) w
+  watch_stays : (t : ℕ) (w : ClientWatch) → input_levels (x (t + 1)) ≡ input_levels (x t) → IsWatch n m r t w → IsWatch n m r (t + 1) w
   watch_stays t w quiet is =
       let same = state_stays t quiet in
       record {
@@ -165,7 +165,7 @@ module _ (n : Circuit) (ok : IsCircuit n) (m : ℕ) (r : ModuleRecord) (at : mod
       }
 
   -- over so many units in which the inputs stay
-  pub watch_later : (k t : ℕ) (w : Watch) → ((u : ℕ) → t ≤ u → u ≤ t + k → input_levels (x u) ≡ input_levels (x t)) → IsWatch n m r t w → IsWatch n m r (t + k) w
+  pub watch_later : (k t : ℕ) (w : ClientWatch) → ((u : ℕ) → t ≤ u → u ≤ t + k → input_levels (x u) ≡ input_levels (x t)) → IsWatch n m r t w → IsWatch n m r (t + k) w
   watch_later zero t w quiet is = let same : t ≡ t + 0 = omega arith in subst (λ (u : ℕ). IsWatch n m r u w) same is
   watch_later (suc k) t w quiet is =
       let same : t + k + 1 ≡ t + suc k = omega arith in

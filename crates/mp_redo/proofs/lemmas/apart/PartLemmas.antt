@@ -12,7 +12,7 @@ use Rattle.mp_netlist.specs.Circuit.{Circuit, Drives, module_at, stimulus_at, st
 use Rattle.mp_netlist.specs.Drivers.{driver, is_port, stimulus_driver}
 use Rattle.mp_netlist.proofs.DriverLemmas.{finds_only_ports, driven_by, portless_is_undriven}
 use Rattle.mp_partition.specs.runs.Marks.{is_marked}
-use Rattle.mp_partition.specs.regions.Regions.{home_of, slots_heard, HearsOthers}
+use Rattle.mp_partition.specs.regions.Regions.{partition_of, slots_heard, HearsOthers}
 use Rattle.mp_partition.specs.regions.Divisions.{heard_by, IsWireAtHome}
 use Rattle.mp_partition.proofs.lemmas.regions.RegionLemmas.{length_at_home, length_heard, module_here, module_elsewhere, drives_there, drives_home, wire_unheard, region_is}
 use Rattle.mp_partition.proofs.lemmas.regions.PartLemmas.{same_driver}
@@ -39,16 +39,16 @@ use Rattle.mp_redo.specs.apart.Parts.{
 pub divisions_are_unconnected : DivisionsAreUnconnected
 divisions_are_unconnected n homes wires parts is m w q p reads drives = by ((is.at_home m).read w reads)
   where
-    by : IsWireAtHome wires (heard_by [] (home_of homes m)) parts (home_of homes m) w → home_of homes m ≡ home_of homes q
+    by : IsWireAtHome wires (heard_by [] (partition_of homes m)) parts (partition_of homes m) w → partition_of homes m ≡ partition_of homes q
     by (inl same) = sym same ∙ (is.at_home q).driven p w drives
     by (inr (inl past)) = absurd (let low = is.few q in let there = (is.at_home q).driven p w drives in let no : ⊥ = omega (arith, past, low, there) in no)
-    by (inr (inr heard)) = absurd (let none : is_marked (heard_by [] (home_of homes m)) w ≡ false = refl in let no : ⊥ = cc in no)
+    by (inr (inr heard)) = absurd (let none : is_marked (heard_by [] (partition_of homes m)) w ≡ false = refl in let no : ⊥ = cc in no)
 
 pub undriven_are_within : UndrivenAreWithin
 undriven_are_within n homes k w ok none m p drives = absurd (portless_is_undriven n ok w none m p drives)
 
 pub driven_are_at_home : DrivenAreAtHome
-driven_are_at_home n homes w p m ok found k q drives = ap (home_of homes) (ok.one_port k q m.0 p w drives (finds_only_ports n w p m found)).0
+driven_are_at_home n homes w p m ok found k q drives = ap (partition_of homes) (ok.one_port k q m.0 p w drives (finds_only_ports n w p m found)).0
 
 pub wires_are_either : WiresAreEither
 wires_are_either n homes k w ok = by (driver n w) refl
@@ -56,7 +56,7 @@ wires_are_either n homes k w ok = by (driver n w) refl
     by : (d : Driver) → driver n w ≡ d → IsDrivenWithin n homes k w ⊎ IsDrivenElsewhere n homes k w
     by Nothing e = inl (undriven_are_within n homes k w ok (ap is_port e))
     by Stimulus e = inl (undriven_are_within n homes k w ok (ap is_port e))
-    by (Port m p) e = elim (cases_eq (home_of homes m.0) k) as (λ _. IsDrivenWithin n homes k w ⊎ IsDrivenElsewhere n homes k w) [
+    by (Port m p) e = elim (cases_eq (partition_of homes m.0) k) as (λ _. IsDrivenWithin n homes k w ⊎ IsDrivenElsewhere n homes k w) [
       | inl same ↦ inl (λ q o drives. driven_are_at_home n homes w p m ok e q o drives ∙ same)
       | inr other ↦ inr (record { part = m.0; port = p; drives = finds_only_ports n w p m e; elsewhere = other })
     ]
@@ -92,7 +92,7 @@ parts_are_by_slots n homes k part is =
     ∙ ap (netlist_of n.format n.horizon (part_of n homes k).wires (part_of n homes k).modules) is.bundles
   where
     slot : (m : ℕ) → module_at part m ≡ module_at (part_of n homes k) m
-    slot m = elim (cases_eq (home_of homes m) k) as (λ _. module_at part m ≡ module_at (part_of n homes k) m) [
+    slot m = elim (cases_eq (partition_of homes m) k) as (λ _. module_at part m ≡ module_at (part_of n homes k) m) [
       | inl same ↦ is.here m same ∙ sym (parts_have_modules n homes k m same)
       | inr other ↦ is.elsewhere m other ∙ sym (parts_have_no_others n homes k m other)
     ]
@@ -118,5 +118,5 @@ others_are_undriven n homes k w ok there = by (driven_by (part_of n homes k) w)
     by (inl found) =
         let home = drives_home n homes k [] found.0 found.1 w found.2 in
         let one = (ok.one_port there.part there.port found.0 found.1 w there.drives (drives_there n homes k [] found.0 found.1 w found.2)).0 in
-        absurd (there.elsewhere (ap (home_of homes) one ∙ home))
+        absurd (there.elsewhere (ap (partition_of homes) one ∙ home))
     by (inr same) = same ∙ ap (λ slot. stimulus_driver (stimulus_in slot)) (parts_have_wires n homes k w) ∙ ap stimulus_driver (ok.port_or_stimulus there.part there.port w there.drives)

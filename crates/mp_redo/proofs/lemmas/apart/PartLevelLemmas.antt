@@ -11,7 +11,7 @@ use Rattle.mp_model.specs.Levels.{initial_of, input_by, driven_level}
 use Rattle.mp_model.specs.Waves.{level, state, slot_wave}
 use Rattle.mp_model.specs.Reach.{inputs, slot_inputs}
 use Rattle.mp_model.proofs.BehaviourLemmas.{satisfies}
-use Rattle.mp_partition.specs.regions.Regions.{home_of}
+use Rattle.mp_partition.specs.regions.Regions.{partition_of}
 use Rattle.mp_partition.proofs.lemmas.regions.RegionLemmas.{initial_there}
 use Rattle.mp_partition.proofs.lemmas.regions.PartLemmas.{IsClosed, region_state, region_level, region_before, region_wave}
 use Rattle.mp_redo.specs.apart.Parts.{part_of, AreUnconnected, IsDrivenWithin}
@@ -79,7 +79,7 @@ parts_have_inputs n ok homes apart k m t r home at low =
     inputs_there n ok homes apart k t low r.inputs (λ i has q p drives. sym (apart m i.wire.0 q p (record { part = r; stands = at; port = i; input = has; wire = refl }) drives) ∙ home)
 
 -- also of a module that doesn't stand
-pub inputs_at_home : (n : Circuit) → IsCircuit n → (homes : List ℕ) → AreUnconnected n homes → (k m t : ℕ) → home_of homes m ≡ k → t < n.horizon → inputs (part_of n homes k) m t ≡ inputs n m t
+pub inputs_at_home : (n : Circuit) → IsCircuit n → (homes : List ℕ) → AreUnconnected n homes → (k m t : ℕ) → partition_of homes m ≡ k → t < n.horizon → inputs (part_of n homes k) m t ≡ inputs n m t
 inputs_at_home n ok homes apart k m t home low = ap (λ slot. slot_inputs (part_of n homes k) slot t) (parts_have_modules n homes k m home) ∙ by (module_at n m) refl
   where
     by : (slot : Option ModuleRecord) → module_at n m ≡ slot → slot_inputs (part_of n homes k) slot t ≡ slot_inputs n slot t

@@ -5,7 +5,7 @@ use Rattle.mp_netlist.specs.Circuit.{Circuit, IsCircuit, module_at}
 use Rattle.mp_model.specs.Waves.{state}
 use Rattle.mp_partition.specs.runs.Checkpoints.{state_before}
 use Rattle.mp_partition.specs.runs.Runs.{end_memory}
-use Rattle.mp_partition.specs.regions.Regions.{home_of}
+use Rattle.mp_partition.specs.regions.Regions.{partition_of}
 use Rattle.mp_redo.specs.apart.Parts.{part_of, AreUnconnected}
 use Rattle.mp_redo.specs.apart.PartRuns.{RunsHavePartWaves, RunsHavePartEnds, RunsKeepPartStates, PartRunsHaveWaves, PartRunsHaveEnds, PartRunsKeepStates}
 use Rattle.mp_redo.proofs.lemmas.apart.PartLemmas.{parts_have_modules}
@@ -22,7 +22,7 @@ part_runs_have_waves n ok homes apart k run is w within = is.waves w ∙ parts_h
 
 -- ---- the modules that are at home in the part
 
-module _ (n : Circuit) (ok : IsCircuit n) (homes : List ℕ) (apart : AreUnconnected n homes) (k m : ℕ) (home : home_of homes m ≡ k) where
+module _ (n : Circuit) (ok : IsCircuit n) (homes : List ℕ) (apart : AreUnconnected n homes) (k m : ℕ) (home : partition_of homes m ≡ k) where
   same_end : end_memory (part_of n homes k) m ≡ end_memory n m
   same_end = ap (option_map (λ (r : ModuleRecord). state (part_of n homes k) m (n.horizon - 1))) (parts_have_modules n homes k m home) ∙ by (module_at n m) refl
     where

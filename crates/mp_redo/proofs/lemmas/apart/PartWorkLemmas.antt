@@ -5,7 +5,7 @@ use Rattle.mp_records.specs.Outputs.{delay_of}
 use Rattle.mp_netlist.specs.Circuit.{Circuit, IsCircuit, Drives, module_at}
 use Rattle.mp_netlist.specs.Delays.{least_delay, IsPortDelay, NoPortDrives, IsLeastDelay}
 use Rattle.mp_netlist.proofs.DelayLemmas.{delays_are_least}
-use Rattle.mp_partition.specs.regions.Regions.{home_of}
+use Rattle.mp_partition.specs.regions.Regions.{partition_of}
 use Rattle.mp_partition.proofs.lemmas.regions.RegionLemmas.{is_here}
 use Rattle.mp_depend.specs.work.Work.{IsAtWork, WorksFrom}
 use Rattle.mp_depend.proofs.lemmas.work.StayLemmas.{some_is}
@@ -64,7 +64,7 @@ parts_have_windows n homes k least = record {
 }
 
 -- a part has its modules as they are in the netlist
-same_at_home : (n : Circuit) → IsCircuit n → (homes : List ℕ) → AreUnconnected n homes → (k m : ℕ) → home_of homes m ≡ k → HasSame n (part_of n homes k) m
+same_at_home : (n : Circuit) → IsCircuit n → (homes : List ℕ) → AreUnconnected n homes → (k m : ℕ) → partition_of homes m ≡ k → HasSame n (part_of n homes k) m
 same_at_home n ok homes apart k m home = record {
   horizon = refl;
   slot = parts_have_modules n homes k m home;

@@ -14,18 +14,18 @@ use Rattle.mp_netlist.specs.Circuit.{Circuit, IsCircuit, Drives, module_at}
 use Rattle.mp_netlist.proofs.DriverLemmas.{finds_ports, finds_only_ports}
 use Rattle.mp_depend.specs.Drivers.{driver_in, AreDrivers}
 use Rattle.mp_partition.specs.regions.Readers.{Reads}
-use Rattle.mp_partition.specs.regions.Regions.{home_of}
+use Rattle.mp_partition.specs.regions.Regions.{partition_of}
 use Rattle.mp_redo.specs.apart.Parts.{IsDrivenWithin, IsDrivenElsewhere}
 use Rattle.mp_redo.specs.parts.Drivers.{IsReadFrom, TellsElsewhere}
 
 -- a port drives the wire
-pub tells_port : (drivers : List Driver) (homes : List ℕ) (k w p home : ℕ) (id : ModuleId) → driver_in drivers w ≡ Port id p → home ≡ home_of homes id.0 → TellsElsewhere drivers homes k w (not (home == k))
+pub tells_port : (drivers : List Driver) (homes : List ℕ) (k w p home : ℕ) (id : ModuleId) → driver_in drivers w ≡ Port id p → home ≡ partition_of homes id.0 → TellsElsewhere drivers homes k w (not (home == k))
 tells_port drivers homes k w p home id is at = by (home == k) refl
   where
     by : (same : Bool) → (home == k) ≡ same → TellsElsewhere drivers homes k w (not same)
     by true e = record {
       elsewhere = λ yes. absurd (true≢false (sym yes));
-      within = λ no other q drives. let one : id ≡ other = cc in ap (λ (x : ModuleId). home_of homes x.0) (sym one) ∙ sym at ∙ eqb-true home k e;
+      within = λ no other q drives. let one : id ≡ other = cc in ap (λ (x : ModuleId). partition_of homes x.0) (sym one) ∙ sym at ∙ eqb-true home k e;
     }
     by false e = record {
       elsewhere = λ yes. (id, p, is, λ there. true≢false (sym (eq-eqb home k (at ∙ there)) ∙ e));
@@ -54,11 +54,11 @@ driven_within n ok drivers homes k w are tells m p drives = tells.within refl (r
 
 -- what drives the inputs of a module is at home with it
 pub read_from : (n : Circuit) → IsCircuit n → (drivers : List Driver) (homes : List ℕ) (m : ℕ) (r : ModuleRecord) → module_at n m ≡ Some r → AreDrivers n drivers
-    → All (λ (input : Input). IsReadFrom drivers homes (home_of homes m) input) r.inputs → (w q p : ℕ) → Reads n m w → Drives n q p w → home_of homes m ≡ home_of homes q
+    → All (λ (input : Input). IsReadFrom drivers homes (partition_of homes m) input) r.inputs → (w q p : ℕ) → Reads n m w → Drives n q p w → partition_of homes m ≡ partition_of homes q
 read_from n ok drivers homes m r at are from w q p reads drives =
     let stands : module_at n m ≡ Some reads.part = reads.stands in
     let same : reads.part ≡ r = cc in
     let has : Contains r.inputs reads.port = subst (λ (x : ModuleRecord). Contains x.inputs reads.port) same reads.input in
-    let found : IsReadFrom drivers homes (home_of homes m) reads.port = subst (λ (i : Input). IsReadFrom drivers homes (home_of homes m) i) has.2 (from has.0 reads.port has.1) in
+    let found : IsReadFrom drivers homes (partition_of homes m) reads.port = subst (λ (i : Input). IsReadFrom drivers homes (partition_of homes m) i) has.2 (from has.0 reads.port has.1) in
     let id : ModuleId = record { 0 = q } in
     sym (found id p (ap (driver_in drivers) reads.wire ∙ are w ∙ finds_ports n ok q p w drives))

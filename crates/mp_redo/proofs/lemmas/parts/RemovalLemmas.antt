@@ -13,7 +13,7 @@ use Rattle.mp_netlist.specs.Circuit.{Circuit, IsCircuit, module_at, module_named
 use Rattle.mp_netlist.specs.Edits.{RefusedBy, after, refusal, edited, takes_memory, unless, with_module}
 use Rattle.mp_netlist.proofs.TableLemmas.{search_from_lookup, equal_name, same_name}
 use Rattle.mp_model.proofs.SlotLemmas.{slot_within}
-use Rattle.mp_partition.specs.regions.Regions.{home_of}
+use Rattle.mp_partition.specs.regions.Regions.{partition_of}
 use Rattle.mp_redo.specs.apart.Parts.{HasPart}
 use Rattle.mp_redo.specs.parts.Removals.{HasSameFrame, IsWithout}
 
@@ -104,8 +104,8 @@ removal_is_made n m r name error ok at same refused memory = by refused
 -- of the modules below a number those of other parts are removed
 pub record IsPartTo (n : Circuit) (homes : List ℕ) (k m : ℕ) (found : Circuit) : Type 0 where
   pub frame : HasSameFrame n found
-  pub here : (j : ℕ) → home_of homes j ≡ k → module_at found j ≡ module_at n j
-  pub gone : (j : ℕ) → j < m → (home_of homes j ≡ k → ⊥) → module_at found j ≡ None
+  pub here : (j : ℕ) → partition_of homes j ≡ k → module_at found j ≡ module_at n j
+  pub gone : (j : ℕ) → j < m → (partition_of homes j ≡ k → ⊥) → module_at found j ≡ None
   pub rest : (j : ℕ) → m ≤ j → module_at found j ≡ module_at n j
 
 pub none_removed : (n : Circuit) (homes : List ℕ) (k : ℕ) (found : Circuit) → found ≡ n → IsPartTo n homes k 0 found
@@ -116,21 +116,21 @@ none_removed n homes k found same = subst (IsPartTo n homes k 0) (sym same) (rec
   rest = λ j past. refl;
 })
 
-pub one_stays : (n : Circuit) (homes : List ℕ) (k m : ℕ) (found : Circuit) → home_of homes m ≡ k → IsPartTo n homes k m found → IsPartTo n homes k (m + 1) found
+pub one_stays : (n : Circuit) (homes : List ℕ) (k m : ℕ) (found : Circuit) → partition_of homes m ≡ k → IsPartTo n homes k m found → IsPartTo n homes k (m + 1) found
 one_stays n homes k m found home before = record {
   frame = before.frame;
   here = before.here;
   gone = λ j low other. elim (cases_eq j m) as (λ _. module_at found j ≡ None) [
-    | inl same ↦ absurd (other (ap (home_of homes) same ∙ home))
+    | inl same ↦ absurd (other (ap (partition_of homes) same ∙ home))
     | inr differ ↦ before.gone j (omega (arith, low, differ)) other
   ];
   rest = λ j past. before.rest j (omega (arith, past));
 }
 
-pub one_goes : (n : Circuit) (homes : List ℕ) (k m : ℕ) (found next : Circuit) → (home_of homes m ≡ k → ⊥) → IsWithout found m next → IsPartTo n homes k m found → IsPartTo n homes k (m + 1) next
+pub one_goes : (n : Circuit) (homes : List ℕ) (k m : ℕ) (found next : Circuit) → (partition_of homes m ≡ k → ⊥) → IsWithout found m next → IsPartTo n homes k m found → IsPartTo n homes k (m + 1) next
 one_goes n homes k m found next elsewhere less before = record {
   frame = frames_join n found next before.frame less.frame;
-  here = λ j home. less.others j (λ same. elsewhere (ap (home_of homes) (sym same) ∙ home)) ∙ before.here j home;
+  here = λ j home. less.others j (λ same. elsewhere (ap (partition_of homes) (sym same) ∙ home)) ∙ before.here j home;
   gone = λ j low other. elim (cases_eq j m) as (λ _. module_at next j ≡ None) [
     | inl same ↦ ap (module_at next) same ∙ less.gone
     | inr differ ↦ less.others j differ ∙ before.gone j (omega (arith, low, differ)) other

@@ -14,7 +14,7 @@ use Rattle.mp_netlist.specs.Circuit.{Circuit, IsCircuit, Drives, module_at}
 use Rattle.mp_netlist.specs.Drivers.{driver, is_port}
 use Rattle.mp_model.proofs.SlotLemmas.{slot_within, some_within}
 use Rattle.mp_simulation.specs.bits.WholeRuns.{is_stimulus}
-use Rattle.mp_kernel.specs.calendar.Calendars.{never}
+use Rattle.mp_kernel.specs.timers.TimerWheels.{never}
 use Rattle.mp_kernel.specs.events.Adding.{listed}
 use Rattle.mp_partition.specs.runs.Marks.{is_marked}
 use Rattle.mp_partition.specs.runs.Outcomes.{Outcome}
@@ -78,7 +78,7 @@ marked_set marks m k low = elim (cases_Bool (k == m)) as (λ _. is_marked (slice
 
 -- what is compared after a module is woken
 pub record HasBeenWoken (run : Outcome) (ports : List (Option ℕ)) (outputs : List Output) (t : ℕ) (c d : Comparison) : Type 0 where
-  pub kept : d ≡ record c { sources = d.sources; asleep = d.asleep; calendar = d.calendar; places = d.places }
+  pub kept : d ≡ record c { sources = d.sources; asleep = d.asleep; timers = d.timers; places = d.places }
   pub cursors : HasCursors run t [] d
   pub complete : IsComplete run t c → IsComplete run t d
   pub asleep : (x : ℕ) → asleep_at d x + listed x (numbers_in ports) ≡ asleep_at c x
@@ -236,8 +236,8 @@ module _ (old new : Circuit) (run : Outcome) (ok : IsCircuit new) (numbering : N
       cursors = woke.cursors;
       complete = woke.complete ret.followed.complete;
       counted = subst (λ (active : ℕ → Bool). AreCounted new active numbering d) (sym actives) counted_now;
-      tails = subst (λ (active : ℕ → Bool). AreTails new active (until_of made) t (left_of s.tails)) (sym actives)
-          (subst (λ (comes : ℕ → ℕ → Bool). AreToCome new comes t (left_of s.tails)) (fun_ext (λ w. fun_ext (same_tail w))) ret.tails);
+      pending_outputs = subst (λ (active : ℕ → Bool). AreTails new active (until_of made) t (left_of s.pending_outputs)) (sym actives)
+          (subst (λ (comes : ℕ → ℕ → Bool). AreToCome new comes t (left_of s.pending_outputs)) (fun_ext (λ w. fun_ext (same_tail w))) ret.pending_outputs);
       stimuli = subst (λ (comes : ℕ → ℕ → Bool). AreToCome new comes t (left_of s.stimuli)) (fun_ext (λ w. fun_ext (same_set w))) ret.followed.stimuli;
     }
 

@@ -28,7 +28,7 @@ pub none_back : (old new : Circuit) (run : Outcome) (numbering : Numbering) (sin
 none_back old new run numbering since t m s can = record {
   kept = refl;
   ahead = none_ahead new numbering t s.simulation;
-  tails = subst (λ (comes : ℕ → ℕ → Bool). AreToCome new comes t (left_of s.tails)) (fun_ext (λ w. fun_ext (λ u. right (is_tail new (active_of s) (until_of s) w u)))) can.followed.tails;
+  pending_outputs = subst (λ (comes : ℕ → ℕ → Bool). AreToCome new comes t (left_of s.pending_outputs)) (fun_ext (λ w. fun_ext (λ u. right (is_tail new (active_of s) (until_of s) w u)))) can.followed.pending_outputs;
 }
   where
     right : (b : Bool) → b ≡ (b && true)

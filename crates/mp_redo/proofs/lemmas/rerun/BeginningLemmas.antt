@@ -25,9 +25,9 @@ use Rattle.mp_depend.specs.work.Revisions.{IsRevision, IsKept}
 use Rattle.mp_depend.specs.work.Work.{Differs, IsApartIn}
 use Rattle.mp_depend.proofs.lemmas.work.LevelLemmas.{initials_same}
 use Rattle.mp_depend.proofs.lemmas.work.StayLemmas.{built_same}
-use Rattle.mp_depend.specs.history.Keeping.{AreOldStates}
-use Rattle.mp_depend.specs.history.Ledgers.{state_in}
-use Rattle.mp_depend.specs.history.Live.{IsWorking, AreAtWork}
+use Rattle.mp_depend.specs.recording.Keeping.{AreOldStates}
+use Rattle.mp_depend.specs.recording.Overlays.{state_in}
+use Rattle.mp_depend.specs.recording.Live.{IsWorking, AreAtWork}
 use Rattle.mp_active.specs.agreement.Sleeping.{AreSleeping}
 use Rattle.mp_active.specs.agreement.Reading.{late, AreAlike}
 use Rattle.mp_active.proofs.lemmas.agreement.ReadingLemmas.{quiet_where_alike}

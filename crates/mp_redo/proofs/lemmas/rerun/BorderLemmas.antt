@@ -23,10 +23,10 @@ use Rattle.mp_active.proofs.lemmas.excerpt.ExcerptLemmas.{excerpt_is, length_act
 use Rattle.mp_active.proofs.lemmas.agreement.RestingLemmas.{sleepers_rest}
 use Rattle.mp_active.specs.compare.Comparing.{AreUnseen}
 use Rattle.mp_depend.specs.work.Revisions.{IsRevision, IsKept}
-use Rattle.mp_depend.specs.declared.history.history.History.{History}
-use Rattle.mp_depend.specs.history.Histories.{IsHistory}
-use Rattle.mp_depend.specs.history.Ledgers.{state_in}
-use Rattle.mp_depend.specs.history.Live.{IsWorking, AreAtWork, IsListed}
+use Rattle.mp_depend.specs.declared.recording.rerun_recorder.RerunRecorder.{RerunRecorder}
+use Rattle.mp_depend.specs.recording.Recorders.{IsRecorder}
+use Rattle.mp_depend.specs.recording.Overlays.{state_in}
+use Rattle.mp_depend.specs.recording.Live.{IsWorking, AreAtWork, IsListed}
 use Rattle.mp_redo.specs.declared.rerun.rerun.Rerun.{Rerun}
 use Rattle.mp_redo.specs.rerun.Leaving.{CanLeaveAt, CanLeave, HaveLeft}
 use Rattle.mp_redo.specs.rerun.Reruns.{IsRerunAt, active_of, on_of}
@@ -80,8 +80,8 @@ module _ (old new : Circuit) (old_ok : IsCircuit old) (new_ok : IsCircuit new) (
     works_on other = inr (inl (record { part = r; kept = stays; last = time - 1; before = omega (arith, some); differ = λ same. other (was ∙ same ∙ sym is) }))
 
   -- when those that leave sleep
-  module _ (none : s.activity.joined.items ≡ []) (seen : AreUnseen (time - 1 + 1) s.comparison) (listed : IsListed new (active_of s) s.history.live.items)
-      (leaving : List ModuleId) (others : (m : ℕ) → Contains s.history.live.items (record { 0 = m }) → IsSome (module_at new m) → active_of s m ≡ true → Contains leaving (record { 0 = m }) ⊎ IsWorking old new time m time)
+  module _ (none : s.activity.joined.items ≡ []) (seen : AreUnseen (time - 1 + 1) s.comparison) (listed : IsListed new (active_of s) s.recorder.live.items)
+      (leaving : List ModuleId) (others : (m : ℕ) → Contains s.recorder.live.items (record { 0 = m }) → IsSome (module_at new m) → active_of s m ≡ true → Contains leaving (record { 0 = m }) ⊎ IsWorking old new time m time)
       (now : Rerun) (left : HaveLeft leaving s now) (is : IsRerunAt old new run time (time - 1) now) where
     work_on : (m : ℕ) → IsSome (module_at new m) → active_of now m ≡ true → IsWorking old new time m time
     work_on m stands on = elim (is_listed m leaving) as (λ _. IsWorking old new time m time) [
@@ -97,14 +97,14 @@ module _ (old new : Circuit) (old_ok : IsCircuit old) (new_ok : IsCircuit new) (
         let early = is.early m in
         sleepers_rest old new old_ok new_ok revised (is.since m) (time - 1) m time time r.0 (is.is.followed.sleeping m r.0 r.1 off) (omega (arith, early)) (omega (arith, some)) (omega (arith, some)) works
 
-    pub crossed : (history : History) → IsHistory old new run (λ m. time) time (active_of now) history → IsAtWindow old new run time (time - 1) (record now { history = history })
-    crossed history kept = record {
-      is = rerun_renewed old new run time time (time - 1) now now.activity.joined history now.window_end now.look_at (omega arith) is;
+    pub crossed : (recorder : RerunRecorder) → IsRecorder old new run (λ m. time) time (active_of now) recorder → IsAtWindow old new run time (time - 1) (record now { recorder = recorder })
+    crossed recorder kept = record {
+      is = rerun_renewed old new run time time (time - 1) now now.activity.joined recorder now.window_end now.look_at (omega arith) is;
       unseen = λ x. subst (λ (k : ℕ). k < time - 1 + 1) (sym (ap (λ v. slice_index_or v.items x 0) left.seen)) (seen x);
       touched = subst (λ (marks : List Bool). AreTouched old new marks) (sym (ap (λ (x : Rerun). x.activity.touched.items) left.kept)) touched;
       none = ap (λ (x : Rerun). x.activity.joined.items) left.kept ∙ none;
       work = subst (λ (t : ℕ). AreAtWork old new time t (active_of now)) next (record { works = work_on; rests = rest_on });
-      history = subst (λ (t : ℕ). IsHistory old new run (λ m. time) t (active_of now) history) next kept;
+      recorder = subst (λ (t : ℕ). IsRecorder old new run (λ m. time) t (active_of now) recorder) next kept;
     }
       where
         next : time ≡ time - 1 + 1

@@ -89,12 +89,12 @@ module _ (n : Circuit) (ok : IsCircuit n) (active on : ℕ → Bool) (numbering 
       levels_ahead x within
       ∙ none_between (shown_change n on (numbering.source x) (t + 1)) (is_data n (numbering.source x).0) (nat_lt 0 (shown_ahead n active s.wires.next.items x (numbering.data_before x))) narrow
 
-  module _ (anew tail : ℕ → ℕ → Bool) (stimuli tails : List StimulusChange) (first : AreToCome n anew t stimuli) (second : AreToCome n tail t tails) where
+  module _ (anew tail : ℕ → ℕ → Bool) (stimuli pending_outputs : List StimulusChange) (first : AreToCome n anew t stimuli) (second : AreToCome n tail t pending_outputs) where
     -- how often a number is among what comes in the next unit
     abbrev pub Comes : ℕ → Type 0
     Comes x =
-        (listed x (slot_at s.bits.simulator 0) + (listed x (copy_slot s.bits.copies 0) + (listed x (bits_at (t + 1) stimuli) + listed x (bits_at (t + 1) tails))))
-        + (changes_of x (data_slot s.wires.wheel 0) + (changes_of x (levels_at (t + 1) stimuli) + changes_of x (levels_at (t + 1) tails)))
+        (listed x (slot_at s.bits.simulator 0) + (listed x (copy_slot s.bits.copies 0) + (listed x (bits_at (t + 1) stimuli) + listed x (bits_at (t + 1) pending_outputs))))
+        + (changes_of x (data_slot s.wires.wheel 0) + (changes_of x (levels_at (t + 1) stimuli) + changes_of x (levels_at (t + 1) pending_outputs)))
         ≡ bit (late_change n (numbering.source x) (t + 1))
 
     change_here : (x : ℕ) → numbering.source x ≡ (x, 0) → late_change n (numbering.source x) (t + 1) ≡ change_at n x (t + 1)
@@ -107,10 +107,10 @@ module _ (n : Circuit) (ok : IsCircuit n) (active on : ℕ → Bool) (numbering 
         let a = wires_ahead x ∙ ap (λ b. bit ((change_at n x (t + 1) && b) && ahead)) is ∙ all_but_last (change_at n x (t + 1)) ahead in
         let b = no_copies x (bit_wire_first n numbering s shows.numbers x is) in
         let c = bits_to_come n anew t stimuli first x ∙ ap (λ w. cond w 0 (bit (change_at n x (t + 1) && anew x (t + 1)))) narrow in
-        let d = bits_to_come n tail t tails second x ∙ ap (λ w. cond w 0 (bit (change_at n x (t + 1) && tail x (t + 1)))) narrow in
+        let d = bits_to_come n tail t pending_outputs second x ∙ ap (λ w. cond w 0 (bit (change_at n x (t + 1) && tail x (t + 1)))) narrow in
         let e = no_levels x within (bit_wire_source n numbering s shows.numbers x is) in
         let f = levels_to_come n anew t stimuli first x ∙ none_when_narrow (is_data n x) (bit (change_at n x (t + 1) && anew x (t + 1))) narrow in
-        let g = levels_to_come n tail t tails second x ∙ none_when_narrow (is_data n x) (bit (change_at n x (t + 1) && tail x (t + 1))) narrow in
+        let g = levels_to_come n tail t pending_outputs second x ∙ none_when_narrow (is_data n x) (bit (change_at n x (t + 1) && tail x (t + 1))) narrow in
         let h = ap bit (change_here x (shows.numbers.wires x is)) in
         omega arith
 
@@ -130,10 +130,10 @@ module _ (n : Circuit) (ok : IsCircuit n) (active on : ℕ → Bool) (numbering 
         ∙ ap (λ k. bit (shown_change n on (numbering.source x) (t + 1) && k)) (lt-ltb 0 (copy_at next y).delay (shows.numbers.chained.some x y at))
         ∙ ap (λ k. bit ((k && change) && true)) lit ∙ only change in
         let c = bits_to_come n anew t stimuli first x ∙ none_when (is_data n x) (change_at n x (t + 1)) (anew x (t + 1)) rests in
-        let d = bits_to_come n tail t tails second x ∙ none_when (is_data n x) (change_at n x (t + 1)) (tail x (t + 1)) rests in
+        let d = bits_to_come n tail t pending_outputs second x ∙ none_when (is_data n x) (change_at n x (t + 1)) (tail x (t + 1)) rests in
         let e = no_levels x within narrow in
         let f = levels_to_come n anew t stimuli first x ∙ none_when_narrow (is_data n x) (bit (change_at n x (t + 1) && anew x (t + 1))) here in
-        let g = levels_to_come n tail t tails second x ∙ none_when_narrow (is_data n x) (bit (change_at n x (t + 1) && tail x (t + 1))) here in
+        let g = levels_to_come n tail t pending_outputs second x ∙ none_when_narrow (is_data n x) (bit (change_at n x (t + 1) && tail x (t + 1))) here in
         omega arith
 
     wide_wire : (x : ℕ) → x < length s.bits.simulator.fanout → is_data n (numbering.source x).0 ≡ true → numbering.data_before x ≡ None → on (numbering.source x).0 ≡ true →
@@ -146,13 +146,13 @@ module _ (n : Circuit) (ok : IsCircuit n) (active on : ℕ → Bool) (numbering 
         let a = no_wires x (wide_number n numbering s shows.numbers x wide) in
         let b = no_copies x (wide_first n numbering s shows.numbers x wide) in
         let c = bits_to_come n anew t stimuli first x ∙ ap (λ w. cond w 0 (bit (change_at n x (t + 1) && anew x (t + 1)))) here in
-        let d = bits_to_come n tail t tails second x ∙ ap (λ w. cond w 0 (bit (change_at n x (t + 1) && tail x (t + 1)))) here in
+        let d = bits_to_come n tail t pending_outputs second x ∙ ap (λ w. cond w 0 (bit (change_at n x (t + 1) && tail x (t + 1)))) here in
         let e = levels_ahead x within
         ∙ ap (λ (o : Option ℕ). bit ((shown_change n on (numbering.source x) (t + 1) && is_data n (numbering.source x).0) && nat_lt 0 (shown_ahead n active s.wires.next.items x o))) none
         ∙ ap (λ k. bit ((shown_change n on (numbering.source x) (t + 1) && k) && ahead)) wide
         ∙ ap (λ k. bit (((k && change) && true) && ahead)) lit ∙ all_but_last change ahead ∙ ap (λ k. bit (k && ahead)) (change_here x own) in
         let f = levels_to_come n anew t stimuli first x ∙ ap (λ w. cond w (bit (change_at n x (t + 1) && anew x (t + 1))) 0) here in
-        let g = levels_to_come n tail t tails second x ∙ ap (λ w. cond w (bit (change_at n x (t + 1) && tail x (t + 1))) 0) here in
+        let g = levels_to_come n tail t pending_outputs second x ∙ ap (λ w. cond w (bit (change_at n x (t + 1) && tail x (t + 1))) 0) here in
         let h = ap bit (change_here x own) in
         omega arith
 
@@ -166,14 +166,14 @@ module _ (n : Circuit) (ok : IsCircuit n) (active on : ℕ → Bool) (numbering 
         let a = no_wires x none in
         let b = no_copies x (wide_first n numbering s shows.numbers x wide) in
         let c = bits_to_come n anew t stimuli first x ∙ none_when (is_data n x) (change_at n x (t + 1)) (anew x (t + 1)) rests in
-        let d = bits_to_come n tail t tails second x ∙ none_when (is_data n x) (change_at n x (t + 1)) (tail x (t + 1)) rests in
+        let d = bits_to_come n tail t pending_outputs second x ∙ none_when (is_data n x) (change_at n x (t + 1)) (tail x (t + 1)) rests in
         let e = levels_ahead x within
         ∙ ap (λ (o : Option ℕ). bit ((shown_change n on (numbering.source x) (t + 1) && is_data n (numbering.source x).0) && nat_lt 0 (shown_ahead n active next x o))) at
         ∙ ap (λ k. bit ((shown_change n on (numbering.source x) (t + 1) && is_data n (numbering.source x).0) && k)) (lt-ltb 0 (copy_at next y).delay (shows.wires.chained.some x y at))
         ∙ ap (λ k. bit ((shown_change n on (numbering.source x) (t + 1) && k) && true)) wide
         ∙ ap (λ k. bit (((k && change) && true) && true)) lit ∙ all_but_last change true ∙ only change in
         let f = levels_to_come n anew t stimuli first x ∙ none_when_narrow (is_data n x) (bit (change_at n x (t + 1) && anew x (t + 1))) here in
-        let g = levels_to_come n tail t tails second x ∙ none_when_narrow (is_data n x) (bit (change_at n x (t + 1) && tail x (t + 1))) here in
+        let g = levels_to_come n tail t pending_outputs second x ∙ none_when_narrow (is_data n x) (bit (change_at n x (t + 1) && tail x (t + 1))) here in
         omega arith
 
     -- each number of a wire that is on is there just where it changes, once

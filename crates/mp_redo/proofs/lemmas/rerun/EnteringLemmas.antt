@@ -10,7 +10,7 @@ use Rattle.mp_partition.specs.runs.Outcomes.{Outcome}
 use Rattle.mp_phase.specs.Allowed.{IsAllowed, AreAllowed}
 use Rattle.mp_depend.specs.work.Work.{block_of, window_end, IsWindow, IsEntry}
 use Rattle.mp_depend.proofs.lemmas.work.WindowLemmas.{window_within, in_block}
-use Rattle.mp_depend.specs.history.Live.{AreAtWork}
+use Rattle.mp_depend.specs.recording.Live.{AreAtWork}
 use Rattle.mp_redo.specs.declared.rerun.join.Join.{Join}
 use Rattle.mp_redo.specs.declared.rerun.rerun.Rerun.{Rerun}
 use Rattle.mp_redo.specs.rerun.Entering.{AllWork, AllTasksWork, Enters}

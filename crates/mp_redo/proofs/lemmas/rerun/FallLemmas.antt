@@ -22,8 +22,8 @@ use Rattle.mp_active.specs.declared.compare.comparison.Comparison.{Comparison}
 use Rattle.mp_active.specs.declared.compare.wire_source.WireSource.{WireSource}
 use Rattle.mp_active.specs.compare.Comparing.{source_at, HasCursors, IsComplete}
 use Rattle.mp_active.specs.compare.Waking.{numbers_in}
-use Rattle.mp_depend.specs.declared.history.history.History.{History}
-use Rattle.mp_depend.specs.history.Histories.{IsHistory}
+use Rattle.mp_depend.specs.declared.recording.rerun_recorder.RerunRecorder.{RerunRecorder}
+use Rattle.mp_depend.specs.recording.Recorders.{IsRecorder}
 use Rattle.mp_active.specs.steps.Sleeping.{ArePutToSleep}
 use Rattle.mp_active.proofs.lemmas.steps.AsleepLemmas.{none_asleep, puts_more_to_sleep}
 use Rattle.mp_active.specs.excerpt.Numberings.{Numbering}
@@ -45,11 +45,11 @@ since_then since time s now m = cond (has_left s now m) time (since m)
 -- some of these modules have fallen asleep before a time, none of which has an output with a longer delay than so many units; what the wheels
 -- have of their wires is still there
 pub record AreFalling (old new : Circuit) (run : Outcome) (numbering : Numbering) (since : ℕ → ℕ) (time units : ℕ) (leaving : List ModuleId) (s now : Rerun) : Type 0 where
-  pub kept : now ≡ record s { simulation = now.simulation; comparison = now.comparison; activity = record (s.activity) { active = now.activity.active }; history = now.history }
+  pub kept : now ≡ record s { simulation = now.simulation; comparison = now.comparison; activity = record (s.activity) { active = now.activity.active }; recorder = now.recorder }
   pub compared : now.comparison ≡ record (s.comparison) {
     sources = now.comparison.sources;
     asleep = now.comparison.asleep;
-    calendar = now.comparison.calendar;
+    timers = now.comparison.timers;
     places = now.comparison.places;
   }
   pub modules : length now.activity.active.items ≡ length new.modules
@@ -64,7 +64,7 @@ pub record AreFalling (old new : Circuit) (run : Outcome) (numbering : Numbering
   pub on : (w : ℕ) → on_of now w ≡ on_of s w
   pub lit : (w : ℕ) → 0 < until_of now w → on_of now w ≡ true
   pub room : (m p w : ℕ) (r : ModuleRecord) → has_left s now m ≡ true → module_at new m ≡ Some r → Drives new m p w → delay_of r p ≤ units
-  pub history : IsHistory old new run (λ m. time) time (active_of now) now.history
+  pub recorder : IsRecorder old new run (λ m. time) time (active_of now) now.recorder
 
 not_left : (b : Bool) → (b && not b) ≡ false
 not_left true = refl
@@ -80,8 +80,8 @@ or_more false = refl
 
 -- before the first
 pub falling_begins : (old new : Circuit) (run : Outcome) (numbering : Numbering) (since : ℕ → ℕ) (time : ℕ) (leaving : List ModuleId) (s : Rerun) → IsRerunBy old new run numbering since (time - 1) s
-    → IsHistory old new run (λ m. time) time (active_of s) s.history → AreFalling old new run numbering since time 0 leaving s s
-falling_begins old new run numbering since time leaving s is history = record {
+    → IsRecorder old new run (λ m. time) time (active_of s) s.recorder → AreFalling old new run numbering since time 0 leaving s s
+falling_begins old new run numbering since time leaving s is recorder = record {
   kept = refl;
   compared = refl;
   modules = is.followed.modules;
@@ -96,11 +96,11 @@ falling_begins old new run numbering since time leaving s is history = record {
   on = λ w. refl;
   lit = is.followed.lit;
   room = λ m p w r gone. absurd (both_ways (has_left s s m) (not_left (active_of s m)) gone);
-  history = history;
+  recorder = recorder;
 }
 
 -- one more
-module _ (old new : Circuit) (ok : IsCircuit new) (run : Outcome) (numbering : Numbering) (since : ℕ → ℕ) (time units more m : ℕ) (leaving : List ModuleId) (s now next : Rerun) (history : History) (r : ModuleRecord)
+module _ (old new : Circuit) (ok : IsCircuit new) (run : Outcome) (numbering : Numbering) (since : ℕ → ℕ) (time units more m : ℕ) (leaving : List ModuleId) (s now next : Rerun) (recorder : RerunRecorder) (r : ModuleRecord)
     (some : 0 < time) (is : IsRerunBy old new run numbering since (time - 1) s) (are : AreFalling old new run numbering since time units leaving s now)
     (at : module_at new m ≡ Some r) (within : m < length new.modules) (awake : active_of now m ≡ true) (leaves : Contains leaving (record { 0 = m }))
     (falls : HasFallenAsleep run m time r now next) (least : units ≤ more) (longest : All (λ (o : Output). o.delay ≤ more) r.outputs) where
@@ -191,14 +191,14 @@ module _ (old new : Circuit) (ok : IsCircuit new) (run : Outcome) (numbering : N
     | inr its ↦ on w ∙ is.followed.ports.driven m its.0 w was (finds_only_ports new w its.0 (record { 0 = m }) its.1)
   ]
 
-  pub falling_more : IsHistory old new run (λ k. time) time (active_of next) history → AreFalling old new run numbering since time more leaving s (record next { history = history })
+  pub falling_more : IsRecorder old new run (λ k. time) time (active_of next) recorder → AreFalling old new run numbering since time more leaving s (record next { recorder = recorder })
   falling_more told = record {
     kept =
-        ap (λ (x : Rerun). (let y : Rerun = record x { history = history } in y)) falls.kept
-        ∙ ap (λ (x : Rerun). (let y : Rerun = record x { simulation = next.simulation; comparison = next.comparison; activity = record (x.activity) { active = next.activity.active }; history = history } in y)) are.kept;
+        ap (λ (x : Rerun). (let y : Rerun = record x { recorder = recorder } in y)) falls.kept
+        ∙ ap (λ (x : Rerun). (let y : Rerun = record x { simulation = next.simulation; comparison = next.comparison; activity = record (x.activity) { active = next.activity.active }; recorder = recorder } in y)) are.kept;
     compared =
         falls.compared
-        ∙ ap (λ (x : Comparison). (let y : Comparison = record x { sources = next.comparison.sources; asleep = next.comparison.asleep; calendar = next.comparison.calendar; places = next.comparison.places } in y)) are.compared;
+        ∙ ap (λ (x : Comparison). (let y : Comparison = record x { sources = next.comparison.sources; asleep = next.comparison.asleep; timers = next.comparison.timers; places = next.comparison.places } in y)) are.compared;
     modules = ap length falls.active ∙ length-set now.activity.active.items m false ∙ are.modules;
     fewer = fewer;
     only = only;
@@ -213,5 +213,5 @@ module _ (old new : Circuit) (ok : IsCircuit new) (run : Outcome) (numbering : N
     on = on;
     lit = lit;
     room = room;
-    history = told;
+    recorder = told;
   }

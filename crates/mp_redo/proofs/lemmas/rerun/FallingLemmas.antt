@@ -23,9 +23,9 @@ use Rattle.mp_active.specs.declared.compare.comparison.Comparison.{Comparison}
 use Rattle.mp_active.specs.declared.compare.numbers.Numbers.{Numbers}
 use Rattle.mp_active.specs.compare.Comparing.{asleep_at}
 use Rattle.mp_active.specs.compare.Waking.{numbers_in, AreSourcesOf, HaveOwnLevels}
-use Rattle.mp_depend.specs.declared.history.history.History.{History}
-use Rattle.mp_depend.specs.history.Histories.{IsHistory}
-use Rattle.mp_depend.specs.history.Live.{LeavesAt}
+use Rattle.mp_depend.specs.declared.recording.rerun_recorder.RerunRecorder.{RerunRecorder}
+use Rattle.mp_depend.specs.recording.Recorders.{IsRecorder}
+use Rattle.mp_depend.specs.recording.Live.{LeavesAt}
 use Rattle.mp_active.specs.excerpt.Numberings.{Numbering}
 use Rattle.mp_redo.specs.declared.rerun.rerun.Rerun.{Rerun}
 use Rattle.mp_redo.specs.rerun.Leaving.{CanFallAsleep, HasGone, HasLeftOne}
@@ -54,7 +54,7 @@ falling_wider old new run numbering since time units more leaving s now least ar
   on = are.on;
   lit = are.lit;
   room = λ m p w r gone at drives. let low = are.room m p w r gone at drives in omega (arith, low, least);
-  history = are.history;
+  recorder = are.recorder;
 }
 
 module _ (old new : Circuit) (ok : IsCircuit new) (run : Outcome) (numbering : Numbering) (since : ℕ → ℕ) (time : ℕ) (border : IsBorder new.horizon time) (some : 0 < time) (below : time < new.horizon)
@@ -165,10 +165,10 @@ module _ (old new : Circuit) (ok : IsCircuit new) (run : Outcome) (numbering : N
       | inl stayed ↦ subst (λ (x : Rerun). AreFalling old new run numbering since time more leaving s x) (sym stayed.same) (falling_wider old new run numbering since time units more leaving s now least are)
       | inr gone ↦
           subst (λ (x : Rerun). AreFalling old new run numbering since time more leaving s x) (sym gone.kept)
-          (falling_more old new ok run numbering since time units more m leaving s now gone.mid next.history gone.part some is are gone.stands (slot_within new.modules m gone.part gone.stands) gone.awake leaves gone.falls least
+          (falling_more old new ok run numbering since time units more m leaving s now gone.mid next.recorder gone.part some is are gone.stands (slot_within new.modules m gone.part gone.stands) gone.awake leaves gone.falls least
           (λ k d within. let low = gone.all k d within in omega (arith, low, most))
           (gone.told old new run (λ k. time) (active_of now) (active_of gone.mid) (leaves_at gone) refl
-          (subst (λ (h : History). IsHistory old new run (λ k. time) time (active_of now) h) (sym (ap (λ (x : Rerun). x.history) gone.falls.kept)) are.history)))
+          (subst (λ (h : RerunRecorder). IsRecorder old new run (λ k. time) time (active_of now) h) (sym (ap (λ (x : Rerun). x.recorder) gone.falls.kept)) are.recorder)))
     ]
 
     pub off_here : IsSome (module_at new m) → active_of next m ≡ false

@@ -6,7 +6,7 @@ use Rattle.mp_netlist.proofs.LimitLemmas.{horizon_within}
 use Rattle.mp_model.specs.Waves.{level}
 use Rattle.mp_kernel.specs.automata.Codes.{bit}
 use Rattle.mp_kernel.specs.events.Adding.{listed}
-use Rattle.mp_kernel.specs.calendar.Calendars.{never}
+use Rattle.mp_kernel.specs.timers.TimerWheels.{never}
 use Rattle.mp_simulation.specs.bits.Simulators.{slot_at}
 use Rattle.mp_simulation.specs.bits.Simulations.{copy_slot}
 use Rattle.mp_partition.specs.runs.Outcomes.{Outcome}
@@ -39,23 +39,23 @@ module _ (old n : Circuit) (old_ok : IsCircuit old) (ok : IsCircuit n) (revised 
   pub copies_ahead_are : AreNumbers s.comparison.numbers (copy_slot s.simulation.bits.copies 0)
   copies_ahead_are = copies_are_numbers n ok (active_of s) (on_of s) numbering t s.simulation is.shows s.comparison is.followed.numbered.count
 
-  module _ (coming : NewChanges) (are : AreComing (t + 1) (left_of s.stimuli) (left_of s.tails) s.simulation coming) where
+  module _ (coming : NewChanges) (are : AreComing (t + 1) (left_of s.stimuli) (left_of s.pending_outputs) s.simulation coming) where
     pub coming_within : AreWithin s.comparison.numbers coming
     coming_within =
         all_within n ok (active_of s) (on_of s) numbering t s.simulation is.shows s.comparison is.followed.numbered.count is.followed.numbered.source
-        (is_set_anew n (until_of s)) (is_tail n (active_of s) (until_of s)) (left_of s.stimuli) (left_of s.tails) is.followed.stimuli is.followed.tails coming are
+        (is_set_anew n (until_of s)) (is_tail n (active_of s) (until_of s)) (left_of s.stimuli) (left_of s.pending_outputs) is.followed.stimuli is.followed.pending_outputs coming are
 
     pub coming_new : (time : ℕ) → t + 1 ≡ time → AreNewChanges (level n) time s.comparison coming
     coming_new time next =
         are_new n ok (active_of s) (on_of s) numbering t s.simulation is.shows s.comparison is.followed.numbered.count is.followed.numbered.source
-        (is_set_anew n (until_of s)) (is_tail n (active_of s) (until_of s)) (left_of s.stimuli) (left_of s.tails) is.followed.stimuli is.followed.tails coming are
+        (is_set_anew n (until_of s)) (is_tail n (active_of s) (until_of s)) (left_of s.stimuli) (left_of s.pending_outputs) is.followed.stimuli is.followed.pending_outputs coming are
         (until_of s) (λ w. refl) is.followed.cursors.shape.asleep is.followed.lit
         (λ w some early. splits n ok old (active_of s) since (until_of s) is.followed.sources w (t + 1) some early) time next
 
     pub coming_low : HaveLowBits (level old) (level n) s.comparison coming
     coming_low =
         low_bits n ok (active_of s) (on_of s) numbering t s.simulation is.shows s.comparison is.followed.numbered.count is.followed.numbered.source
-        (is_set_anew n (until_of s)) (is_tail n (active_of s) (until_of s)) (left_of s.stimuli) (left_of s.tails) is.followed.stimuli is.followed.tails coming are
+        (is_set_anew n (until_of s)) (is_tail n (active_of s) (until_of s)) (left_of s.stimuli) (left_of s.pending_outputs) is.followed.stimuli is.followed.pending_outputs coming are
         old old_ok revised
 
   pub agree_from : WiresAgree → (time : ℕ) → t + 1 ≡ time → time < never → AgreeFrom (level old) (level n) time s.comparison

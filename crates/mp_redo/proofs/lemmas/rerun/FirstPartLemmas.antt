@@ -11,7 +11,7 @@ use Rattle.mp_netlist.proofs.DriverLemmas.{finds_ports}
 use Rattle.mp_model.specs.Waves.{level}
 use Rattle.mp_kernel.specs.automata.Codes.{bit}
 use Rattle.mp_partition.specs.runs.Marks.{is_marked}
-use Rattle.mp_partition.specs.regions.Regions.{home_of, region, set_on_slot}
+use Rattle.mp_partition.specs.regions.Regions.{partition_of, region, set_on_slot}
 use Rattle.mp_active.specs.excerpt.Excerpts.{excerpt, is_followed, active_slots, slots_on, unset_slot}
 use Rattle.mp_active.proofs.lemmas.excerpt.StartingLemmas.{regions_are_excerpts}
 
@@ -47,18 +47,18 @@ marked_when : (b : Bool) → bit b ≡ 1 → b ≡ true
 marked_when true is = refl
 marked_when false is = let no : ⊥ = cc in absurd no
 
-module _ (n : Circuit) (active : List Bool) (homes : List ℕ) (heard : List Bool) (at_home : (m : ℕ) → home_of homes m ≡ bit (is_marked active m))
+module _ (n : Circuit) (active : List Bool) (homes : List ℕ) (heard : List Bool) (at_home : (m : ℕ) → partition_of homes m ≡ bit (is_marked active m))
     (hears : (w : ℕ) → is_marked heard w ≡ is_followed (λ m. is_marked active m) (driver n w)) where
-  home_same : (m : ℕ) → (home_of homes m == 1) ≡ is_marked active m
+  home_same : (m : ℕ) → (partition_of homes m == 1) ≡ is_marked active m
   home_same m = ap (λ k. k == 1) (at_home m) ∙ home_test (is_marked active m)
 
   pub part_is : region n homes 1 heard ≡ excerpt n (λ m. is_marked active m) (λ w. true)
   part_is =
-      regions_are_excerpts n homes 1 heard (λ w. hears w ∙ followed_same (λ m. is_marked active m) (λ m. home_of homes m == 1) (λ m. sym (home_same m)) (driver n w))
-      ∙ excerpts_same n (λ m. home_of homes m == 1) (λ m. is_marked active m) home_same (λ w. true)
+      regions_are_excerpts n homes 1 heard (λ w. hears w ∙ followed_same (λ m. is_marked active m) (λ m. partition_of homes m == 1) (λ m. sym (home_same m)) (driver n w))
+      ∙ excerpts_same n (λ m. partition_of homes m == 1) (λ m. is_marked active m) home_same (λ w. true)
 
   -- it hears no wire that a module drives which is in it
-  pub hears_others : IsCircuit n → (m p w : ℕ) → Drives n m p w → home_of homes m ≡ 1 → is_marked heard w ≡ false
+  pub hears_others : IsCircuit n → (m p w : ℕ) → Drives n m p w → partition_of homes m ≡ 1 → is_marked heard w ≡ false
   hears_others ok m p w drives home =
       hears w ∙ ap (is_followed (λ k. is_marked active k)) (finds_ports n ok m p w drives)
       ∙ ap not (marked_when (is_marked active m) (sym (at_home m) ∙ home))

@@ -9,7 +9,7 @@ use Rattle.mp_netlist.specs.Circuit.{Circuit, IsCircuit}
 use Rattle.mp_netlist.specs.Drivers.{driver, is_port}
 use Rattle.mp_netlist.proofs.DriverLemmas.{finds_only_ports}
 use Rattle.mp_model.specs.Waves.{level}
-use Rattle.mp_kernel.specs.calendar.Calendars.{never}
+use Rattle.mp_kernel.specs.timers.TimerWheels.{never}
 use Rattle.mp_simulation.specs.bits.Changes.{change_at}
 use Rattle.mp_depend.specs.work.Revisions.{IsRevision}
 use Rattle.mp_active.specs.agreement.Sleeping.{AreSleeping}

@@ -18,7 +18,7 @@ use Rattle.mp_netlist.specs.Drivers.{driver}
 use Rattle.mp_netlist.proofs.DriverLemmas.{finds_only_ports, leaves_no_driver}
 use Rattle.mp_netlist.proofs.LimitLemmas.{horizon_within}
 use Rattle.mp_model.specs.Evaluations.{delay_in}
-use Rattle.mp_kernel.specs.calendar.Calendars.{never}
+use Rattle.mp_kernel.specs.timers.TimerWheels.{never}
 use Rattle.mp_simulation.specs.declared.bits.simulation.Simulation.{Simulation}
 use Rattle.mp_simulation.specs.bits.Simulators.{slot_at}
 use Rattle.mp_kernel.specs.declared.datapath.level_change.LevelChange.{LevelChange}

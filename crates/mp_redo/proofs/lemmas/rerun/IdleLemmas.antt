@@ -2,8 +2,8 @@
 use Rattle.std.proofs.Common.{◌≡◌, ℕ, ◌+◌, ◌<◌, List, [], sym, ap, subst, ◌∙◌, arith}
 use Rattle.mp_netlist.specs.Circuit.{Circuit, IsCircuit}
 use Rattle.mp_model.specs.Waves.{level}
-use Rattle.mp_kernel.specs.declared.calendar.calendar.Calendar.{Calendar}
-use Rattle.mp_kernel.specs.calendar.Calendars.{never, IsCalendar, ComesUp}
+use Rattle.mp_kernel.specs.declared.timers.timer_wheel.TimerWheel.{TimerWheel}
+use Rattle.mp_kernel.specs.timers.TimerWheels.{never, IsTimerWheel, ComesUp}
 use Rattle.mp_simulation.specs.bits.Simulators.{slot_at}
 use Rattle.mp_simulation.specs.bits.Simulations.{copy_slot}
 use Rattle.mp_kernel.specs.declared.datapath.level_change.LevelChange.{LevelChange}
@@ -29,14 +29,14 @@ use Rattle.mp_redo.proofs.lemmas.rerun.PassingLemmas.{followed_on}
 use Rattle.mp_redo.proofs.lemmas.rerun.QuietLemmas.{NothingIsHeard, none_tracked, none_after, none_apart, none_outside}
 
 -- where it is quiet nothing is heard
-pub nothing_heard : (t : ℕ) (s : Rerun) → ComesUp → t + 1 < never → IsCalendar t [] s.comparison.calendar → IsQuiet (t + 1) s → NothingIsHeard (t + 1) s
-nothing_heard t s up low calendar quiet = record {
+pub nothing_heard : (t : ℕ) (s : Rerun) → ComesUp → t + 1 < never → IsTimerWheel t [] s.comparison.timers → IsQuiet (t + 1) s → NothingIsHeard (t + 1) s
+nothing_heard t s up low timers quiet = record {
   wires = quiet.wires;
   copies = quiet.copies;
   levels = quiet.levels;
   stimuli = quiet.unset.stimuli;
-  tails = quiet.unset.tails;
-  calendar = none_due t s.comparison up calendar low quiet.unset.calendar;
+  pending_outputs = quiet.unset.pending_outputs;
+  timers = none_due t s.comparison up timers low quiet.unset.timers;
 }
 
 -- and where nothing changes it is quiet
@@ -64,11 +64,11 @@ module _ (old n : Circuit) (old_ok : IsCircuit old) (ok : IsCircuit n) (revised 
   pub quiet_outside : WiresAgree → SleepersDriveAlike → (bits : List ℕ) (levels : List LevelChange) → bits ≡ [] → levels ≡ [] → AreSetOutside n (active_of s) (on_of s) bits levels (t + 1)
   quiet_outside wires sleepers bits levels no_bits no_levels = none_outside old n old_ok ok revised run numbering since t s is nothing low was wires sleepers bits levels no_bits no_levels
 
-  -- and all else holds one unit later, with a calendar of the same times
-  pub quiet_followed : WiresAgree → SleepersReadAlike → QuietWhereAlike → SleepersSleepOn → (new : Rerun) (k : Calendar) → HasSet s new → new.comparison ≡ record (s.comparison) { calendar = k } →
-      k.times.items ≡ s.comparison.calendar.times.items → IsCalendar (t + 1) [] k → new.stimuli ≡ s.stimuli → new.tails ≡ s.tails → IsFollowed old n run numbering since (t + 1) new
-  quiet_followed wires readers alike sleep_on new k kept comparison times calendar stimuli tails =
+  -- and all else holds one unit later, with a timer wheel of the same times
+  pub quiet_followed : WiresAgree → SleepersReadAlike → QuietWhereAlike → SleepersSleepOn → (new : Rerun) (k : TimerWheel) → HasSet s new → new.comparison ≡ record (s.comparison) { timers = k } →
+      k.times.items ≡ s.comparison.timers.times.items → IsTimerWheel (t + 1) [] k → new.stimuli ≡ s.stimuli → new.pending_outputs ≡ s.pending_outputs → IsFollowed old n run numbering since (t + 1) new
+  quiet_followed wires readers alike sleep_on new k kept comparison times timers stimuli pending_outputs =
       followed_on old n run numbering since t s new kept sleep_on (quiet_apart wires readers alike)
-      (subst (HasCursors run (t + 1) []) (sym comparison) (cursors_on run t s.comparison k times is.followed.cursors nothing.calendar calendar))
+      (subst (HasCursors run (t + 1) []) (sym comparison) (cursors_on run t s.comparison k times is.followed.cursors nothing.timers timers))
       (subst (IsComplete run (t + 1)) (sym comparison) (complete_on run t s.comparison k times is.followed.complete))
-      (ap left_of stimuli ∙ sym (none_after (t + 1) (left_of s.stimuli) nothing.stimuli)) (ap left_of tails ∙ sym (none_after (t + 1) (left_of s.tails) nothing.tails)) is.followed
+      (ap left_of stimuli ∙ sym (none_after (t + 1) (left_of s.stimuli) nothing.stimuli)) (ap left_of pending_outputs ∙ sym (none_after (t + 1) (left_of s.pending_outputs) nothing.pending_outputs)) is.followed

@@ -17,11 +17,11 @@ use Rattle.mp_depend.specs.work.Revisions.{IsRevision}
 use Rattle.mp_depend.specs.work.Work.{block_of, window_of, window_end, IsWindow}
 use Rattle.mp_depend.proofs.lemmas.work.MultipleLemmas.{whole_rest, multiples_apart, whole_from}
 use Rattle.mp_depend.proofs.lemmas.work.WindowLemmas.{window_within, window_cover}
-use Rattle.mp_depend.specs.declared.history.history.History.{History}
-use Rattle.mp_depend.specs.history.Histories.{IsHistory, CanKeep}
-use Rattle.mp_depend.specs.history.Keeping.{IsNextBorder, KeepsState, AreOldStates}
-use Rattle.mp_depend.specs.history.Ledgers.{state_in}
-use Rattle.mp_depend.proofs.lemmas.history.HistoryLemmas.{can_keep}
+use Rattle.mp_depend.specs.declared.recording.rerun_recorder.RerunRecorder.{RerunRecorder}
+use Rattle.mp_depend.specs.recording.Recorders.{IsRecorder, CanKeep}
+use Rattle.mp_depend.specs.recording.Keeping.{IsNextBorder, KeepsState, AreOldStates}
+use Rattle.mp_depend.specs.recording.Overlays.{state_in}
+use Rattle.mp_depend.proofs.lemmas.recording.HistoryLemmas.{can_keep}
 use Rattle.mp_active.specs.agreement.Sleeping.{AreSleeping}
 use Rattle.mp_active.proofs.lemmas.agreement.SleepingLemmas.{sleepers_agree}
 use Rattle.mp_redo.proofs.lemmas.rerun.StandingLemmas.{standing}
@@ -92,15 +92,15 @@ kept_there kept m time k other = rw (ne_eqb k m other) refl
 
 -- of the first of some listed modules those that stand and are live have their states kept up to a border; those of others may be kept up to
 -- the one before
-pub record IsKeeping (old new : Circuit) (run : Outcome) (block time : ℕ) (live : ℕ → Bool) (list : List ModuleId) (count : ℕ) (history : History) : Type 0 where
+pub record IsKeeping (old new : Circuit) (run : Outcome) (block time : ℕ) (live : ℕ → Bool) (list : List ModuleId) (count : ℕ) (recorder : RerunRecorder) : Type 0 where
   pub kept : ℕ → ℕ
-  pub is : IsHistory old new run kept time live history
+  pub is : IsRecorder old new run kept time live recorder
   pub quiet : (m : ℕ) → live m ≡ false → kept m ≡ block
   pub either : (m : ℕ) → (kept m ≡ block) ⊎ (kept m ≡ time)
   pub done : (j : ℕ) (d : ModuleId) → j < count → IsSome (module_at new (slice_index_or list j d).0) → live (slice_index_or list j d).0 ≡ true → kept (slice_index_or list j d).0 ≡ time
 
-pub keeping_begins : (old new : Circuit) (run : Outcome) (block time : ℕ) (live : ℕ → Bool) (list : List ModuleId) (history : History) → IsHistory old new run (λ m. block) time live history → IsKeeping old new run block time live list 0 history
-keeping_begins old new run block time live list history is = record {
+pub keeping_begins : (old new : Circuit) (run : Outcome) (block time : ℕ) (live : ℕ → Bool) (list : List ModuleId) (recorder : RerunRecorder) → IsRecorder old new run (λ m. block) time live recorder → IsKeeping old new run block time live list 0 recorder
+keeping_begins old new run block time live list recorder is = record {
   kept = λ m. block;
   is = is;
   quiet = λ m off. refl;
@@ -108,12 +108,12 @@ keeping_begins old new run block time live list history is = record {
   done = λ j d low. absurd (let no : ⊥ = omega (arith, low) in no);
 }
 
-module _ (old new : Circuit) (run : Outcome) (block time : ℕ) (live : ℕ → Bool) (list : List ModuleId) (i : ℕ) (d : ModuleId) (history : History) (within : i < length list) (is : IsKeeping old new run block time live list i history) where
+module _ (old new : Circuit) (run : Outcome) (block time : ℕ) (live : ℕ → Bool) (list : List ModuleId) (i : ℕ) (d : ModuleId) (recorder : RerunRecorder) (within : i < length list) (is : IsKeeping old new run block time live list i recorder) where
   at_last : (j : ℕ) (e : ModuleId) → j ≡ i → (slice_index_or list j e).0 ≡ (slice_index_or list i d).0
   at_last j e last = ap (λ (x : ModuleId). x.0) (ap (λ n. slice_index_or list n e) last ∙ sym (get_or_default list i d e within))
 
   -- one that doesn't stand or isn't live
-  pub keeping_same : (IsSome (module_at new (slice_index_or list i d).0) → live (slice_index_or list i d).0 ≡ true → ⊥) → IsKeeping old new run block time live list (i + 1) history
+  pub keeping_same : (IsSome (module_at new (slice_index_or list i d).0) → live (slice_index_or list i d).0 ≡ true → ⊥) → IsKeeping old new run block time live list (i + 1) recorder
   keeping_same not = record {
     kept = is.kept;
     is = is.is;
@@ -133,8 +133,8 @@ module _ (old new : Circuit) (run : Outcome) (block time : ℕ) (live : ℕ → 
       | inr already ↦ inr already
     ]
 
-    pub keeping_can : CanKeep history (slice_index_or list i d).0 time
-    keeping_can = can_keep old new run is.kept time live history is.is (slice_index_or list i d).0 time stands on border next.below
+    pub keeping_can : CanKeep recorder (slice_index_or list i d).0 time
+    keeping_can = can_keep old new run is.kept time live recorder is.is (slice_index_or list i d).0 time stands on border next.below
 
     pub keeping_state : (memory : Memory) → ((r : ModuleRecord) → module_at new (slice_index_or list i d).0 ≡ Some r → memory ≡ state_before new (slice_index_or list i d).0 r time)
         → KeepsState new live is.kept (kept_now is.kept (slice_index_or list i d).0 time) (slice_index_or list i d).0 time memory
@@ -149,7 +149,7 @@ module _ (old new : Circuit) (run : Outcome) (block time : ℕ) (live : ℕ → 
       others = λ k other. kept_there is.kept (slice_index_or list i d).0 time k other;
     }
 
-    pub keeping_more : (after : History) → IsHistory old new run (kept_now is.kept (slice_index_or list i d).0 time) time live after → IsKeeping old new run block time live list (i + 1) after
+    pub keeping_more : (after : RerunRecorder) → IsRecorder old new run (kept_now is.kept (slice_index_or list i d).0 time) time live after → IsKeeping old new run block time live list (i + 1) after
     keeping_more after now = record {
       kept = kept_now is.kept (slice_index_or list i d).0 time;
       is = now;

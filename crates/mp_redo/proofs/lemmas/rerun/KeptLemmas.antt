@@ -13,7 +13,7 @@ use Rattle.mp_simulation.specs.units.NetlistSimulations.{HasKeptNumbers}
 use Rattle.mp_simulation.specs.run.Seating.{AreOutputsWithin}
 use Rattle.mp_active.specs.excerpt.Numberings.{Numbering}
 use Rattle.mp_active.specs.declared.compare.comparison.Comparison.{Comparison}
-use Rattle.mp_depend.specs.declared.history.history.History.{History}
+use Rattle.mp_depend.specs.declared.recording.rerun_recorder.RerunRecorder.{RerunRecorder}
 use Rattle.mp_redo.specs.declared.rerun.rerun.Rerun.{Rerun}
 use Rattle.mp_redo.specs.rerun.Numbered.{AreWired, AreNumbered}
 use Rattle.mp_redo.specs.rerun.Reruns.{IsFollowed, IsRerunAt}
@@ -89,17 +89,17 @@ followed_on old new run numbering since t s simulation kept is = record {
   cursors = is.cursors;
   complete = is.complete;
   counted = is.counted;
-  tails = is.tails;
+  pending_outputs = is.pending_outputs;
   stimuli = is.stimuli;
 }
 
--- a re-evaluation with another history, other modules that have joined, another end of the window, and another time at which to look ahead
-abbrev pub renewed : Rerun → Vec ModuleId Global → History → ℕ → ℕ → Rerun
-renewed s joined history end look = record s { activity = record (s.activity) { joined = joined }; history = history; window_end = end; look_at = look }
+-- a re-evaluation with another recorder, other modules that have joined, another end of the window, and another time at which to look ahead
+abbrev pub renewed : Rerun → Vec ModuleId Global → RerunRecorder → ℕ → ℕ → Rerun
+renewed s joined recorder end look = record s { activity = record (s.activity) { joined = joined }; recorder = recorder; window_end = end; look_at = look }
 
-pub rerun_renewed : (old new : Circuit) (run : Outcome) (latest later t : ℕ) (s : Rerun) (joined : Vec ModuleId Global) (history : History) (end look : ℕ) → latest ≤ later → IsRerunAt old new run latest t s
-    → IsRerunAt old new run later t (renewed s joined history end look)
-rerun_renewed old new run latest later t s joined history end look le is = record {
+pub rerun_renewed : (old new : Circuit) (run : Outcome) (latest later t : ℕ) (s : Rerun) (joined : Vec ModuleId Global) (recorder : RerunRecorder) (end look : ℕ) → latest ≤ later → IsRerunAt old new run latest t s
+    → IsRerunAt old new run later t (renewed s joined recorder end look)
+rerun_renewed old new run latest later t s joined recorder end look le is = record {
   numbering = is.numbering;
   since = is.since;
   is = record {
@@ -115,7 +115,7 @@ rerun_renewed old new run latest later t s joined history end look le is = recor
       cursors = is.is.followed.cursors;
       complete = is.is.followed.complete;
       counted = is.is.followed.counted;
-      tails = is.is.followed.tails;
+      pending_outputs = is.is.followed.pending_outputs;
       stimuli = is.is.followed.stimuli;
     };
   };

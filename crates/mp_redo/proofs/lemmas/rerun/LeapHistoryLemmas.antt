@@ -1,4 +1,4 @@
--- The history of windows in which nobody is active.
+-- The recorder of windows in which nobody is active.
 use Rattle.std.proofs.Common.{◌≡◌, ℕ, zero, suc, ◌+◌, ◌-◌, ◌%◌, ◌<◌, ◌≤◌, Bool, true, [], IsSome, refl, sym, subst, arith, inl, inr}
 use Rattle.std.proofs.lemmas.Bool.{cases_eq, cases_lt}
 use Rattle.mp_records.specs.declared.ids.ModuleId.{ModuleId}
@@ -14,10 +14,10 @@ use Rattle.mp_depend.proofs.lemmas.work.MultipleLemmas.{rest_le, whole_rest, who
 use Rattle.mp_depend.proofs.lemmas.work.PartLemmas.{next_begins}
 use Rattle.mp_depend.proofs.lemmas.work.WindowLemmas.{window_within, windows_apart, same_block}
 use Rattle.mp_active.specs.agreement.Sleeping.{AreSleeping}
-use Rattle.mp_depend.specs.declared.history.history.History.{History}
-use Rattle.mp_depend.specs.history.Histories.{IsHistory}
-use Rattle.mp_depend.specs.history.Live.{AreAtWork, JoinInWindow}
-use Rattle.mp_depend.proofs.lemmas.history.HistoryLemmas.{kept_all, idle_history}
+use Rattle.mp_depend.specs.declared.recording.rerun_recorder.RerunRecorder.{RerunRecorder}
+use Rattle.mp_depend.specs.recording.Recorders.{IsRecorder}
+use Rattle.mp_depend.specs.recording.Live.{AreAtWork, JoinInWindow}
+use Rattle.mp_depend.proofs.lemmas.recording.HistoryLemmas.{kept_all, idle_history}
 use Rattle.mp_redo.proofs.lemmas.rerun.KeepingLemmas.{next_border, sleepers_kept}
 use Rattle.mp_redo.proofs.lemmas.rerun.WindowLemmas.{border_block, inner_block}
 
@@ -31,19 +31,19 @@ block_later horizon t later le =
     let low = rest_le t units in
     whole_from units (block_of horizon t) later positive (whole_rest t units positive) (omega (arith, low, le))
 
--- ---- the history goes on, window by window
+-- ---- the recorder goes on, window by window
 
 module _ (old n : Circuit) (old_ok : IsCircuit old) (ok : IsCircuit n) (revised : IsRevision old n) (run : Outcome) (is_run : IsRun old run) where
   module _ (active : ℕ → Bool) (since : ℕ → ℕ) (from to : ℕ) (some : 0 < from) (inside : to ≤ n.horizon) (ends : to < n.horizon → window_of n to ≡ to)
       (early : (m : ℕ) → since m < block_of n.horizon (from - 1) + 1) (sleeping : (t : ℕ) → from ≤ t → t < to → AreSleeping old n active since (t - 1))
-      (works : (c u : ℕ) → block_of n.horizon (from - 1) ≤ c → c ≤ to → u ≤ to → AreAtWork old n c u active) (not_live : (m : ℕ) → IsSome (module_at n m) → active m ≡ true → ⊥) (history : History) where
+      (works : (c u : ℕ) → block_of n.horizon (from - 1) ≤ c → c ≤ to → u ≤ to → AreAtWork old n c u active) (not_live : (m : ℕ) → IsSome (module_at n m) → active m ≡ true → ⊥) (recorder : RerunRecorder) where
     -- before a time at which a window begins or ends
     abbrev IsIdleAt : ℕ → Type 0
-    IsIdleAt t = IsHistory old n run (λ m. block_of n.horizon (t - 1)) t active history
+    IsIdleAt t = IsRecorder old n run (λ m. block_of n.horizon (t - 1)) t active recorder
 
     -- in the block of the time
-    crossed : (t : ℕ) → from ≤ t → t < to → IsIdleAt t → IsHistory old n run (λ m. block_of n.horizon t) t active history
-    crossed t low less is = elim (cases_eq (t % checkpoint_units n.horizon) 0) as (λ _. IsHistory old n run (λ m. block_of n.horizon t) t active history) [
+    crossed : (t : ℕ) → from ≤ t → t < to → IsIdleAt t → IsRecorder old n run (λ m. block_of n.horizon t) t active recorder
+    crossed t low less is = elim (cases_eq (t % checkpoint_units n.horizon) 0) as (λ _. IsRecorder old n run (λ m. block_of n.horizon t) t active recorder) [
       | inl border ↦
           let below : t < n.horizon = omega (arith, less, inside) in
           let first : 0 < t = omega (arith, low, some) in
@@ -51,19 +51,19 @@ module _ (old n : Circuit) (old_ok : IsCircuit old) (ok : IsCircuit n) (revised 
           let reach = block_later n.horizon (from - 1) (t - 1) (omega (arith, low)) in
           let least = rest_le (t - 1) (checkpoint_units n.horizon) in
           let states = sleepers_kept old n old_ok ok revised run is_run active since (block_of n.horizon (from - 1)) t border first below (omega (arith, reach, least)) early (sleeping t low less) in
-          subst (λ b. IsHistory old n run (λ m. b) t active history) (sym begins)
-          (kept_all old n run (λ m. block_of n.horizon (t - 1)) t active history is (block_of n.horizon (t - 1)) t (next_border n t border first below) states
+          subst (λ b. IsRecorder old n run (λ m. b) t active recorder) (sym begins)
+          (kept_all old n run (λ m. block_of n.horizon (t - 1)) t active recorder is (block_of n.horizon (t - 1)) t (next_border n t border first below) states
           (λ m off. refl) (λ m stands on. absurd (not_live m stands on)))
       | inr other ↦
           let same = inner_block n.horizon t other (omega (arith, low, some)) in
-          subst (λ b. IsHistory old n run (λ m. b) t active history) same is
+          subst (λ b. IsRecorder old n run (λ m. b) t active recorder) same is
     ]
 
     one_window : (t end : ℕ) → from ≤ t → t < to → end ≤ to → IsWindow n t end → IsIdleAt t → IsIdleAt end
     one_window t end low less reach window is =
         let within = window_within n ok t end window in
-        subst (λ b. IsHistory old n run (λ m. b) end active history) (sym (same_block n.horizon t end within.1 within.2))
-        (idle_history old n run (block_of n.horizon t) t end active history none (crossed t low less is))
+        subst (λ b. IsRecorder old n run (λ m. b) end active recorder) (sym (same_block n.horizon t end within.1 within.2))
+        (idle_history old n run (block_of n.horizon t) t end active recorder none (crossed t low less is))
       where
         none : JoinInWindow old n (block_of n.horizon t) t end [] active active
         none =

@@ -4,7 +4,7 @@ use Rattle.std.specs.List.{Contains}
 use Rattle.std.proofs.lemmas.Bool.{ne_eqb}
 use Rattle.mp_records.specs.declared.ids.ModuleId.{ModuleId}
 use Rattle.mp_netlist.specs.Circuit.{Circuit, IsCircuit, module_at}
-use Rattle.mp_kernel.specs.calendar.Calendars.{never, time_of, IsCalendar}
+use Rattle.mp_kernel.specs.timers.TimerWheels.{never, time_of, IsTimerWheel}
 use Rattle.mp_simulation.specs.bits.Simulators.{slot_at}
 use Rattle.mp_simulation.specs.bits.Simulations.{copy_slot}
 use Rattle.mp_kernel.proofs.lemmas.events.EmptyLemmas.{empty_next}
@@ -20,7 +20,7 @@ use Rattle.mp_active.specs.agreement.Reading.{QuietWhereAlike, SleepersReadAlike
 use Rattle.mp_active.specs.agreement.Resting.{SleepersRest}
 use Rattle.mp_active.specs.agreement.Sleeping.{SleepersSleepOn}
 use Rattle.mp_active.specs.agreement.Sources.{SleepersDriveAlike, WiresAgree}
-use Rattle.mp_depend.specs.history.Live.{AreAtWork, IsListed}
+use Rattle.mp_depend.specs.recording.Live.{AreAtWork, IsListed}
 use Rattle.mp_active.specs.excerpt.Excerpts.{excerpt, ExcerptsAreCircuits}
 use Rattle.mp_active.specs.excerpt.Numberings.{Numbering}
 use Rattle.mp_active.specs.excerpt.Renumbering.{UnitsShow}
@@ -48,13 +48,13 @@ pub record LeapLaws : Type 0 where
   pub sets : SetsAreStimuli
   pub units : UnitsShow
 
--- nothing is under way in the simulation; before a time no change is due, and no number; and the calendar can be so late
+-- nothing is under way in the simulation; before a time no change is due, and no number; and the timer wheel can be so late
 pub record CanLeap (time : ℕ) (s : Rerun) : Type 0 where
   pub rest : IsAtRest s.simulation
   pub stimuli : AreFrom time (left_of s.stimuli)
-  pub tails : AreFrom time (left_of s.tails)
-  pub calendar : IsCalendar (time - 1) [] s.comparison.calendar
-  pub times : (x : ℕ) → time_of s.comparison.calendar x ≢ never → time - 1 < time_of s.comparison.calendar x
+  pub pending_outputs : AreFrom time (left_of s.pending_outputs)
+  pub timers : IsTimerWheel (time - 1) [] s.comparison.timers
+  pub times : (x : ℕ) → time_of s.comparison.timers x ≢ never → time - 1 < time_of s.comparison.timers x
 
 pub none_due_before : (u time : ℕ) (ss : List StimulusChange) → u < time → AreFrom time ss → is_due u ss ≡ false
 none_due_before u time [] early from = refl
@@ -72,12 +72,12 @@ leap_heard u time s early low can = record {
   copies = none_tracked s.comparison u (copy_slot s.simulation.bits.copies 0) (empty_next s.simulation.bits.copies.wheel can.rest.bits.copies);
   levels = empty_next s.simulation.wires.wheel can.rest.changes;
   stimuli = none_due_before u time (left_of s.stimuli) early can.stimuli;
-  tails = none_due_before u time (left_of s.tails) early can.tails;
-  calendar = later_due (time - 1) u s.comparison (omega (arith, early)) low can.times;
+  pending_outputs = none_due_before u time (left_of s.pending_outputs) early can.pending_outputs;
+  timers = later_due (time - 1) u s.comparison (omega (arith, early)) low can.times;
 }
 
--- a calendar that can be late can be less late
-pub less_late : (t u : ℕ) (s : Rerun) → u ≤ t → IsCalendar t [] s.comparison.calendar → IsCalendar u [] s.comparison.calendar
+-- a timer wheel that can be late can be less late
+pub less_late : (t u : ℕ) (s : Rerun) → u ≤ t → IsTimerWheel t [] s.comparison.timers → IsTimerWheel u [] s.comparison.timers
 less_late t u s early is = record {
   some = is.some;
   span = is.span;
@@ -102,8 +102,8 @@ module _ (old n : Circuit) (old_ok : IsCircuit old) (ok : IsCircuit n) (revised 
       record {
         shows = laws.units n ok (active_of s) (on_of s) ports numbering t (t + 1) s.simulation s.simulation below is.shows next
             (record { rows = refl; outputs = refl; next = refl; data_next = refl; units = refl; copy_units = refl; change_units = refl; places = refl; seats = refl });
-        followed = quiet_followed old n old_ok ok revised run is_run numbering since t below s is nothing laws.wires laws.readers laws.alike laws.sleep_on s s.comparison.calendar refl refl refl
-            (less_late (time - 1) (t + 1) s (omega (arith, early)) can.calendar) refl refl;
+        followed = quiet_followed old n old_ok ok revised run is_run numbering since t below s is nothing laws.wires laws.readers laws.alike laws.sleep_on s s.comparison.timers refl refl refl
+            (less_late (time - 1) (t + 1) s (omega (arith, early)) can.timers) refl refl;
       }
 
   some_units : (k t : ℕ) → t + k < time → IsRerunBy old n run numbering since t s → IsRerunBy old n run numbering since (t + k) s
@@ -118,7 +118,7 @@ module _ (old n : Circuit) (old_ok : IsCircuit old) (ok : IsCircuit n) (revised 
       subst (λ v. IsRerunBy old n run numbering since v s) e (some_units (u - t) t (omega (arith, low, early)) is)
 
   -- ---- nobody is at work
-  module _ (latest last : ℕ) (is : IsRerunBy old n run numbering since last s) (early : (m : ℕ) → since m < latest + 1) (listed : IsListed n (active_of s) s.history.live.items) (nobody : s.history.live.items ≡ []) where
+  module _ (latest last : ℕ) (is : IsRerunBy old n run numbering since last s) (early : (m : ℕ) → since m < latest + 1) (listed : IsListed n (active_of s) s.recorder.live.items) (nobody : s.recorder.live.items ≡ []) where
     pub not_live : (m : ℕ) → IsSome (module_at n m) → active_of s m ≡ true → ⊥
     not_live m stands on = none_in (let id : ModuleId = record { 0 = m } in id) (subst (λ (xs : List ModuleId). Contains xs (record { 0 = m })) nobody (listed m stands on))
 

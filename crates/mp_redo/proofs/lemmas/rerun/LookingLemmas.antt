@@ -35,7 +35,7 @@ looked_by old n run numbering since t s new looked cursors is =
         cursors = subst (λ (r : Rerun). HasCursors run t [] r.comparison) looked cursors;
         complete = f.complete;
         counted = f.counted;
-        tails = f.tails;
+        pending_outputs = f.pending_outputs;
         stimuli = f.stimuli;
       };
     })

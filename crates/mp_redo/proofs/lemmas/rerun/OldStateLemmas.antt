@@ -29,7 +29,7 @@ use Rattle.mp_response.specs.Span.{IsSpan}
 use Rattle.mp_response.specs.Delays as spans
 use Rattle.mp_response.proofs.JoinLemmas.{inside_alone}
 use Rattle.mp_response.proofs.DelayLemmas.{ends_in_state}
-use Rattle.mp_depend.specs.history.Ledgers.{state_in}
+use Rattle.mp_depend.specs.recording.Overlays.{state_in}
 use Rattle.mp_depend.specs.work.Work.{block_of}
 use Rattle.mp_depend.proofs.lemmas.work.MultipleLemmas.{whole_rest}
 use Rattle.mp_active.specs.compare.Comparing.{wave_or_none, old_wave}

@@ -107,7 +107,7 @@ module _ (old new : Circuit) (run : Outcome) (old_ok : IsCircuit old) (ok : IsCi
 
   -- ---- the tail
   abbrev rest : List StimulusChange
-  rest = left_of s.tails
+  rest = left_of s.pending_outputs
 
   followed_here : is_followed (active_of was) (driver new w) ≡ true
   followed_here = ap (is_followed (active_of was)) port ∙ ap not next.can.asleep
@@ -122,12 +122,12 @@ module _ (old new : Circuit) (run : Outcome) (old_ok : IsCircuit old) (ok : IsCi
       right false = refl
 
   counted : (u : ℕ) → t < u → count_by (is_change w u) rest ≡ bit (change_at new w u && nat_lt u (until_of s w))
-  counted u later = next.back.tails.each w u later ∙ ap (λ b. bit (change_at new w u && b)) (comes u)
+  counted u later = next.back.pending_outputs.each w u later ∙ ap (λ b. bit (change_at new w u && b)) (comes u)
 
   pub tails_in : (wide : Bool) → wide ≡ is_data new w → AreTailsIn w t (until_of s w) (room wide s.simulation) wide rest
   tails_in wide sort = λ k d low here.
       let x = slice_index_or rest k d in
-      let later = from_each (t + 1) rest next.back.tails.listed k d low in
+      let later = from_each (t + 1) rest next.back.pending_outputs.listed k d low in
       let one = counted_there (is_change w x.time) rest k d low (ap (λ b. b && (x.time == x.time)) (eq-eqb x.wire w here) ∙ eq-eqb x.time x.time refl) in
       let count = counted x.time (omega (arith, later)) in
       let before = ltb-true x.time (until_of s w) (and_parts (change_at new w x.time) (nat_lt x.time (until_of s w)) (some_bit (change_at new w x.time && nat_lt x.time (until_of s w)) (omega (arith, one, count)))).1 in
@@ -135,7 +135,7 @@ module _ (old new : Circuit) (run : Outcome) (old_ok : IsCircuit old) (ok : IsCi
         later = omega (arith, later);
         before = before;
         within = let last = until_low in let enough = has_room wide in omega (arith, before, last, enough);
-        sort = (next.back.tails.set k d low).sort ∙ ap (is_data new) here ∙ sym sort;
+        sort = (next.back.pending_outputs.set k d low).sort ∙ ap (is_data new) here ∙ sym sort;
       }
 
   abbrev own : ℕ
@@ -153,11 +153,11 @@ module _ (old new : Circuit) (run : Outcome) (old_ok : IsCircuit old) (ok : IsCi
   tail_are : AreChangesOf new w t t own tail_entries
   tail_are = record {
     each = λ k x.
-        count_tail new w t k x (t + 1) rest (omega arith) next.back.tails.listed ∙ ap (λ j. cond (w == x) j 0) (counted (t + 1 + k) (omega arith))
+        count_tail new w t k x (t + 1) rest (omega arith) next.back.pending_outputs.listed ∙ ap (λ j. cond (w == x) j 0) (counted (t + 1 + k) (omega arith))
         ∙ both_bit (w == x) (change_at new w (t + 1 + k) && nat_lt (t + 1 + k) (until_of s w))
         ∙ ap (λ b. bit ((w == x) && (change_at new w (t + 1 + k) && b))) (sym (own_later (t + 1 + k) (omega arith)))
         ∙ ap (λ b. bit ((w == x) && (change_at new w (t + 1 + k) && (b && nat_lt (t + 1 + k) own)))) (sym (lt-ltb t (t + 1 + k) (omega arith)));
-    own = own_tail new w t (t + 1) rest (omega arith) next.back.tails.listed;
+    own = own_tail new w t (t + 1) rest (omega arith) next.back.pending_outputs.listed;
   }
 
   tail_put : (wide : Bool) (sim : NetlistSimulation) → wide ≡ is_data new w → HasPut wide (entries_of w t (tail_of w rest)) s.simulation sim → HasPut wide tail_entries s.simulation sim
@@ -165,7 +165,7 @@ module _ (old new : Circuit) (run : Outcome) (old_ok : IsCircuit old) (ok : IsCi
       put_as wide (entries_of w t (tail_of w rest)) tail_entries s.simulation sim (tail_toggles new w t rest)
       (λ is. ap (entries_of w t) (tail_levels new w rest (λ k d low here.
       let x = slice_index_or rest k d in
-      let set = next.back.tails.set k d low in
+      let set = next.back.pending_outputs.set k d low in
       set.level (set.sort ∙ ap (is_data new) here ∙ sym sort ∙ is) ∙ ap (λ v. level new v x.time) here))) put
 
   -- ---- the changes of the old run, up to the horizon
@@ -187,9 +187,9 @@ module _ (old new : Circuit) (run : Outcome) (old_ok : IsCircuit old) (ok : IsCi
   driver_is = ap (driver_delay new) port ∙ ap (λ x. delay_in x p) next.stands ∙ delay_is
 
   module _ (entries : List (ℕ × LevelChange)) (are : AreChangesOf new w t t (t + 1 + output.delay) entries) (sim : NetlistSimulation) (put : HasPut (is_data new w) entries s.simulation sim)
-      (tails : HeardChanges) (left : left_of tails ≡ others_of w rest) where
+      (pending_outputs : HeardChanges) (left : left_of pending_outputs ≡ others_of w rest) where
     abbrev after : Rerun
-    after = record s { simulation = sim; tails = tails }
+    after = record s { simulation = sim; pending_outputs = pending_outputs }
 
     abbrev wires : ℕ → Bool
     wires v = next.wires v || (v == w)
@@ -199,20 +199,20 @@ module _ (old new : Circuit) (run : Outcome) (old_ok : IsCircuit old) (ok : IsCi
         puts_ahead new next.numbering t w next.wires was.simulation s.simulation sim entries (next.fresh w wire_is) (next.can.nothing p w drives) next.back.ahead
         (subst (λ d. AreChangesOf new w t t (t + 1 + d) entries) (sym driver_is) are) put
 
-    come : AreToCome new (λ v u. is_tail new (active_of was) (until_of was) v u && not (wires v)) t (left_of tails)
+    come : AreToCome new (λ v u. is_tail new (active_of was) (until_of was) v u && not (wires v)) t (left_of pending_outputs)
     come = subst (λ (ss : List StimulusChange). AreToCome new (λ v u. is_tail new (active_of was) (until_of was) v u && not (wires v)) t ss) (sym left) (record {
-      listed = others_from w (t + 1) rest next.back.tails.listed;
+      listed = others_from w (t + 1) rest next.back.pending_outputs.listed;
       each = λ v u later.
-          count_others w v u rest ∙ ap (λ k. cond (v == w) 0 k) (next.back.tails.each v u later)
+          count_others w v u rest ∙ ap (λ k. cond (v == w) 0 k) (next.back.pending_outputs.each v u later)
           ∙ gone (next.wires v) (v == w) (change_at new v u) (is_tail new (active_of was) (until_of was) v u);
-      set = others_all (IsSetting new) w rest next.back.tails.set;
+      set = others_all (IsSetting new) w rest next.back.pending_outputs.set;
     })
 
     back_more : AreBack new next.numbering t wires was after
     back_more = record {
-      kept = ap (λ (x : Rerun). (let y : Rerun = record x { simulation = sim; tails = tails } in y)) next.back.kept;
+      kept = ap (λ (x : Rerun). (let y : Rerun = record x { simulation = sim; pending_outputs = pending_outputs } in y)) next.back.kept;
       ahead = ahead;
-      tails = come;
+      pending_outputs = come;
     }
 
     pub is_back : AreBack new next.numbering t (λ v. next.wires v || is_wire output.wire v) was after
@@ -237,9 +237,9 @@ module _ (old new : Circuit) (run : Outcome) (old_ok : IsCircuit old) (ok : IsCi
       is ∙ get_or_default s.comparison.numbers.have_data.items w kind false kind_place ∙ ap (λ (c : Comparison). slice_index_or c.numbers.have_data.items w false) same_comparison ∙ followed.numbered.with_data w stands
 
   -- ---- what the old run's wave doesn't have
-  pub can_put_last : (from : ℕ) → until_of s w ≤ from → from < t + 1 + output.delay → (sim2 : NetlistSimulation) (tails : HeardChanges) (s2 : Rerun) → s2 ≡ record s { simulation = sim2; tails = tails } →
+  pub can_put_last : (from : ℕ) → until_of s w ≤ from → from < t + 1 + output.delay → (sim2 : NetlistSimulation) (pending_outputs : HeardChanges) (s2 : Rerun) → s2 ≡ record s { simulation = sim2; pending_outputs = pending_outputs } →
       ((kind : Bool) → room kind sim2 ≡ room kind s.simulation) → CanPutLast old new t m p r w from s2
-  can_put_last from late some sim2 tails s2 before rooms = record {
+  can_put_last from late some sim2 pending_outputs s2 before rooms = record {
     kept = sleeping.kept;
     output = output_is;
     some = let same = delay_is in omega (arith, some, same);
@@ -254,8 +254,8 @@ module _ (old new : Circuit) (run : Outcome) (old_ok : IsCircuit old) (ok : IsCi
   module _ (wide : Bool) (sort : wide ≡ is_data new w) (wave : Waveform) (found : Some wave ≡ wave_of run w) (first kept : ℕ) (first_is : first ≡ max (until_of s w) (t + 1)) (from : first ≤ kept)
       (upto : kept ≤ t + 1 + output.delay) (below : first < kept → kept ≤ new.horizon)
       (sim1 sim2 : NetlistSimulation) (tail : HasPut wide (entries_of w t (tail_of w rest)) s.simulation sim1)
-      (changes : HasPut wide (entries_of w t (between (first - 1) kept wave.changes)) sim1 sim2) (tails : HeardChanges) (left : left_of tails ≡ others_of w rest)
-      (s2 : Rerun) (before : s2 ≡ record s { simulation = sim2; tails = tails }) where
+      (changes : HasPut wide (entries_of w t (between (first - 1) kept wave.changes)) sim1 sim2) (pending_outputs : HeardChanges) (left : left_of pending_outputs ≡ others_of w rest)
+      (s2 : Rerun) (before : s2 ≡ record s { simulation = sim2; pending_outputs = pending_outputs }) where
     abbrev old_entries : List (ℕ × LevelChange)
     old_entries = entries_of w t (between (first - 1) kept wave.changes)
 
@@ -278,16 +278,16 @@ module _ (old new : Circuit) (run : Outcome) (old_ok : IsCircuit old) (ok : IsCi
     pub two_back : kept ≡ t + 1 + output.delay → AreBack new next.numbering t (λ v. next.wires v || is_wire output.wire v) was s2
     two_back all =
         subst (λ (x : Rerun). AreBack new next.numbering t (λ v. next.wires v || is_wire output.wire v) was x) (sym before)
-        (is_back front (subst (λ to. AreChangesOf new w t t to front) all front_are) sim2 front_put tails left)
+        (is_back front (subst (λ to. AreChangesOf new w t t to front) all front_are) sim2 front_put pending_outputs left)
 
     pub three_back : (s3 : Rerun) → HasPutSpan new w t (kept - 1) (t + 1 + output.delay) s2 s3 → AreBack new next.numbering t (λ v. next.wires v || is_wire output.wire v) was s3
     three_back s3 last =
         subst (λ (x : Rerun). AreBack new next.numbering t (λ v. next.wires v || is_wire output.wire v) was x) (sym made)
         (is_back (front ++ last.entries) (spans_join new w t t kept (t + 1 + output.delay) front last.entries later upto front_are last.are) s3.simulation
-        (put_both (is_data new w) front last.entries s.simulation sim2 s3.simulation front_put (subst (λ (x : Rerun). HasPut (is_data new w) last.entries x.simulation s3.simulation) before last.put)) tails left)
+        (put_both (is_data new w) front last.entries s.simulation sim2 s3.simulation front_put (subst (λ (x : Rerun). HasPut (is_data new w) last.entries x.simulation s3.simulation) before last.put)) pending_outputs left)
       where
         later : t < kept
         later = let low = own_before in omega (arith, low)
 
-        made : s3 ≡ record s { simulation = s3.simulation; tails = tails }
+        made : s3 ≡ record s { simulation = s3.simulation; pending_outputs = pending_outputs }
         made = last.kept ∙ ap (λ (x : Rerun). (let y : Rerun = record x { simulation = s3.simulation } in y)) before

@@ -14,9 +14,9 @@ use Rattle.mp_redo.specs.rerun.Reruns.{IsFollowed, active_of, on_of, until_of}
 use Rattle.mp_redo.proofs.lemmas.rerun.ToComeLemmas.{later_to_come}
 
 pub followed_on : (old n : Circuit) (run : Outcome) (numbering : Numbering) (since : ℕ → ℕ) (t : ℕ) (s new : Rerun) → HasSet s new → SleepersSleepOn → NoneIsApart old n (active_of s) (t + 1) →
-    HasCursors run (t + 1) [] new.comparison → IsComplete run (t + 1) new.comparison → left_of new.stimuli ≡ changes_after (t + 1) (left_of s.stimuli) → left_of new.tails ≡ changes_after (t + 1) (left_of s.tails) →
+    HasCursors run (t + 1) [] new.comparison → IsComplete run (t + 1) new.comparison → left_of new.stimuli ≡ changes_after (t + 1) (left_of s.stimuli) → left_of new.pending_outputs ≡ changes_after (t + 1) (left_of s.pending_outputs) →
     IsFollowed old n run numbering since t s → IsFollowed old n run numbering since (t + 1) new
-followed_on old n run numbering since t s new kept sleep_on none cursors complete stimuli tails f =
+followed_on old n run numbering since t s new kept sleep_on none cursors complete stimuli pending_outputs f =
     subst (IsFollowed old n run numbering since (t + 1)) (sym kept) (record {
       numbered = record {
         count = f.numbered.count;
@@ -37,7 +37,7 @@ followed_on old n run numbering since t s new kept sleep_on none cursors complet
       cursors = subst (λ (r : Rerun). HasCursors run (t + 1) [] r.comparison) kept cursors;
       complete = subst (λ (r : Rerun). IsComplete run (t + 1) r.comparison) kept complete;
       counted = f.counted;
-      tails = subst (AreTails n (active_of s) (until_of s) (t + 1)) (sym tails) (later_to_come n (is_tail n (active_of s) (until_of s)) t (left_of s.tails) f.tails);
+      pending_outputs = subst (AreTails n (active_of s) (until_of s) (t + 1)) (sym pending_outputs) (later_to_come n (is_tail n (active_of s) (until_of s)) t (left_of s.pending_outputs) f.pending_outputs);
       stimuli = subst (AreSetAnew n (until_of s) (t + 1)) (sym stimuli) (later_to_come n (is_set_anew n (until_of s)) t (left_of s.stimuli) f.stimuli);
     })
 
@@ -50,11 +50,11 @@ set_there n time s new kept are =
 
 -- the same at a time that comes next
 pub followed_at : (old n : Circuit) (run : Outcome) (numbering : Numbering) (since : ℕ → ℕ) (t time : ℕ) (s new : Rerun) → t + 1 ≡ time → HasSet s new → SleepersSleepOn → NoneIsApart old n (active_of s) time →
-    HasCursors run time [] new.comparison → IsComplete run time new.comparison → left_of new.stimuli ≡ changes_after time (left_of s.stimuli) → left_of new.tails ≡ changes_after time (left_of s.tails) →
+    HasCursors run time [] new.comparison → IsComplete run time new.comparison → left_of new.stimuli ≡ changes_after time (left_of s.stimuli) → left_of new.pending_outputs ≡ changes_after time (left_of s.pending_outputs) →
     IsFollowed old n run numbering since t s → IsFollowed old n run numbering since time new
-followed_at old n run numbering since t time s new next kept sleep_on none cursors complete stimuli tails f =
+followed_at old n run numbering since t time s new next kept sleep_on none cursors complete stimuli pending_outputs f =
     let back = sym next in
     subst (λ u. IsFollowed old n run numbering since u new) next
     (followed_on old n run numbering since t s new kept sleep_on (subst (NoneIsApart old n (active_of s)) back none) (subst (λ u. HasCursors run u [] new.comparison) back cursors)
     (subst (λ u. IsComplete run u new.comparison) back complete) (subst (λ u. left_of new.stimuli ≡ changes_after u (left_of s.stimuli)) back stimuli)
-    (subst (λ u. left_of new.tails ≡ changes_after u (left_of s.tails)) back tails) f)
+    (subst (λ u. left_of new.pending_outputs ≡ changes_after u (left_of s.pending_outputs)) back pending_outputs) f)

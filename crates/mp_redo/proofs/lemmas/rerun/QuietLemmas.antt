@@ -9,7 +9,7 @@ use Rattle.mp_netlist.specs.Drivers.{driver}
 use Rattle.mp_model.specs.Waves.{level}
 use Rattle.mp_kernel.specs.automata.Codes.{bit}
 use Rattle.mp_kernel.specs.events.Adding.{listed}
-use Rattle.mp_kernel.specs.calendar.Calendars.{never}
+use Rattle.mp_kernel.specs.timers.TimerWheels.{never}
 use Rattle.mp_simulation.specs.bits.Changes.{change_at, late_change}
 use Rattle.mp_simulation.specs.bits.Simulators.{slot_at}
 use Rattle.mp_simulation.specs.bits.Simulations.{copy_slot}
@@ -64,8 +64,8 @@ pub record NothingIsHeard (u : ℕ) (s : Rerun) : Type 0 where
   pub copies : AreUntracked s.comparison u (copy_slot s.simulation.bits.copies 0)
   pub levels : data_slot s.simulation.wires.wheel 0 ≡ []
   pub stimuli : is_due u (left_of s.stimuli) ≡ false
-  pub tails : is_due u (left_of s.tails) ≡ false
-  pub calendar : NoneIsDue u s.comparison
+  pub pending_outputs : is_due u (left_of s.pending_outputs) ≡ false
+  pub timers : NoneIsDue u s.comparison
 
 -- none of no numbers is tracked
 pub none_tracked : (c : Comparison) (u : ℕ) (xs : List ℕ) → xs ≡ [] → AreUntracked c u xs
@@ -113,8 +113,8 @@ module _ (old n : Circuit) (old_ok : IsCircuit old) (ok : IsCircuit n) (revised 
       let some = ltb-true 0 (source_at c w).until may.1 in
       let count = is.followed.numbered.count in
       let bright : on_of s (numbering.source x).0 ≡ true = ap (λ (r : ℕ × ℕ). on_of s r.0) told ∙ is.followed.lit w some in
-      let comes = all_come n ok (active_of s) (on_of s) numbering t s.simulation is.shows (is_set_anew n (until_of s)) (is_tail n (active_of s) (until_of s)) (left_of s.stimuli) (left_of s.tails)
-      is.followed.stimuli is.followed.tails x (omega (arith, within, count)) bright
+      let comes = all_come n ok (active_of s) (on_of s) numbering t s.simulation is.shows (is_set_anew n (until_of s)) (is_tail n (active_of s) (until_of s)) (left_of s.stimuli) (left_of s.pending_outputs)
+      is.followed.stimuli is.followed.pending_outputs x (omega (arith, within, count)) bright
       (λ own.
       let wire : w ≡ x = ap (λ (r : ℕ × ℕ). r.0) (sym told ∙ own) in
       let none : d ≡ 0 = ap (λ (r : ℕ × ℕ). r.1) (sym told ∙ own) in
@@ -123,10 +123,10 @@ module _ (old n : Circuit) (old_ok : IsCircuit old) (ok : IsCircuit n) (revised 
       let a = untracked c (t + 1) (slot_at s.simulation.bits.simulator 0) x nothing.wires tracked in
       let b = untracked c (t + 1) (copy_slot s.simulation.bits.copies 0) x nothing.copies tracked in
       let e = ap (listed x) (no_bits (t + 1) (left_of s.stimuli) nothing.stimuli) in
-      let f = ap (listed x) (no_bits (t + 1) (left_of s.tails) nothing.tails) in
+      let f = ap (listed x) (no_bits (t + 1) (left_of s.pending_outputs) nothing.pending_outputs) in
       let g = ap (changes_of x) nothing.levels in
       let h = ap (changes_of x) (no_levels (t + 1) (left_of s.stimuli) nothing.stimuli) in
-      let i = ap (changes_of x) (no_levels (t + 1) (left_of s.tails) nothing.tails) in
+      let i = ap (changes_of x) (no_levels (t + 1) (left_of s.pending_outputs) nothing.pending_outputs) in
       let rests : bit (late_change n (numbering.source x) (t + 1)) ≡ 0 = omega (arith, comes, a, b, e, f, g, h, i) in
       let same = the_same (level n (numbering.source x).0 (t - (numbering.source x).1)) (level n (numbering.source x).0 (t + 1 - (numbering.source x).1))
       (ap bit (late_differs n ok (numbering.source x) t) ∙ rests) in
@@ -138,7 +138,7 @@ module _ (old n : Circuit) (old_ok : IsCircuit old) (ok : IsCircuit n) (revised 
       reads_alike : (x : ℕ) → 0 < asleep_at s.comparison x → late_at old (numbering.source x) (t + 1) ≡ late_at n (numbering.source x) (t + 1)
       reads_alike x some =
           let told = is.followed.numbered.source x (is_number run t [] s.comparison x is.followed.cursors some) in
-          let same = none_departs (level old) run t s.comparison is.followed.cursors nothing.calendar was is.followed.complete (level n)
+          let same = none_departs (level old) run t s.comparison is.followed.cursors nothing.timers was is.followed.complete (level n)
           (agree_from old n old_ok ok revised run numbering since t s is wires (t + 1) refl below) (agree_asleep old n old_ok ok revised run numbering since t s is readers) stays x some in
           ap (λ (r : ℕ × ℕ). late_at old r (t + 1)) told ∙ same ∙ sym (ap (λ (r : ℕ × ℕ). late_at n r (t + 1)) told)
 
@@ -164,7 +164,7 @@ module _ (old n : Circuit) (old_ok : IsCircuit old) (ok : IsCircuit n) (revised 
     rests_outside sleepers w =
         let sum = outside_split n ok old (active_of s) since (until_of s) is.followed.sources (on_of s) (change_at old w (t + 1)) w (t + 1) (is.followed.lit w) below
         (λ soon. follows_on old n old_ok ok revised wires sleepers (active_of s) since (until_of s) t below is.followed.sleeping is.followed.sources w soon) in
-        let set : is_set (level old) (t + 1) s.comparison w ≡ false = none_set (level old) run t s.comparison is.followed.cursors nothing.calendar was is.followed.complete w below in
+        let set : is_set (level old) (t + 1) s.comparison w ≡ false = none_set (level old) run t s.comparison is.followed.cursors nothing.timers was is.followed.complete w below in
         let none : bit (is_set (level old) (t + 1) s.comparison w) ≡ 0 = ap bit set in
         let anew = is_set_anew n (until_of s) in
         let tail = is_tail n (active_of s) (until_of s) in
@@ -172,8 +172,8 @@ module _ (old n : Circuit) (old_ok : IsCircuit old) (ok : IsCircuit n) (revised 
         (sym (bits_to_come n anew t (left_of s.stimuli) is.followed.stimuli w) ∙ ap (listed w) (no_bits (t + 1) (left_of s.stimuli) nothing.stimuli))
         (sym (levels_to_come n anew t (left_of s.stimuli) is.followed.stimuli w) ∙ ap (changes_of w) (no_levels (t + 1) (left_of s.stimuli) nothing.stimuli)) in
         let b = both_parts (is_data n w) (bit (change_at n w (t + 1) && tail w (t + 1)))
-        (sym (bits_to_come n tail t (left_of s.tails) is.followed.tails w) ∙ ap (listed w) (no_bits (t + 1) (left_of s.tails) nothing.tails))
-        (sym (levels_to_come n tail t (left_of s.tails) is.followed.tails w) ∙ ap (changes_of w) (no_levels (t + 1) (left_of s.tails) nothing.tails)) in
+        (sym (bits_to_come n tail t (left_of s.pending_outputs) is.followed.pending_outputs w) ∙ ap (listed w) (no_bits (t + 1) (left_of s.pending_outputs) nothing.pending_outputs))
+        (sym (levels_to_come n tail t (left_of s.pending_outputs) is.followed.pending_outputs w) ∙ ap (changes_of w) (no_levels (t + 1) (left_of s.pending_outputs) nothing.pending_outputs)) in
         omega (arith, sum, none, a, b)
 
     pub none_outside : SleepersDriveAlike → (bits : List ℕ) (levels : List LevelChange) → bits ≡ [] → levels ≡ [] → AreSetOutside n (active_of s) (on_of s) bits levels (t + 1)

@@ -63,10 +63,10 @@ module _ (old new : Circuit) (run : Outcome) (ok : IsCircuit new) (numbering : N
     (is : IsRerunBy old new run numbering since t s) (lit : ArePortsLit new m (on_of s)) (at : module_at new m ≡ Some r) (asleep : active_of s m ≡ false) (stays : memory ≡ state new m t)
     (seat : HasSeat new m r memory s s2) (back : AreBack new numbering t (λ w. is_port_of m (driver new w)) s2 s3) where
   abbrev made : Rerun
-  made = record s { simulation = s3.simulation; tails = s3.tails; activity = record (s.activity) { seats = s2.activity.seats } }
+  made = record s { simulation = s3.simulation; pending_outputs = s3.pending_outputs; activity = record (s.activity) { seats = s2.activity.seats } }
 
   made_is : s3 ≡ made
-  made_is = back.kept ∙ ap (λ (x : Rerun). (let y : Rerun = record x { simulation = s3.simulation; tails = s3.tails } in y)) seat.kept
+  made_is = back.kept ∙ ap (λ (x : Rerun). (let y : Rerun = record x { simulation = s3.simulation; pending_outputs = s3.pending_outputs } in y)) seat.kept
 
   activated : IsActivated new (active_of s) numbering m t r s.simulation s3.simulation
   activated = by (module_width new r == 1) refl
@@ -95,7 +95,7 @@ module _ (old new : Circuit) (run : Outcome) (ok : IsCircuit new) (numbering : N
   wiring : HasSameWiring s.simulation s3.simulation
   wiring = wiring_more s.simulation s2.simulation s3.simulation (seat_wiring old new run ok numbering since t m r memory s s2 is at asleep seat) ahead_wiring
 
-  followed_made : IsFollowed old new run numbering since t (record made { tails = s.tails })
+  followed_made : IsFollowed old new run numbering since t (record made { pending_outputs = s.pending_outputs })
   followed_made = record {
     numbered = numbered_kept new numbering s.inputs.items s.comparison s.comparison s.simulation s3.simulation refl refl wiring is.followed.numbered;
     modules = is.followed.modules;
@@ -107,7 +107,7 @@ module _ (old new : Circuit) (run : Outcome) (ok : IsCircuit new) (numbering : N
     cursors = is.followed.cursors;
     complete = is.followed.complete;
     counted = is.followed.counted;
-    tails = is.followed.tails;
+    pending_outputs = is.followed.pending_outputs;
     stimuli = is.followed.stimuli;
   }
 
@@ -117,19 +117,19 @@ module _ (old new : Circuit) (run : Outcome) (ok : IsCircuit new) (numbering : N
   same_until : until_of s2 ≡ until_of s
   same_until = ap (λ (x : Rerun). until_of x) seat.kept
 
-  tails_made : AreTails new (with_module (active_of s) m) (until_of s) t (left_of s3.tails)
-  tails_made = subst (λ (comes : ℕ → ℕ → Bool). AreToCome new comes t (left_of s3.tails)) (fun_ext (λ w. fun_ext (λ u. no_more_tails (active_of s) m (driver new w) (nat_lt u (until_of s w)))))
-      (subst (λ (active : ℕ → Bool). AreToCome new (λ w u. is_tail new active (until_of s) w u && not (is_port_of m (driver new w))) t (left_of s3.tails)) same_active
-      (subst (λ (until : ℕ → ℕ). AreToCome new (λ w u. is_tail new (active_of s2) until w u && not (is_port_of m (driver new w))) t (left_of s3.tails)) same_until back.tails))
+  tails_made : AreTails new (with_module (active_of s) m) (until_of s) t (left_of s3.pending_outputs)
+  tails_made = subst (λ (comes : ℕ → ℕ → Bool). AreToCome new comes t (left_of s3.pending_outputs)) (fun_ext (λ w. fun_ext (λ u. no_more_tails (active_of s) m (driver new w) (nat_lt u (until_of s w)))))
+      (subst (λ (active : ℕ → Bool). AreToCome new (λ w u. is_tail new active (until_of s) w u && not (is_port_of m (driver new w))) t (left_of s3.pending_outputs)) same_active
+      (subst (λ (until : ℕ → ℕ). AreToCome new (λ w u. is_tail new (active_of s2) until w u && not (is_port_of m (driver new w))) t (left_of s3.pending_outputs)) same_until back.pending_outputs))
 
   returned_made : HasReturned old new run numbering since t m made
   returned_made = record {
     shows = shows;
     asleep = asleep;
     lit = lit;
-    were = s.tails;
+    were = s.pending_outputs;
     followed = followed_made;
-    tails = tails_made;
+    pending_outputs = tails_made;
   }
 
   pub returned : HasReturned old new run numbering since t m s3

@@ -224,7 +224,7 @@ module _ (old new : Circuit) (run : Outcome) (ok : IsCircuit new) (numbering : N
     cursors = is.followed.cursors;
     complete = is.followed.complete;
     counted = is.followed.counted;
-    tails = is.followed.tails;
+    pending_outputs = is.followed.pending_outputs;
     stimuli = is.followed.stimuli;
   }
 

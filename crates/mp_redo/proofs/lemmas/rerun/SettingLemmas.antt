@@ -9,7 +9,7 @@ use Rattle.mp_netlist.specs.Drivers.{driver}
 use Rattle.mp_model.specs.Waves.{level}
 use Rattle.mp_kernel.specs.automata.Codes.{bit}
 use Rattle.mp_kernel.specs.events.Adding.{listed}
-use Rattle.mp_kernel.specs.calendar.Calendars.{never}
+use Rattle.mp_kernel.specs.timers.TimerWheels.{never}
 use Rattle.mp_simulation.specs.bits.Changes.{change_at}
 use Rattle.mp_simulation.proofs.lemmas.bits.ListedLemmas.{listed_append}
 use Rattle.mp_kernel.specs.declared.datapath.level_change.LevelChange.{LevelChange}
@@ -174,29 +174,29 @@ module _ (old n : Circuit) (old_ok : IsCircuit old) (ok : IsCircuit n) (revised 
 
   -- ---- the lists
   module _ (bits : List ℕ) (levels : List LevelChange)
-      (all_bits : bits ≡ (set.bits.items ++ bits_at (t + 1) (left_of s.stimuli)) ++ bits_at (t + 1) (left_of s.tails))
-      (all_levels : levels ≡ (set.levels.items ++ levels_at (t + 1) (left_of s.stimuli)) ++ levels_at (t + 1) (left_of s.tails)) where
+      (all_bits : bits ≡ (set.bits.items ++ bits_at (t + 1) (left_of s.stimuli)) ++ bits_at (t + 1) (left_of s.pending_outputs))
+      (all_levels : levels ≡ (set.levels.items ++ levels_at (t + 1) (left_of s.stimuli)) ++ levels_at (t + 1) (left_of s.pending_outputs)) where
     set_bits : (w : ℕ) → listed w bits ≡ bit ((change_at n w (t + 1) && is_bit_wire n w) && outside w)
     set_bits w =
         let a = ap (listed w) all_bits in
-        let b = listed_append w (set.bits.items ++ bits_at (t + 1) (left_of s.stimuli)) (bits_at (t + 1) (left_of s.tails)) in
+        let b = listed_append w (set.bits.items ++ bits_at (t + 1) (left_of s.stimuli)) (bits_at (t + 1) (left_of s.pending_outputs)) in
         let d = listed_append w set.bits.items (bits_at (t + 1) (left_of s.stimuli)) in
         let e = are.bits w in
         let f = ap (listed w) none_bits in
         let g = bits_to_come n (is_set_anew n (until_of s)) t (left_of s.stimuli) is.stimuli w in
-        let h = bits_to_come n (is_tail n (active_of s) (until_of s)) t (left_of s.tails) is.tails w in
+        let h = bits_to_come n (is_tail n (active_of s) (until_of s)) t (left_of s.pending_outputs) is.pending_outputs w in
         let i = bits_by w in
         omega (arith, a, b, d, e, f, g, h, i)
 
     set_levels : (w : ℕ) → changes_of w levels ≡ bit ((change_at n w (t + 1) && is_data n w) && outside w)
     set_levels w =
         let a = ap (changes_of w) all_levels in
-        let b = changes_append w (set.levels.items ++ levels_at (t + 1) (left_of s.stimuli)) (levels_at (t + 1) (left_of s.tails)) in
+        let b = changes_append w (set.levels.items ++ levels_at (t + 1) (left_of s.stimuli)) (levels_at (t + 1) (left_of s.pending_outputs)) in
         let d = changes_append w set.levels.items (levels_at (t + 1) (left_of s.stimuli)) in
         let e = are.levels w in
         let f = ap (changes_of w) none_levels in
         let g = levels_to_come n (is_set_anew n (until_of s)) t (left_of s.stimuli) is.stimuli w in
-        let h = levels_to_come n (is_tail n (active_of s) (until_of s)) t (left_of s.tails) is.tails w in
+        let h = levels_to_come n (is_tail n (active_of s) (until_of s)) t (left_of s.pending_outputs) is.pending_outputs w in
         let i = levels_by w in
         omega (arith, a, b, d, e, f, g, h, i)
 
@@ -222,9 +222,9 @@ module _ (old n : Circuit) (old_ok : IsCircuit old) (ok : IsCircuit n) (revised 
     all_right : All IsRight levels
     all_right =
         subst (All IsRight) (sym all_levels)
-        (All-append IsRight (set.levels.items ++ levels_at (t + 1) (left_of s.stimuli)) (levels_at (t + 1) (left_of s.tails))
+        (All-append IsRight (set.levels.items ++ levels_at (t + 1) (left_of s.stimuli)) (levels_at (t + 1) (left_of s.pending_outputs))
         (All-append IsRight set.levels.items (levels_at (t + 1) (left_of s.stimuli)) old_right (set_to_come n (is_set_anew n (until_of s)) t (left_of s.stimuli) is.stimuli))
-        (set_to_come n (is_tail n (active_of s) (until_of s)) t (left_of s.tails) is.tails))
+        (set_to_come n (is_tail n (active_of s) (until_of s)) t (left_of s.pending_outputs) is.pending_outputs))
 
     pub are_set_outside : AreSetOutside n (active_of s) (on_of s) bits levels (t + 1)
     are_set_outside = record { bits = set_bits; each = set_levels; levels = all_right }
@@ -232,12 +232,12 @@ module _ (old n : Circuit) (old_ok : IsCircuit old) (ok : IsCircuit n) (revised 
 -- the same at a time that comes next
 pub set_outside_at : (old n : Circuit) → IsCircuit old → IsCircuit n → IsRevision old n → WiresAgree → SleepersDriveAlike → (run : Outcome) (numbering : Numbering) (since : ℕ → ℕ) (t time : ℕ) (s : Rerun) (was set : SetWires)
     (bits : List ℕ) (levels : List LevelChange) → t + 1 ≡ time → time < never → IsFollowed old n run numbering since t s → was.bits.items ≡ [] → was.levels.items ≡ [] →
-    AreSet (level old) time s.comparison was set → bits ≡ (set.bits.items ++ bits_at time (left_of s.stimuli)) ++ bits_at time (left_of s.tails) →
-    levels ≡ (set.levels.items ++ levels_at time (left_of s.stimuli)) ++ levels_at time (left_of s.tails) → AreSetOutside n (active_of s) (on_of s) bits levels time
+    AreSet (level old) time s.comparison was set → bits ≡ (set.bits.items ++ bits_at time (left_of s.stimuli)) ++ bits_at time (left_of s.pending_outputs) →
+    levels ≡ (set.levels.items ++ levels_at time (left_of s.stimuli)) ++ levels_at time (left_of s.pending_outputs) → AreSetOutside n (active_of s) (on_of s) bits levels time
 set_outside_at old n old_ok ok revised wires sleepers run numbering since t time s was set bits levels next below is none_bits none_levels are all_bits all_levels =
     let back = sym next in
     subst (AreSetOutside n (active_of s) (on_of s) bits levels) next
     (are_set_outside old n old_ok ok revised wires sleepers run numbering since t (omega (arith, next, below)) s is was set none_bits none_levels
     (subst (λ u. AreSet (level old) u s.comparison was set) back are) bits levels
-    (subst (λ u. bits ≡ (set.bits.items ++ bits_at u (left_of s.stimuli)) ++ bits_at u (left_of s.tails)) back all_bits)
-    (subst (λ u. levels ≡ (set.levels.items ++ levels_at u (left_of s.stimuli)) ++ levels_at u (left_of s.tails)) back all_levels))
+    (subst (λ u. bits ≡ (set.bits.items ++ bits_at u (left_of s.stimuli)) ++ bits_at u (left_of s.pending_outputs)) back all_bits)
+    (subst (λ u. levels ≡ (set.levels.items ++ levels_at u (left_of s.stimuli)) ++ levels_at u (left_of s.pending_outputs)) back all_levels))

@@ -1,4 +1,4 @@
--- The history of a re-evaluation that is settled goes up to the horizon.
+-- The recorder of a re-evaluation that is settled goes up to the horizon.
 use Rattle.std.proofs.Common.{◌≡◌, ℕ, ◌+◌, ◌-◌, ◌<◌, ◌≤◌, sym, subst, arith, inl, inr}
 use Rattle.std.proofs.lemmas.Bool.{cases_lt}
 use Rattle.mp_netlist.specs.Circuit.{Circuit, IsCircuit, module_at}
@@ -11,8 +11,8 @@ use Rattle.mp_active.specs.agreement.Resting.{SleepersRest}
 use Rattle.mp_active.specs.agreement.Sleeping.{AreSleeping, SleepersAgree, SleepersSleepOn}
 use Rattle.mp_active.specs.agreement.Sources.{WiresAgree}
 use Rattle.mp_active.specs.compare.OldRuns.{RunsAreOld}
-use Rattle.mp_depend.specs.history.Histories.{IsHistory}
-use Rattle.mp_depend.specs.history.Live.{AreAtWork}
+use Rattle.mp_depend.specs.recording.Recorders.{IsRecorder}
+use Rattle.mp_depend.specs.recording.Live.{AreAtWork}
 use Rattle.mp_redo.specs.declared.rerun.rerun.Rerun.{Rerun}
 use Rattle.mp_redo.specs.rerun.Reruns.{active_of}
 use Rattle.mp_redo.specs.rerun.Settling.{HasEnded, IsSettled}
@@ -46,18 +46,18 @@ module _ (old n : Circuit) (old_ok : IsCircuit old) (ok : IsCircuit n) (revised 
         (omega (arith, first, after)) (omega (arith, inside, some)) (omega (arith, low, some)) working;
   }
 
-  first : IsHistory old n run (λ m. block_of n.horizon (end - 1)) end (active_of s) s.history
-  first = subst (λ u. IsHistory old n run (λ m. block_of n.horizon (end - 1)) u (active_of s) s.history) next over.at.history
+  first : IsRecorder old n run (λ m. block_of n.horizon (end - 1)) end (active_of s) s.recorder
+  first = subst (λ u. IsRecorder old n run (λ m. block_of n.horizon (end - 1)) u (active_of s) s.recorder) next over.at.recorder
 
-  pub history_left : IsHistory old n run (λ m. block_of n.horizon (n.horizon - 1)) n.horizon (active_of s) s.history
-  history_left = elim (cases_lt end n.horizon) as (λ _. IsHistory old n run (λ m. block_of n.horizon (n.horizon - 1)) n.horizon (active_of s) s.history) [
+  pub history_left : IsRecorder old n run (λ m. block_of n.horizon (n.horizon - 1)) n.horizon (active_of s) s.recorder
+  history_left = elim (cases_lt end n.horizon) as (λ _. IsRecorder old n run (λ m. block_of n.horizon (n.horizon - 1)) n.horizon (active_of s) s.recorder) [
     | inl below ↦
         let it = over.settled below in
         let some = over.some in
         history_on old n old_ok ok revised run is_run (active_of s) over.at.is.since end n.horizon some (omega arith) (λ low. let no : ⊥ = omega (arith, low) in absurd no) over.at.is.early
-        (λ u low less. sleeping_after (u - 1) (omega (arith, low, some)) (omega (arith, less))) (works it) it.nobody s.history (omega (arith, below)) (over.begins below) first
+        (λ u low less. sleeping_after (u - 1) (omega (arith, low, some)) (omega (arith, less))) (works it) it.nobody s.recorder (omega (arith, below)) (over.begins below) first
     | inr past ↦
         let most = over.within in
         let e : end ≡ n.horizon = omega (arith, past, most) in
-        subst (λ u. IsHistory old n run (λ m. block_of n.horizon (u - 1)) u (active_of s) s.history) e first
+        subst (λ u. IsRecorder old n run (λ m. block_of n.horizon (u - 1)) u (active_of s) s.recorder) e first
   ]

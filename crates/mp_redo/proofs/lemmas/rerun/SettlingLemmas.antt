@@ -16,7 +16,7 @@ use Rattle.mp_netlist.proofs.LimitLemmas.{horizon_within}
 use Rattle.mp_model.specs.Waves.{level}
 use Rattle.mp_kernel.specs.automata.Codes.{bit}
 use Rattle.mp_kernel.specs.events.Adding.{listed}
-use Rattle.mp_kernel.specs.calendar.Calendars.{never}
+use Rattle.mp_kernel.specs.timers.TimerWheels.{never}
 use Rattle.mp_simulation.specs.bits.Changes.{change_at}
 use Rattle.mp_simulation.specs.bits.WholeRuns.{is_stimulus}
 use Rattle.mp_simulation.proofs.lemmas.bits.WholeLemmas.{undriven}
@@ -187,7 +187,7 @@ module _ (old n : Circuit) (old_ok : IsCircuit old) (ok : IsCircuit n) (revised 
       driven m p e true on = let found = finds_only_ports n w p m e in absurd (it.nobody m.0 (some_is (module_at n m.0) found.part found.stands) on)
       driven m p e false off =
           let comes = and_from (is_followed (active_of s) (driver n w)) (nat_lt u (until_of s w)) (ap (is_followed (active_of s)) e ∙ ap not off) (lt-ltb u (until_of s w) early) in
-          rest_if (change_at n w u) (is_tail n (active_of s) (until_of s) w u) comes (sym (ap (count_by (is_change w u)) it.tails) ∙ is.followed.tails.each w u later)
+          rest_if (change_at n w u) (is_tail n (active_of s) (until_of s) w u) comes (sym (ap (count_by (is_change w u)) it.pending_outputs) ∙ is.followed.pending_outputs.each w u later)
 
       by : (d : Driver) → driver n w ≡ d → change_at n w u ≡ false
       by Nothing e = undriven n ok w u e

@@ -14,7 +14,7 @@ use Rattle.mp_netlist.specs.Circuit.{Circuit, IsCircuit}
 use Rattle.mp_netlist.specs.Drivers.{driver, is_port}
 use Rattle.mp_netlist.proofs.DriverLemmas.{finds_only_ports}
 use Rattle.mp_kernel.specs.automata.Codes.{bit}
-use Rattle.mp_kernel.specs.calendar.Calendars.{never}
+use Rattle.mp_kernel.specs.timers.TimerWheels.{never}
 use Rattle.mp_simulation.specs.declared.bits.simulation.Simulation.{Simulation}
 use Rattle.mp_simulation.specs.bits.Changes.{change_at}
 use Rattle.mp_simulation.specs.bits.WholeRuns.{is_stimulus}
@@ -153,14 +153,14 @@ module _ (old new : Circuit) (ok : IsCircuit new) (run : Outcome) (numbering : N
               by false true gone is = refl
               by false false gone is = refl
 
-      tails_last : AreTails new (active_of now) (until_of now) (time - 1) (left_of last.tails)
+      tails_last : AreTails new (active_of now) (until_of now) (time - 1) (left_of last.pending_outputs)
       tails_last =
           tails_more new (active_of s) (active_of now) (has_left s now) (time - 1) (taken_in (is_gone now.comparison.sources.items) (time - 1 + 1) s.simulation units)
           (taken_last old new ok run numbering since time units leaving s now some below is are)
           (until_of s) (until_of now) are.fewer (λ m on. and_right (active_of s m) (not (active_of now m)) (ap not on)) (λ m quiet. and_left (active_of s m) (not (active_of now m)) quiet) (left_when old new ok run numbering since time units leaving s now some below is are)
           (λ w p m drives quiet. same_until w p m drives quiet)
           (λ w p m r drives at was off. slept_until old new ok run numbering since time units leaving s now some below is are w p m r drives at was off ∙ ap (λ (u : ℕ). u + delay_of r p) (sym next))
-          (left_of s.tails) (left_of last.tails) is.followed.tails moved took.order
+          (left_of s.pending_outputs) (left_of last.pending_outputs) is.followed.pending_outputs moved took.order
         where
           same_until : (w p : ℕ) (m : ModuleId) → driver new w ≡ Port m p → active_of s m.0 ≡ false → until_of now w ≡ until_of s w
           same_until w p m drives quiet =
@@ -174,14 +174,14 @@ module _ (old new : Circuit) (ok : IsCircuit new) (run : Outcome) (numbering : N
               still_off true fewer = absurd (both_ways (active_of s m.0) quiet (fewer refl))
               still_off false fewer = refl
 
-          same_tails : left_of now.tails ≡ left_of s.tails
-          same_tails = ap (λ (x : Rerun). left_of x.tails) are.kept
+          same_tails : left_of now.pending_outputs ≡ left_of s.pending_outputs
+          same_tails = ap (λ (x : Rerun). left_of x.pending_outputs) are.kept
 
-          moved : IsPermutation (left_of s.tails ++ taken_in (is_gone now.comparison.sources.items) (time - 1 + 1) s.simulation units) (left_of last.tails)
+          moved : IsPermutation (left_of s.pending_outputs ++ taken_in (is_gone now.comparison.sources.items) (time - 1 + 1) s.simulation units) (left_of last.pending_outputs)
           moved =
-              subst (λ (u : ℕ). IsPermutation (left_of s.tails ++ taken_in (is_gone now.comparison.sources.items) u s.simulation units) (left_of last.tails)) (sym next)
-              (subst (λ (xs : List StimulusChange). IsPermutation (left_of s.tails ++ xs) (left_of last.tails)) (taken_alike (is_gone now.comparison.sources.items) time s.simulation now.simulation units (same_wheel old new ok run numbering since time units leaving s now some below is are) (same_changes old new ok run numbering since time units leaving s now some below is are))
-              (subst (λ (xs : List StimulusChange). IsPermutation (xs ++ taken_in (is_gone now.comparison.sources.items) time now.simulation units) (left_of last.tails)) same_tails took.tails))
+              subst (λ (u : ℕ). IsPermutation (left_of s.pending_outputs ++ taken_in (is_gone now.comparison.sources.items) u s.simulation units) (left_of last.pending_outputs)) (sym next)
+              (subst (λ (xs : List StimulusChange). IsPermutation (left_of s.pending_outputs ++ xs) (left_of last.pending_outputs)) (taken_alike (is_gone now.comparison.sources.items) time s.simulation now.simulation units (same_wheel old new ok run numbering since time units leaving s now some below is are) (same_changes old new ok run numbering since time units leaving s now some below is are))
+              (subst (λ (xs : List StimulusChange). IsPermutation (xs ++ taken_in (is_gone now.comparison.sources.items) time now.simulation units) (left_of last.pending_outputs)) same_tails took.pending_outputs))
 
       stimuli_last : AreSetAnew new (until_of now) (time - 1) (left_of now.stimuli)
       stimuli_last =
@@ -200,7 +200,7 @@ module _ (old new : Circuit) (ok : IsCircuit new) (run : Outcome) (numbering : N
       pub rerun_last : IsRerunBy old new run numbering (since_then since time s now) (time - 1) last
       rerun_last = record { shows = shows_last old new ok run numbering since time units leaving s now some below is are last took; followed = subst (λ (x : Rerun). IsFollowed old new run numbering (since_then since time s now) (time - 1) x) (sym took.kept) followed }
         where
-          followed : IsFollowed old new run numbering (since_then since time s now) (time - 1) (record now { simulation = last.simulation; tails = last.tails })
+          followed : IsFollowed old new run numbering (since_then since time s now) (time - 1) (record now { simulation = last.simulation; pending_outputs = last.pending_outputs })
           followed = record {
             numbered = numbered_last;
             modules = are.modules;
@@ -215,7 +215,7 @@ module _ (old new : Circuit) (ok : IsCircuit new) (run : Outcome) (numbering : N
             cursors = are.cursors;
             complete = are.complete;
             counted = are.counted;
-            tails = tails_last;
+            pending_outputs = tails_last;
             stimuli = stimuli_last;
           }
 
@@ -235,13 +235,13 @@ module _ (old new : Circuit) (ok : IsCircuit new) (run : Outcome) (numbering : N
     have_left done = record {
       kept =
           took.kept
-          ∙ ap (λ (x : Rerun). (let y : Rerun = record x { simulation = last.simulation; tails = last.tails } in y)) are.kept
+          ∙ ap (λ (x : Rerun). (let y : Rerun = record x { simulation = last.simulation; pending_outputs = last.pending_outputs } in y)) are.kept
           ∙ ap (λ (x : Rerun). (let y : Rerun = record s {
             simulation = last.simulation;
             comparison = x.comparison;
-            tails = last.tails;
+            pending_outputs = last.pending_outputs;
             activity = record (s.activity) { active = x.activity.active };
-            history = x.history;
+            recorder = x.recorder;
           } in y)) (sym took.kept);
       seen = ap (λ (x : Rerun). x.comparison.seen) took.kept ∙ ap (λ (c : Comparison). c.seen) are.compared;
       left = λ m has. same_active m ∙ done m has;

@@ -12,7 +12,7 @@ use Rattle.mp_netlist.specs.declared.driver.Driver.TheVariants.{Port}
 use Rattle.mp_netlist.specs.Circuit.{Circuit, IsCircuit, module_at}
 use Rattle.mp_netlist.specs.Drivers.{driver, is_port}
 use Rattle.mp_netlist.proofs.DriverLemmas.{finds_only_ports, finds_ports}
-use Rattle.mp_kernel.specs.calendar.Calendars.{never}
+use Rattle.mp_kernel.specs.timers.TimerWheels.{never}
 use Rattle.mp_active.specs.agreement.Sources.{slept_from, IsAsBefore, AreSources}
 use Rattle.mp_active.specs.declared.compare.wire_source.WireSource.{WireSource}
 use Rattle.mp_active.specs.compare.Waking.{slept}

@@ -10,7 +10,7 @@ use Rattle.mp_netlist.specs.Drivers.{driver, is_port}
 use Rattle.mp_model.specs.Evaluations.{delay_in}
 use Rattle.mp_model.proofs.EvaluationLemmas.{delay_positive}
 use Rattle.mp_kernel.specs.automata.Codes.{bit}
-use Rattle.mp_kernel.specs.calendar.Calendars.{never}
+use Rattle.mp_kernel.specs.timers.TimerWheels.{never}
 use Rattle.mp_simulation.specs.bits.Changes.{change_at}
 use Rattle.mp_simulation.specs.bits.WholeRuns.{is_stimulus}
 use Rattle.mp_simulation.proofs.lemmas.bits.WholeLemmas.{undriven}

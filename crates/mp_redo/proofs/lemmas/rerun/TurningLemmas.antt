@@ -13,7 +13,7 @@ use Rattle.mp_netlist.proofs.DriverLemmas.{finds_only_ports, driven_stands}
 use Rattle.mp_model.specs.Waves.{level}
 use Rattle.mp_model.proofs.SlotLemmas.{some_within}
 use Rattle.mp_simulation.specs.declared.bits.simulator.Simulator.{Simulator}
-use Rattle.mp_kernel.specs.calendar.Calendars.{never}
+use Rattle.mp_kernel.specs.timers.TimerWheels.{never}
 use Rattle.mp_partition.specs.runs.Outcomes.{Outcome, wave_of}
 use Rattle.mp_depend.specs.work.Revisions.{IsRevision, IsKept}
 use Rattle.mp_simulation.specs.declared.units.data_modules.DataModules.{DataModules}
@@ -128,7 +128,7 @@ until_same false was now is = ap (λ (x : WireSource). x.until) is
 
 -- what is compared after a wire is followed
 pub record HasFollowed (run : Outcome) (w t : ℕ) (c d : Comparison) : Type 0 where
-  pub kept : d ≡ record c { sources = d.sources; calendar = d.calendar; places = d.places }
+  pub kept : d ≡ record c { sources = d.sources; timers = d.timers; places = d.places }
   pub cursors : HasCursors run t [] d
   pub complete : IsComplete run t c → IsComplete run t d
   pub sources : (v : ℕ) → source_at d v ≡ cond (v == w) (turned_on (source_at c v)) (source_at c v)
@@ -176,7 +176,7 @@ module _ (w t : ℕ) (run : Outcome) (s : Rerun) (sim : NetlistSimulation) (d : 
       cursors = follows.cursors;
       complete = follows.complete is.complete;
       counted = counted_kept new (active_of s) numbering s.comparison d same_numbers same_asleep is.counted;
-      tails = subst (λ (until : ℕ → ℕ). AreTails new (active_of s) until t (left_of s.tails)) (sym untils) is.tails;
+      pending_outputs = subst (λ (until : ℕ → ℕ). AreTails new (active_of s) until t (left_of s.pending_outputs)) (sym untils) is.pending_outputs;
       stimuli = subst (λ (until : ℕ → ℕ). AreSetAnew new until t (left_of s.stimuli)) (sym untils) is.stimuli;
     }
 

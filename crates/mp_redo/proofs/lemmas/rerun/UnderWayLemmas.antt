@@ -15,8 +15,8 @@ use Rattle.mp_simulation.specs.run.Wirings.{AreByPort}
 use Rattle.mp_depend.specs.work.Revisions.{IsRevision}
 use Rattle.mp_depend.specs.work.Work.{block_of, window_end, IsWindow}
 use Rattle.mp_depend.proofs.lemmas.work.WindowLemmas.{window_within}
-use Rattle.mp_depend.specs.history.Histories.{IsHistory}
-use Rattle.mp_depend.specs.history.Live.{AreAtWork}
+use Rattle.mp_depend.specs.recording.Recorders.{IsRecorder}
+use Rattle.mp_depend.specs.recording.Live.{AreAtWork}
 use Rattle.mp_active.specs.excerpt.Excerpts.{ArePortsOn}
 use Rattle.mp_active.specs.compare.Comparing.{wire_of, delay_of as late_by, HasCursors, AreUnseen, IsComplete}
 use Rattle.mp_active.specs.compare.Numbering.{AreNumbersOf, has_data}
@@ -56,8 +56,8 @@ pub record IsMade (old new : Circuit) (run : Outcome) (wired : WiredInputs) (s :
   pub unseen : AreUnseen 1 s.comparison
   pub complete : IsComplete run 0 s.comparison
   pub stimuli : AreSetAnew new (until_of s) 0 (left_of s.stimuli)
-  pub tails : left_of s.tails ≡ []
-  pub history : IsHistory old new run (λ m. 0) 0 (active_of s) s.history
+  pub pending_outputs : left_of s.pending_outputs ≡ []
+  pub recorder : IsRecorder old new run (λ m. 0) 0 (active_of s) s.recorder
   pub window : s.window_end ≡ window_end new 0
 
 module _ (by_ports : ReadsAreListed) (old new : Circuit) (old_ok : IsCircuit old) (new_ok : IsCircuit new) (revised : IsRevision old new) (run : Outcome) (is : IsRun old run) (wired : WiredInputs) (s : Rerun)
@@ -108,7 +108,7 @@ module _ (by_ports : ReadsAreListed) (old new : Circuit) (old_ok : IsCircuit old
     cursors = made.cursors;
     complete = made.complete;
     counted = readers;
-    tails = subst (λ (xs : List StimulusChange). AreTails new (active_of s) (until_of s) 0 xs) (sym made.tails)
+    pending_outputs = subst (λ (xs : List StimulusChange). AreTails new (active_of s) (until_of s) 0 xs) (sym made.pending_outputs)
         (no_tails old new new_ok s.activity.active.items s.inputs.items s.comparison made.compared);
     stimuli = made.stimuli;
   }
@@ -144,7 +144,7 @@ module _ (by_ports : ReadsAreListed) (old new : Circuit) (old_ok : IsCircuit old
       within = (window_within new new_ok 0 s.window_end first_window).1;
       live = active_of s;
       work = at_first;
-      history = subst (λ c. IsHistory old new run (λ m. c) 0 (active_of s) s.history) (sym block) made.history;
+      recorder = subst (λ c. IsRecorder old new run (λ m. c) 0 (active_of s) s.recorder) (sym block) made.recorder;
       joined = record {
         stand = λ m has. let no = nobody m has in absurd no;
         stay = λ m on. on;

@@ -20,8 +20,8 @@ use Rattle.mp_active.proofs.lemmas.excerpt.SimulatedLemmas.{showing_simulates}
 use Rattle.mp_active.proofs.lemmas.excerpt.ExcerptLemmas.{excerpt_is}
 use Rattle.mp_active.specs.compare.Comparing.{seen_at, AreUnseen}
 use Rattle.mp_depend.specs.work.Work.{block_of, IsWindow}
-use Rattle.mp_depend.specs.history.Histories.{IsHistory}
-use Rattle.mp_depend.specs.history.Live.{HaveBecomeLive}
+use Rattle.mp_depend.specs.recording.Recorders.{IsRecorder}
+use Rattle.mp_depend.specs.recording.Live.{HaveBecomeLive}
 use Rattle.mp_redo.specs.declared.rerun.activity.Activity.{Activity}
 use Rattle.mp_redo.specs.declared.rerun.rerun.Rerun.{Rerun}
 use Rattle.mp_redo.specs.rerun.Joining.{AreJoining, NoneIsApart, HaveJoined, HasLooked, HasSet}
@@ -88,7 +88,7 @@ module _ (old new : Circuit) (run : Outcome) (from time : ℕ) (s looked woken :
       within = subst (λ (end : ℕ). time < end) (sym same_end) low;
       live = is.live;
       work = is.work;
-      history = subst (IsHistory old new run (λ m. block_of new.horizon from) from is.live) (sym same_history) is.history;
+      recorder = subst (IsRecorder old new run (λ m. block_of new.horizon from) from is.live) (sym same_history) is.recorder;
       joined = subst (λ (a : Activity). HaveBecomeLive new a.joined.items is.live (is_marked a.active.items)) (sym same_activity) become_live;
       apart = subst (λ (a : Activity). (m : ℕ) → Contains a.joined.items (record { 0 = m }) → (u : ℕ) × (from ≤ u) × (u ≤ time) × IsApart old new m u) (sym same_activity) joined_apart;
     }
@@ -102,8 +102,8 @@ module _ (old new : Circuit) (run : Outcome) (from time : ℕ) (s looked woken :
         same_end : set.window_end ≡ s.window_end
         same_end = ap (λ (x : Rerun). x.window_end) sets ∙ ap (λ (x : Rerun). x.window_end) wakes.kept ∙ ap (λ (x : Rerun). x.window_end) looks
 
-        same_history : set.history ≡ s.history
-        same_history = ap (λ (x : Rerun). x.history) sets ∙ ap (λ (x : Rerun). x.history) wakes.kept ∙ ap (λ (x : Rerun). x.history) looks
+        same_history : set.recorder ≡ s.recorder
+        same_history = ap (λ (x : Rerun). x.recorder) sets ∙ ap (λ (x : Rerun). x.recorder) wakes.kept ∙ ap (λ (x : Rerun). x.recorder) looks
 
         same_seen : (x : ℕ) → seen_at set.comparison x ≡ seen_at looked.comparison x
         same_seen x = ap (λ (y : Rerun). seen_at y.comparison x) sets ∙ ap (λ v. slice_index_or v.items x 0) wakes.seen
@@ -169,7 +169,7 @@ quiet_over old new run from time s set some is sets low simulation over = record
   within = subst (λ (end : ℕ). time < end) (sym same_end) low;
   live = is.live;
   work = is.work;
-  history = subst (IsHistory old new run (λ m. block_of new.horizon from) from is.live) (sym (ap (λ (x : Rerun). x.history) sets)) is.history;
+  recorder = subst (IsRecorder old new run (λ m. block_of new.horizon from) from is.live) (sym (ap (λ (x : Rerun). x.recorder) sets)) is.recorder;
   joined = subst (λ (a : Activity). HaveBecomeLive new a.joined.items is.live (is_marked a.active.items)) (sym same_activity) is.joined;
   apart = subst (λ (a : Activity). (m : ℕ) → Contains a.joined.items (record { 0 = m }) → (u : ℕ) × (from ≤ u) × (u ≤ time) × IsApart old new m u) (sym same_activity) apart;
 }

@@ -14,7 +14,7 @@ use Rattle.mp_partition.specs.runs.Checkpoints.{state_before}
 use Rattle.mp_partition.specs.runs.Outcomes.{Outcome}
 use Rattle.mp_depend.specs.work.Revisions.{IsRevision, IsKept}
 use Rattle.mp_active.specs.agreement.Sleeping.{IsSleeping, SleepersAgree}
-use Rattle.mp_depend.specs.history.Live.{HaveBecomeLive}
+use Rattle.mp_depend.specs.recording.Live.{HaveBecomeLive}
 use Rattle.mp_active.specs.excerpt.Numberings.{Numbering}
 use Rattle.mp_redo.specs.declared.rerun.rerun.Rerun.{Rerun}
 use Rattle.mp_redo.specs.rerun.Joining.{HaveJoined}
@@ -45,7 +45,7 @@ module _ (new : Circuit) (r : ModuleRecord) (memory : Memory) (m : ℕ) (numberi
   with_last x = record x {
     simulation = s4.simulation;
     comparison = s4.comparison;
-    tails = s4.tails;
+    pending_outputs = s4.pending_outputs;
     activity = record (x.activity) { active = s4.activity.active; seats = s4.activity.seats; joined = s4.activity.joined };
   }
 
@@ -111,12 +111,12 @@ module _ (joining : List ModuleId) (k : ℕ) (id : ModuleId) (s l : Rerun) (low 
       kept = ap (λ (x : Rerun). record x {
         simulation = new.simulation;
         comparison = new.comparison;
-        tails = new.tails;
+        pending_outputs = new.pending_outputs;
         activity = record (x.activity) { active = new.activity.active; seats = new.activity.seats; joined = new.activity.joined };
       }) woken.kept ∙ ap (λ (x : Rerun). record x {
         simulation = new.simulation;
         comparison = new.comparison;
-        tails = new.tails;
+        pending_outputs = new.pending_outputs;
         activity = record (x.activity) { active = new.activity.active; seats = new.activity.seats; joined = new.activity.joined };
       }) so.woken.kept;
       seen = woken.seen ∙ so.woken.seen;

@@ -17,9 +17,9 @@ use Rattle.mp_depend.specs.work.Merges.{end_of_window}
 use Rattle.mp_depend.specs.work.Work.{block_of, window_of, window_end, IsWindow}
 use Rattle.mp_depend.proofs.lemmas.work.MultipleLemmas.{rest_le}
 use Rattle.mp_depend.proofs.lemmas.work.WindowLemmas.{window_within, window_cover, windows_apart, in_block, same_block}
-use Rattle.mp_depend.specs.declared.history.history.History.{History}
-use Rattle.mp_depend.specs.history.Histories.{IsHistory}
-use Rattle.mp_depend.specs.history.Live.{IsWorking, AreAtWork, JoinInWindow}
+use Rattle.mp_depend.specs.declared.recording.rerun_recorder.RerunRecorder.{RerunRecorder}
+use Rattle.mp_depend.specs.recording.Recorders.{IsRecorder}
+use Rattle.mp_depend.specs.recording.Live.{IsWorking, AreAtWork, JoinInWindow}
 use Rattle.mp_redo.specs.declared.rerun.rerun.Rerun.{Rerun}
 use Rattle.mp_redo.specs.rerun.Reruns.{active_of}
 use Rattle.mp_redo.specs.rerun.Windows.{IsInWindow, IsAtWindow}
@@ -137,25 +137,25 @@ module _ (old new : Circuit) (old_ok : IsCircuit old) (new_ok : IsCircuit new) (
       after = subst (λ (to : ℕ). AreAtWork old new (block_of new.horizon from) to (active_of s)) next work_after;
     }
 
-    pub window_over : (joined : Vec ModuleId Global) (history : History) → joined.items ≡ [] → IsHistory old new run (λ m. block_of new.horizon from) (t + 1) (active_of s) history
-        → IsAtWindow old new run (block_of new.horizon from) t (renewed s joined history s.window_end s.look_at)
-    window_over joined history none kept = record {
-      is = rerun_renewed old new run (block_of new.horizon from) (block_of new.horizon from) t s joined history s.window_end s.look_at (omega arith) is.is;
+    pub window_over : (joined : Vec ModuleId Global) (recorder : RerunRecorder) → joined.items ≡ [] → IsRecorder old new run (λ m. block_of new.horizon from) (t + 1) (active_of s) recorder
+        → IsAtWindow old new run (block_of new.horizon from) t (renewed s joined recorder s.window_end s.look_at)
+    window_over joined recorder none kept = record {
+      is = rerun_renewed old new run (block_of new.horizon from) (block_of new.horizon from) t s joined recorder s.window_end s.look_at (omega arith) is.is;
       unseen = is.unseen;
       touched = is.touched;
       none = none;
       work = work_after;
-      history = kept;
+      recorder = kept;
     }
 
-  -- a window ends: those that have joined are kept in the history
+  -- a window ends: those that have joined are kept in the recorder
   pub window_ends : (from time : ℕ) (s : Rerun) (is : IsInWindow old new run from (time - 1) s) → 0 < time → s.window_end ≡ time → (block : ℕ) → block ≡ block_of new.horizon (time - 1)
-      → (ids : List ModuleId) → ids ≡ s.activity.joined.items → (history : History)
-      → ((first : Circuit) (start : ℕ) (live now : ℕ → Bool) → JoinInWindow first new block start time ids live now → IsHistory first new run (λ m. block) start live s.history
-      → IsHistory first new run (λ m. block) time now history)
-      → (joined : Vec ModuleId Global) → joined.items ≡ [] → IsAtWindow old new run (block_of new.horizon (time - 1)) (time - 1) (renewed s joined history s.window_end s.look_at)
-  window_ends from time s is some ends block value ids all history opens joined none =
-      subst (λ (b : ℕ). IsAtWindow old new run b (time - 1) (renewed s joined history s.window_end s.look_at)) (sym here) (window_over from (time - 1) s is joined history none kept)
+      → (ids : List ModuleId) → ids ≡ s.activity.joined.items → (recorder : RerunRecorder)
+      → ((first : Circuit) (start : ℕ) (live now : ℕ → Bool) → JoinInWindow first new block start time ids live now → IsRecorder first new run (λ m. block) start live s.recorder
+      → IsRecorder first new run (λ m. block) time now recorder)
+      → (joined : Vec ModuleId Global) → joined.items ≡ [] → IsAtWindow old new run (block_of new.horizon (time - 1)) (time - 1) (renewed s joined recorder s.window_end s.look_at)
+  window_ends from time s is some ends block value ids all recorder opens joined none =
+      subst (λ (b : ℕ). IsAtWindow old new run b (time - 1) (renewed s joined recorder s.window_end s.look_at)) (sym here) (window_over from (time - 1) s is joined recorder none kept)
     where
       next : time - 1 + 1 ≡ time
       next = omega (arith, some)
@@ -174,18 +174,18 @@ module _ (old new : Circuit) (old_ok : IsCircuit old) (new_ok : IsCircuit new) (
           subst (λ (xs : List ModuleId). JoinInWindow old new block from time xs is.live (active_of s)) (sym all)
           (subst (λ (b : ℕ). JoinInWindow old new b from time s.activity.joined.items is.live (active_of s)) (sym at) (join_in from (time - 1) s is time next ends))
 
-      opened : IsHistory old new run (λ m. block) time (active_of s) history
-      opened = opens old from is.live (active_of s) joins (subst (λ (b : ℕ). IsHistory old new run (λ m. b) from is.live s.history) (sym at) is.history)
+      opened : IsRecorder old new run (λ m. block) time (active_of s) recorder
+      opened = opens old from is.live (active_of s) joins (subst (λ (b : ℕ). IsRecorder old new run (λ m. b) from is.live s.recorder) (sym at) is.recorder)
 
-      kept : IsHistory old new run (λ m. block_of new.horizon from) (time - 1 + 1) (active_of s) history
-      kept = subst (λ (t : ℕ). IsHistory old new run (λ m. block_of new.horizon from) t (active_of s) history) (sym next)
-          (subst (λ (b : ℕ). IsHistory old new run (λ m. b) time (active_of s) history) at opened)
+      kept : IsRecorder old new run (λ m. block_of new.horizon from) (time - 1 + 1) (active_of s) recorder
+      kept = subst (λ (t : ℕ). IsRecorder old new run (λ m. block_of new.horizon from) t (active_of s) recorder) (sym next)
+          (subst (λ (b : ℕ). IsRecorder old new run (λ m. b) time (active_of s) recorder) at opened)
 
   -- a window begins
   pub window_begun : (time end : ℕ) (s : Rerun) → 0 < time → time < new.horizon → window_of new time ≡ time → end ≡ window_end new time → IsAtWindow old new run (block_of new.horizon time) (time - 1) s
       → IsInWindow old new run time (time - 1) (record s { window_end = end })
   window_begun time end s some below begins ends is = record {
-    is = rerun_renewed old new run (block_of new.horizon time) (block_of new.horizon time) (time - 1) s s.activity.joined s.history end s.look_at (omega arith) is.is;
+    is = rerun_renewed old new run (block_of new.horizon time) (block_of new.horizon time) (time - 1) s s.activity.joined s.recorder end s.look_at (omega arith) is.is;
     unseen = is.unseen;
     touched = is.touched;
     window = window;
@@ -193,7 +193,7 @@ module _ (old new : Circuit) (old_ok : IsCircuit old) (new_ok : IsCircuit new) (
     within = let later = (window_within new new_ok time end window).1 in omega (arith, later);
     live = active_of s;
     work = subst (λ (t : ℕ). AreAtWork old new (block_of new.horizon time) t (active_of s)) next is.work;
-    history = subst (λ (t : ℕ). IsHistory old new run (λ m. block_of new.horizon time) t (active_of s) s.history) next is.history;
+    recorder = subst (λ (t : ℕ). IsRecorder old new run (λ m. block_of new.horizon time) t (active_of s) s.recorder) next is.recorder;
     joined = record {
       stand = λ m has. absurd (none m has);
       stay = λ m on. on;

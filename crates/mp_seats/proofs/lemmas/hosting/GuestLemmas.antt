@@ -4,16 +4,16 @@ use Rattle.mp_records.specs.declared.edit.Edit.{Edit}
 use Rattle.mp_records.specs.declared.edit_error.EditError.{EditError}
 use Rattle.mp_desk.specs.Extending.{Extends}
 use Rattle.mp_desk.specs.Holders.{RefusedAfter}
-use Rattle.mp_desk.specs.meeting.Sittings.{Sitting, with_seen, IsAccepted}
+use Rattle.mp_desk.specs.meeting.Sittings.{DesignerTally, with_seen, IsAccepted}
 use Rattle.mp_seats.specs.Steps.{Submits}
 use Rattle.mp_seats.specs.declared.refusal.Refusal.TheVariants as refusals
 use Rattle.mp_seats.specs.hosting.Guests.{sitter}
 
 -- an edit that is accepted is counted at its place
-pub is_accepted : (old new : Sitting) (edit : Edit) (n : ℕ) → IsAccepted old new edit → n ≡ new.told → Submits true (Ok n) (sitter old) (sitter new) edit
-is_accepted old new edit n is same = (refl, is.0, is.1, is.2, is.3, is.4, ap sitter is.5, same ∙ ap (λ (s : Sitting). s.told) is.5)
+pub is_accepted : (old new : DesignerTally) (edit : Edit) (n : ℕ) → IsAccepted old new edit → n ≡ new.told → Submits true (Ok n) (sitter old) (sitter new) edit
+is_accepted old new edit n is same = (refl, is.0, is.1, is.2, is.3, is.4, ap sitter is.5, same ∙ ap (λ (s : DesignerTally). s.told) is.5)
 
 -- an edit that is refused changes nothing but what was seen
-pub is_refused : (old new : Sitting) (edit : Edit) (error : EditError) → RefusedAfter old.seen new.seen edit error → new ≡ with_seen old new.seen → Extends new.seen old.seen
+pub is_refused : (old new : DesignerTally) (edit : Edit) (error : EditError) → RefusedAfter old.seen new.seen edit error → new ≡ with_seen old new.seen → Extends new.seen old.seen
     → Submits true (Err (refusals.Refused error)) (sitter old) (sitter new) edit
 is_refused old new edit error refused same extends = (refl, refused, ap sitter same, extends)

@@ -12,7 +12,7 @@ use Rattle.mp_seats.specs.Replies.{Writing}
 use Rattle.mp_seats.specs.Steps.{IsStep}
 use Rattle.mp_seats.specs.declared.hosting.host_fault.HostFault.{HostFault}
 use Rattle.mp_seats.specs.declared.hosting.host_fault.HostFault.TheVariants.{Meeting, Talk}
-use Rattle.mp_seats.specs.declared.hosting.place.SeatName.{SeatName}
+use Rattle.mp_seats.specs.declared.hosting.seat_place.SeatName.{SeatName}
 use Rattle.mp_seats.specs.hosting.Places.{TellsOf}
 use Rattle.mp_seats.specs.hosting.OwnSeats.{Owner, IsSeatsLine, IsOwnStep, HasTalked, EndsFor}
 

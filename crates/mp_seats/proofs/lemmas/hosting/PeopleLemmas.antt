@@ -4,7 +4,7 @@ use Rattle.std.proofs.lemmas.List.{map-append, length-map}
 use Rattle.mp_version.specs.Stories.{Story}
 use Rattle.mp_desk.specs.Extending.{Extends}
 use Rattle.mp_desk.specs.Holders.{Working, Seeing, fresh_viewer, AreFresh, ExtendsEach}
-use Rattle.mp_desk.specs.meeting.Sittings.{Sitting, begun}
+use Rattle.mp_desk.specs.meeting.Sittings.{DesignerTally, begun}
 use Rattle.mp_desk.specs.meeting.Seats.{working}
 use Rattle.mp_seats.specs.Steps.{Seated}
 use Rattle.mp_seats.specs.hosting.Guests.{sitter, looker, just_looking, HaveCome}
@@ -51,10 +51,10 @@ module _ {A : Type 0} (P : A → Type 0) where
 
 module _ (start : Story) where
   -- designers who have just come, as those who sit
-  pub sitters_came : (ds : List Working) (ss : List Sitting) → ss ≡ map begun ds → AreFresh start ds → HaveCome start ss
+  pub sitters_came : (ds : List Working) (ss : List DesignerTally) → ss ≡ map begun ds → AreFresh start ds → HaveCome start ss
   sitters_came ds ss same fresh = subst (HaveCome start) (sym same) (λ k s within. by ds k s within ∙ ap (λ d. sitter (begun d)) (fresh k (working s) (omega (arith, within, length-map ds begun))))
     where
-      by : (ds : List Working) (k : ℕ) (s : Sitting) → k < length (map begun ds) → sitter (slice_index_or (map begun ds) k s) ≡ sitter (begun (slice_index_or ds k (working s)))
+      by : (ds : List Working) (k : ℕ) (s : DesignerTally) → k < length (map begun ds) → sitter (slice_index_or (map begun ds) k s) ≡ sitter (begun (slice_index_or ds k (working s)))
       by [] k s within = absurd (omega (arith, within))
       by (d ∷ ds) zero s within = refl
       by (d ∷ ds) (suc k) s within = by ds k s (omega (arith, within))
@@ -64,7 +64,7 @@ module _ (start : Story) where
   lookers_came vs fresh k v within = ap looker (fresh k v within)
 
 module _ (now : Story) where
-  pub sitters_extend : (ss : List Sitting) → ExtendsEach now (map working ss) → All (λ (s : Seated). Extends now s.seen) (map sitter ss)
+  pub sitters_extend : (ss : List DesignerTally) → ExtendsEach now (map working ss) → All (λ (s : Seated). Extends now s.seen) (map sitter ss)
   sitters_extend [] extends k s within = absurd (omega (arith, within))
   sitters_extend (x ∷ xs) extends zero s within = extends.0
   sitters_extend (x ∷ xs) extends (suc k) s within = sitters_extend xs extends.1 k s (omega (arith, within))

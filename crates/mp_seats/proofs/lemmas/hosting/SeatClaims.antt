@@ -4,7 +4,7 @@ use mathlib.Core.List.{IsPrefix}
 use Rattle.mp_version.specs.Stories.{Story}
 use Rattle.mp_desk.specs.Holders.{ExtendsEach, accepted_by, BeginWithEach, IsSigned}
 use Rattle.mp_desk.proofs.PrefixLemmas.{prefix_self, prefix_trans, extends_self, extends_length}
-use Rattle.mp_desk.specs.meeting.Sittings.{Sitting}
+use Rattle.mp_desk.specs.meeting.Sittings.{DesignerTally}
 use Rattle.mp_desk.specs.meeting.Seats.{working}
 use Rattle.mp_seats.specs.Marks.{Mark, AcceptedAt, AnsweredAt, Rise, accepted_of, places_of, AreSigned}
 use Rattle.mp_seats.specs.Replies.{Writing}
@@ -89,7 +89,7 @@ module _ (T : Type 0) {D : Type 0} (Comes : D → D → Option (List ℕ) → Op
 -- ---- all seats of designers
 
 module _ (T : Type 0) {D : Type 0} (Comes : D → D → Option (List ℕ) → Option (List ℕ) → Type 0) (Leaves : D → D → Option (List ℕ) → Type 0) (TurnsAway : D → D → Type 0) (w : Writing) (first now : Story) where
-  seats_claim : (authors : List ℕ) (number : ℕ) (doors : List D) (ss : List Sitting)
+  seats_claim : (authors : List ℕ) (number : ℕ) (doors : List D) (ss : List DesignerTally)
       (are : AreAttended T Comes Leaves TurnsAway w true (λ n. just_come n first) number doors (map sitter ss)) → ExtendsEach now (map working ss) → BeginWithEach authors (map working ss)
       → AreClaims authors (length first.edits) (length now.edits) number (claims T Comes Leaves TurnsAway w true (λ n. just_come n first) number doors (map sitter ss) are)
   seats_claim authors number [] [] are extends begin = tt
@@ -102,7 +102,7 @@ module _ (T : Type 0) {D : Type 0} (Comes : D → D → Option (List ℕ) → Op
     seats_claim authors (number + 1) doors ss are.1 extends.1 begin.1,
   )
 
-  seats_count : (number : ℕ) (doors : List D) (ss : List Sitting) (are : AreAttended T Comes Leaves TurnsAway w true (λ n. just_come n first) number doors (map sitter ss))
+  seats_count : (number : ℕ) (doors : List D) (ss : List DesignerTally) (are : AreAttended T Comes Leaves TurnsAway w true (λ n. just_come n first) number doors (map sitter ss))
       → accepted_by (map working ss) ≡ count_claims (claims T Comes Leaves TurnsAway w true (λ n. just_come n first) number doors (map sitter ss) are)
   seats_count number [] [] are = omega arith
   seats_count number [] (s ∷ ss) are = absurd are
@@ -113,7 +113,7 @@ module _ (T : Type 0) {D : Type 0} (Comes : D → D → Option (List ℕ) → Op
       omega (arith, here, rest)
 
   -- each edit behind those of the first story has its place by one line of one seat
-  pub claimed_once : (doors : List D) (ss : List Sitting) (are : AreAttended T Comes Leaves TurnsAway w true (λ n. just_come n first) 1 doors (map sitter ss)) → ExtendsEach now (map working ss)
+  pub claimed_once : (doors : List D) (ss : List DesignerTally) (are : AreAttended T Comes Leaves TurnsAway w true (λ n. just_come n first) 1 doors (map sitter ss)) → ExtendsEach now (map working ss)
       → IsSigned now (map working ss) → length now.edits ≡ length first.edits + accepted_by (map working ss)
       → AreClaimed (length first.edits) (length now.edits) (claims T Comes Leaves TurnsAway w true (λ n. just_come n first) 1 doors (map sitter ss) are)
   claimed_once doors ss are extends signed counted =

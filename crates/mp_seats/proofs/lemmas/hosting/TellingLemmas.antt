@@ -1,7 +1,7 @@
 -- Lines of seats, one behind the other.
 use Rattle.std.proofs.Common.{◌≡◌, ℕ, ◌+◌, ◌<◌, ◌≤◌, Bool, false, List, [], ◌∷◌, ◌++◌, append_assoc, length, map, take, drop, take-append-drop, slice_index_or, refl, sym, ap, subst, ◌∙◌}
 use Rattle.std.proofs.lemmas.List.{append-nil, map-append, take_more, take_all}
-use Rattle.mp_seats.specs.declared.hosting.place.SeatName.{SeatName}
+use Rattle.mp_seats.specs.declared.hosting.seat_place.SeatName.{SeatName}
 use Rattle.mp_seats.specs.hosting.Places.{place_text, places_text, TellsOf}
 
 places_both : (xs ys : List (SeatName × Bool)) → places_text (xs ++ ys) ≡ places_text xs ++ places_text ys

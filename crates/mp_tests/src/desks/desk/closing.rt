@@ -2,8 +2,10 @@
 ghost use Rattle.std.specs.Prelude.{◌≡◌, ◌+◌, length};
 
 use super::{are_shut, edited, number_read, submits};
-use mp_desk::{CloseCause, CloseRefused, Designer, Desk, DeskName, DeskParts, DeskSize, Staffed, Viewer};
-use crate::making::making::Change;
+use crate::making::making::PlannedEdit;
+use mp_desk::{
+    CloseCause, CloseRefused, Designer, Desk, DeskName, DeskParts, DeskSize, Staffed, Viewer,
+};
 use mp_phase::OpenGate;
 use mp_session::Session;
 use std::alloc::Global;
@@ -57,7 +59,7 @@ fn takes_one_more<L: DeskName, R: Threads + Wait + Sync + Drop>(
         return false;
     };
     desk.opening() == 1
-        && submits(rt, alloc, desk, me, &Change::Removal("b"))
+        && submits(rt, alloc, desk, me, &PlannedEdit::Removal("b"))
         && number_read(viewer) == Some(2)
 }
 

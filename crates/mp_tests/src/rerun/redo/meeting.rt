@@ -1,10 +1,10 @@
 //! Modules that begin to work in the same unit do so at the same time.
 use super::row::{Row, Trial, Watch, changed_run, evaluated};
+use crate::making::making::{PlannedEdit, PlannedModule, PlannedNetlist, Signal};
+use mp_depend::Work;
 use mp_modules::Kind;
 use mp_netlist::ModuleId;
-use crate::making::making::{Change, Part, Plan, Signal};
 use mp_phase::{Crew, Gate};
-use mp_depend::Work;
 use std::alloc::Global;
 use std::process::Abort;
 use std::sync::Wait;
@@ -17,16 +17,16 @@ const LOOKS: u32 = 100_000_000;
 
 /// A gate whose calls for time 0 look for each other.
 #[derive(Drop)]
-struct Meeting {
+struct RerunMeeting {
     calls: u64,
     entered: AtomicU64,
     met: AtomicU64,
 }
 
-impl Meeting {
+impl RerunMeeting {
     /// So many calls are to meet.
     fn of(calls: u64) -> Self {
-        Meeting {
+        RerunMeeting {
             calls,
             entered: AtomicU64::new(0),
             met: AtomicU64::new(0),
@@ -34,7 +34,7 @@ impl Meeting {
     }
 }
 
-impl Gate for Meeting {
+impl Gate for RerunMeeting {
     ghost use Rattle.std.specs.Prelude.{true};
 
     ghost may = { λ gate m from to. true };
@@ -53,7 +53,7 @@ impl Gate for Meeting {
     }
 }
 
-impl Watch for Meeting {
+impl Watch for RerunMeeting {
     /// As many as are to meet saw each other.
     fn is_content(&self, _work: &Work) -> bool {
         self.met.load(Ordering::SeqCst) == self.calls
@@ -68,7 +68,7 @@ fn assert_meeting(
     row: &Row<'_>,
 ) -> Result<(), Fail> {
     let crew = Crew::new(count, 1)?;
-    let gate = Meeting::of(u64::from(count));
+    let gate = RerunMeeting::of(u64::from(count));
     let old = evaluated(rt, alloc, row)?;
     let trial = Trial {
         crew: &crew,
@@ -82,18 +82,18 @@ fn assert_meeting(
 }
 
 static TWO: Row<'static> = Row {
-    plan: Plan {
+    plan: PlannedNetlist {
         horizon: 20,
         wires: &["a", "y1", "y2"],
         parts: &[
-            Part {
+            PlannedModule {
                 name: "b1",
                 kind: Kind::Buf,
                 params: &[],
                 inputs: &[("a", 0)],
                 outputs: &[("y1", 3)],
             },
-            Part {
+            PlannedModule {
                 name: "b2",
                 kind: Kind::Buf,
                 params: &[],
@@ -103,7 +103,7 @@ static TWO: Row<'static> = Row {
         ],
         signals: &[],
     },
-    change: Change::Signal(Signal {
+    change: PlannedEdit::Signal(Signal {
         wire: "a",
         changes: &[(2, 1)],
     }),
@@ -117,32 +117,32 @@ fn two_workers_meet(rt: HostRuntime) -> Result<(), Fail> {
 }
 
 static FOUR: Row<'static> = Row {
-    plan: Plan {
+    plan: PlannedNetlist {
         horizon: 20,
         wires: &["a", "y1", "y2", "y3", "y4"],
         parts: &[
-            Part {
+            PlannedModule {
                 name: "b1",
                 kind: Kind::Buf,
                 params: &[],
                 inputs: &[("a", 0)],
                 outputs: &[("y1", 3)],
             },
-            Part {
+            PlannedModule {
                 name: "b2",
                 kind: Kind::Buf,
                 params: &[],
                 inputs: &[("a", 0)],
                 outputs: &[("y2", 4)],
             },
-            Part {
+            PlannedModule {
                 name: "b3",
                 kind: Kind::Buf,
                 params: &[],
                 inputs: &[("a", 0)],
                 outputs: &[("y3", 3)],
             },
-            Part {
+            PlannedModule {
                 name: "b4",
                 kind: Kind::Buf,
                 params: &[],
@@ -152,7 +152,7 @@ static FOUR: Row<'static> = Row {
         ],
         signals: &[],
     },
-    change: Change::Signal(Signal {
+    change: PlannedEdit::Signal(Signal {
         wire: "a",
         changes: &[(2, 1)],
     }),

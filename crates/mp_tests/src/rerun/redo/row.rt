@@ -5,15 +5,15 @@ ghost use Rattle.mp_phase.specs.Allowed.{IsOpen};
 ghost use Rattle.mp_depend.specs.work.Revisions.{IsRevision};
 
 use super::counting_gate::CountingGate;
+use crate::making::making::{PlannedEdit, PlannedNetlist};
+use crate::making::waves::has_changes;
+use mp_depend::work::laws::edits_revise;
 use mp_depend::{Work, touched};
 use mp_engine::{OpenGate, evaluate_here};
-use mp_partition::Run;
 use mp_netlist::{Edit, ModuleId, Netlist, WireId};
-use crate::making::making::{Change, Plan};
-use crate::making::waves::has_changes;
+use mp_partition::Run;
 use mp_phase::{Crew, Gate};
 use mp_redo::rerun::redo;
-use mp_depend::work::laws::edits_revise;
 use std::alloc::Global;
 use std::process::Abort;
 use std::sync::Wait;
@@ -27,8 +27,8 @@ pub(super) struct Span(pub u32, pub u32, pub u32, pub u32);
 /// A netlist, a change, and what is known of the netlist's run after the change: the changes of some wires, and the work.
 #[derive(Clone, Copy)]
 pub(super) struct Row<'a> {
-    pub plan: Plan<'a>,
-    pub change: Change<'a>,
+    pub plan: PlannedNetlist<'a>,
+    pub change: PlannedEdit<'a>,
     pub waves: &'a [(u32, &'a [(u32, u64)])],
     pub work: &'a [Span],
 }
@@ -95,8 +95,8 @@ fn redone<G: Watch + Sync>(
     requires open { IsOpen (G.may trial.now.gate.now) }
     ensures { IfOk result (λ found. IsRun new.now found) }
 {
-    let (found, stretches) = redo(rt, alloc, old, run, new, trial.crew, trial.gate)?;
-    let work = Work::of_change(old, new, stretches);
+    let (found, work_spans) = redo(rt, alloc, old, run, new, trial.crew, trial.gate)?;
+    let work = Work::of_change(old, new, work_spans);
     let known = has_waves(trial.row, &found) && trial.gate.is_content(&work);
     drop(work);
     assert!(rt; known);

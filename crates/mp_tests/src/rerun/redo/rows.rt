@@ -1,30 +1,30 @@
 //! Small netlists with a change, whose waves and work were worked out by hand.
 use super::row::{Row, Span, assert_row, assert_touched};
+use crate::making::making::{PlannedEdit, PlannedModule, PlannedNetlist, Signal};
 use mp_modules::Kind;
 use mp_netlist::ModuleId;
-use crate::making::making::{Change, Part, Plan, Signal};
 use std::test::Fail;
 
 static INCREMENTAL_CHAIN: Row<'static> = Row {
-    plan: Plan {
+    plan: PlannedNetlist {
         horizon: 100,
         wires: &["a", "c", "y", "z", "v"],
         parts: &[
-            Part {
+            PlannedModule {
                 name: "b1",
                 kind: Kind::Buf,
                 params: &[],
                 inputs: &[("a", 0)],
                 outputs: &[("y", 4)],
             },
-            Part {
+            PlannedModule {
                 name: "b2",
                 kind: Kind::Buf,
                 params: &[],
                 inputs: &[("c", 0)],
                 outputs: &[("z", 2)],
             },
-            Part {
+            PlannedModule {
                 name: "b3",
                 kind: Kind::Buf,
                 params: &[],
@@ -34,7 +34,7 @@ static INCREMENTAL_CHAIN: Row<'static> = Row {
         ],
         signals: &[],
     },
-    change: Change::Signal(Signal {
+    change: PlannedEdit::Signal(Signal {
         wire: "a",
         changes: &[(50, 1)],
     }),
@@ -49,18 +49,18 @@ fn incremental_chain(rt: HostRuntime) -> Result<(), Fail> {
 }
 
 static DELAY_EDIT_WORK: Row<'static> = Row {
-    plan: Plan {
+    plan: PlannedNetlist {
         horizon: 10,
         wires: &["a", "y", "z"],
         parts: &[
-            Part {
+            PlannedModule {
                 name: "b1",
                 kind: Kind::Buf,
                 params: &[],
                 inputs: &[("a", 0)],
                 outputs: &[("y", 4)],
             },
-            Part {
+            PlannedModule {
                 name: "b2",
                 kind: Kind::Buf,
                 params: &[],
@@ -73,7 +73,7 @@ static DELAY_EDIT_WORK: Row<'static> = Row {
             changes: &[(1, 1)],
         }],
     },
-    change: Change::Delay {
+    change: PlannedEdit::Delay {
         part: "b1",
         delay: 1,
     },
@@ -106,10 +106,10 @@ fn delay_edit_work(rt: HostRuntime) -> Result<(), Fail> {
 }
 
 /// A buffer that hears nothing.
-const QUIET: Plan<'static> = Plan {
+const QUIET: PlannedNetlist<'static> = PlannedNetlist {
     horizon: 2000,
     wires: &["a", "y"],
-    parts: &[Part {
+    parts: &[PlannedModule {
         name: "b",
         kind: Kind::Buf,
         params: &[],
@@ -124,7 +124,7 @@ const QUIET: Plan<'static> = Plan {
 
 static REJOINING_TWICE: Row<'static> = Row {
     plan: QUIET,
-    change: Change::Signal(Signal {
+    change: PlannedEdit::Signal(Signal {
         wire: "a",
         changes: &[(100, 1), (200, 0), (1500, 1)],
     }),
@@ -144,10 +144,10 @@ fn rejoining_twice(rt: HostRuntime) -> Result<(), Fail> {
 }
 
 /// A buffer hears its input 4 units late.
-const LATE: Plan<'static> = Plan {
+const LATE: PlannedNetlist<'static> = PlannedNetlist {
     horizon: 20,
     wires: &["a", "y"],
-    parts: &[Part {
+    parts: &[PlannedModule {
         name: "b",
         kind: Kind::Buf,
         params: &[],
@@ -162,7 +162,7 @@ const LATE: Plan<'static> = Plan {
 
 static INPUT_DELAYS: Row<'static> = Row {
     plan: LATE,
-    change: Change::Signal(Signal {
+    change: PlannedEdit::Signal(Signal {
         wire: "a",
         changes: &[(2, 1), (6, 0)],
     }),

@@ -1,7 +1,7 @@
 use Rattle.std.proofs.Common.{◌≡◌, List, ap, subst, length, ◌≤◌}
 use mathlib.Core.List.{IsPrefix}
 use Rattle.mp_version.specs.Stories.{Story}
-use Rattle.mp_desk.specs.declared.chronicle.Entry.{Entry}
+use Rattle.mp_desk.specs.declared.chronicle.HistoryEntry.{HistoryEntry}
 use Rattle.mp_desk.specs.Chronicles.{latest}
 use Rattle.mp_desk.proofs.ChainLemmas.{longer_extends}
 use Rattle.mp_desk.proofs.log_prefix.LogPrefix.agrees.Goals as goal
@@ -9,7 +9,7 @@ use Rattle.mp_desk.proofs.log_prefix.LogPrefix.agrees.Goals as goal
 pub returns : goal.returns
 returns c le =
     let both = c.learn.new.self.log in let mine = c.self.inside.seen.log in let others = c.other.inside.seen.log in
-    let this : IsPrefix mine both = subst (λ (l : List Entry). IsPrefix l both) (ap (λ s. s.log) c.again-both.ensures) c.learn.ensures.2 in
+    let this : IsPrefix mine both = subst (λ (l : List HistoryEntry). IsPrefix l both) (ap (λ s. s.log) c.again-both.ensures) c.learn.ensures.2 in
     let my_story : latest mine ≡ c.args.self.now.story = ap (λ f. f.story) c.self.view_is in
     let other_story : latest others ≡ c.args.other.now.story = ap (λ f. f.story) c.other.view_is in
     let le' : length (latest others).edits ≤ length (latest mine).edits = rw (my_story, other_story) le in

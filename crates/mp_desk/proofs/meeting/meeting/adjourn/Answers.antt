@@ -2,7 +2,7 @@ use Rattle.std.proofs.Common.{◌≡◌, ◌+◌, ◌<◌, ◌≤◌, ℕ, List,
 use Rattle.mp_version.specs.Stories.{Story}
 use Rattle.mp_desk.specs.Extending.{Extends}
 use Rattle.mp_desk.specs.Holders.{Working, Seeing, ExtendsEach, accepted_by, IsSigned}
-use Rattle.mp_desk.specs.meeting.Sittings.{Sitting}
+use Rattle.mp_desk.specs.meeting.Sittings.{DesignerTally}
 use Rattle.mp_desk.specs.meeting.Seats.{working}
 use Rattle.mp_desk.proofs.lemmas.meeting.MeetLemmas.{none_more, came_back, all_looked}
 use Rattle.mp_desk.proofs.meeting.meeting.adjourn.Goals as goal
@@ -10,10 +10,10 @@ use Rattle.mp_desk.proofs.meeting.meeting.adjourn.Goals as goal
 pub returns-clause-adjourned : goal.returns-clause-adjourned
 returns-clause-adjourned g c =
     let now : Story = g.S.EditSession.story c.in-Ok.session in
-    let new : List Sitting = c.args.sittings.items in
+    let new : List DesignerTally = c.args.sittings.items in
     let numbers : List ℕ = c.in_ok-numbers.numbers.items in
     let vs : List Seeing = c.as_mut_slice-2.result.now in
-    let told : All (λ (n : ℕ). All (λ (s : Sitting). s.told ≤ n) new) numbers = rw c.as_slice.ensures.value at c.in_ok-numbers.ensures.told in
+    let told : All (λ (n : ℕ). All (λ (s : DesignerTally). s.told ≤ n) new) numbers = rw c.as_slice.ensures.value at c.in_ok-numbers.ensures.told in
     let seen : ExtendsEach now (map working new) = subst (ExtendsEach now) c.in_ok-designers.ensures.designers c.in-Ok.ensures.seen in
     let counted : length now.edits ≡ c.args.desk.opening + accepted_by (map working new) =
     subst (λ (ws : List Working). length now.edits ≡ c.args.desk.opening + accepted_by ws) c.in_ok-designers.ensures.designers c.in-Ok.ensures.counted in

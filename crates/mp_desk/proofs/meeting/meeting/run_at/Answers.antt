@@ -3,7 +3,7 @@ use Rattle.mp_version.specs.Stories.{Story}
 use Rattle.mp_desk.specs.Holders.{Working}
 use Rattle.mp_text.specs.lexing.Divisions.{lines_of_each}
 use Rattle.mp_desk.specs.declared.meeting.tally.Tally.{Tally}
-use Rattle.mp_desk.specs.meeting.Sittings.{Sitting}
+use Rattle.mp_desk.specs.meeting.Sittings.{DesignerTally}
 use Rattle.mp_desk.specs.meeting.Meetings.{IsMeeting}
 use Rattle.mp_desk.proofs.lemmas.meeting.MeetLemmas.{met, seated_fresh}
 use Rattle.mp_desk.proofs.meeting.meeting.run_at.Goals as goal
@@ -19,8 +19,8 @@ returns-clause-met g c = λ base fresh.
     let numbers : List ℕ = met_at.numbers.items in
     let blocks = c.args.blocks.now in
     let ds : List Working = c.args.staffed.designers.items in
-    let old : List Sitting = c.in_ok-sittings.sittings.items in
-    let new : List Sitting = c.race-sittings.result.0.items in
+    let old : List DesignerTally = c.in_ok-sittings.sittings.items in
+    let new : List DesignerTally = c.race-sittings.result.0.items in
     let count : length ds ≡ length blocks = search rules in
     let same : length new ≡ length old = search rules in
     subst (λ (tallies : List Tally). IsMeeting base (lines_of_each blocks) now tallies numbers) (sym adjourned.tallies_are)

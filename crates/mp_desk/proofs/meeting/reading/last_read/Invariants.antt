@@ -1,10 +1,10 @@
 use Rattle.std.proofs.Common.{◌≡◌, ◌<◌, ◌≤◌, ℕ, length, slice_index_or}
-use Rattle.mp_desk.specs.meeting.Sittings.{Sitting}
+use Rattle.mp_desk.specs.meeting.Sittings.{DesignerTally}
 use Rattle.mp_desk.proofs.meeting.reading.last_read.Given as goal
 
 -- what the designers so far were told of was learnt, and nothing was read
 abbrev pub invariant-loop-place : goal.invariant-loop-place
 invariant-loop-place g l = record {
-  told : (k : ℕ) (s : Sitting) → k < l.place → (slice_index_or l.sittings k s).told ≤ length l.viewer.learnt.edits;
+  told : (k : ℕ) (s : DesignerTally) → k < l.place → (slice_index_or l.sittings k s).told ≤ length l.viewer.learnt.edits;
   same : l.viewer.last ≡ l.initial.viewer.last;
 }

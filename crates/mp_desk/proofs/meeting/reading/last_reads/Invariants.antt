@@ -1,7 +1,7 @@
 use Rattle.std.proofs.Common.{◌≡◌, ◌<◌, ◌≤◌, ℕ, length, vec_len, slice_index, slice_index_or, All}
 use Rattle.mp_desk.specs.Extending.{Extends}
 use Rattle.mp_desk.specs.Holders.{Seeing}
-use Rattle.mp_desk.specs.meeting.Sittings.{Sitting}
+use Rattle.mp_desk.specs.meeting.Sittings.{DesignerTally}
 use Rattle.mp_desk.proofs.meeting.reading.last_reads.Given as goal
 
 -- the viewers so far have read
@@ -10,7 +10,7 @@ invariant-loop-place g l = record {
   count : vec_len l.numbers ≡ l.place;
   all : length l.viewers ≡ length l.initial.viewers;
   last : (k : ℕ) (v : Seeing) → k < l.place → slice_index l.numbers.items k ≡ length (slice_index_or l.viewers k v).last.edits;
-  told : All (λ (n : ℕ). All (λ (s : Sitting). s.told ≤ n) l.sittings) l.numbers.items;
+  told : All (λ (n : ℕ). All (λ (s : DesignerTally). s.told ≤ n) l.sittings) l.numbers.items;
   later : (k : ℕ) (v : Seeing) → k < l.place → Extends (slice_index_or l.viewers k v).last (slice_index_or l.initial.viewers k v).last;
   rest : (k : ℕ) (v : Seeing) → l.place ≤ k → slice_index_or l.viewers k v ≡ slice_index_or l.initial.viewers k v;
 }

@@ -1,5 +1,5 @@
 use Rattle.std.proofs.Common.{◌≡◌, false, map, All}
-use Rattle.mp_desk.specs.meeting.Sittings.{Sitting}
+use Rattle.mp_desk.specs.meeting.Sittings.{DesignerTally}
 use Rattle.mp_desk.specs.meeting.Seats.{working, tally_of}
 use Rattle.mp_desk.proofs.meeting.seats.finish_all.Given as goal
 
@@ -8,5 +8,5 @@ abbrev pub invariant-loop-sitting : goal.invariant-loop-sitting
 invariant-loop-sitting g l = record {
   designers : l.designers.items ≡ map working l.yielded;
   tallies : l.tallies.items ≡ map tally_of l.yielded;
-  whole : All (λ (s : Sitting). s.wanting ≡ false) l.yielded;
+  whole : All (λ (s : DesignerTally). s.wanting ≡ false) l.yielded;
 }

@@ -2,15 +2,15 @@ use Rattle.std.proofs.Common.{◌≡◌, ℕ, ◌+◌, ◌-◌, Bool, List, refl
 use Rattle.mp_netlist.specs.Circuit.{Circuit}
 use Rattle.mp_simulation.specs.units.NetlistSimulations.{IsSimulated}
 use Rattle.mp_partition.specs.runs.Marks.{is_marked}
-use Rattle.mp_partition.specs.regions.Regions.{home_of, region, HasStimuli}
+use Rattle.mp_partition.specs.regions.Regions.{partition_of, region, HasStimuli}
 use Rattle.mp_partition.specs.regions.Divisions.{heard_by}
 use Rattle.mp_partition.proofs.lemmas.regions.DivisionLemmas.{divided_apart}
 use Rattle.mp_partition.proofs.lemmas.regions.RegionLemmas.{has_stimuli}
 use Rattle.mp_partition.specs.merging.PartRuns.{IsPartRun}
 use Rattle.mp_engine.specs.region_runs.StateHistories.{IsHistory}
 use Rattle.mp_engine.specs.region_runs.RegionRuns.{AreTidings, IsUnderWay}
-use Rattle.mp_engine.specs.letters.Letters.{AreTold, IsToldOnce, KnowsAhead}
-use Rattle.mp_engine.specs.letters.Lines.{parts_of}
+use Rattle.mp_engine.specs.messages.Messages.{AreTold, IsToldOnce, KnowsAhead}
+use Rattle.mp_engine.specs.messages.Lines.{parts_of}
 use Rattle.mp_engine.proofs.lemmas.region_runs.StateHistoryLemmas.{has_history}
 use Rattle.mp_engine.proofs.HearingLemmas.{renamed, tidings_are}
 use Rattle.mp_engine.proofs.part_of.PartOf.run.Goals as goal
@@ -20,8 +20,8 @@ new-region-requires g c m p w drives home =
     let division = c.args.self.division.now in
     let part = c.args.self.part in
     ap (λ (marks : List Bool). is_marked marks w) (c.heard_by-heard.ensures ∙ ap (λ (hs : List (List Bool)). heard_by hs part) c.as_slice.ensures.value)
-    ∙ divided_apart c.args.self.netlist.now division.homes.items division.wires.items division.heard.items division.parts part c.requires.mail.0.division m p w drives
-    (ap (λ (hs : List ℕ). home_of hs m) (sym c.as_slice-2.ensures.value) ∙ home)
+    ∙ divided_apart c.args.self.netlist.now division.homes.items division.wires.items division.heard.items division.parts part c.requires.channels.0.division m p w drives
+    (ap (λ (hs : List ℕ). partition_of hs m) (sym c.as_slice-2.ensures.value) ∙ home)
 
 pub loop-from-init : goal.loop-from-init
 loop-from-init g c =
@@ -39,11 +39,11 @@ loop-from-init g c =
       within = low;
       horizon = c.horizon-horizon.ensures.value;
       span = refl;
-      under_way = c.in_ok-run.ensures heard 1 (subst (λ (r : Circuit). HasStimuli n r heard) (sym here) (has_stimuli n homes part heard)) (λ w marked. (c.requires.mail.0.division.heard part w marked).unset) (λ w marked. omega arith);
+      under_way = c.in_ok-run.ensures heard 1 (subst (λ (r : Circuit). HasStimuli n r heard) (sym here) (has_stimuli n homes part heard)) (λ w marked. (c.requires.channels.0.division.heard part w marked).unset) (λ w marked. omega arith);
     }
 
-pub tell-requires-clause-knows : goal.tell-requires-clause-knows
-tell-requires-clause-knows g c =
+pub send-requires-clause-knows : goal.send-requires-clause-knows
+send-requires-clause-knows g c =
     let n = c.args.self.netlist.now in
     let part = c.args.self.part in
     let homes = c.args.self.division.now.homes.items in
@@ -60,8 +60,8 @@ tell-requires-clause-knows g c =
     let last = c.min-until.ensures in
     let sum = c.saturating_add.ensures in
     let high = c.horizon-horizon.type_inv in
-    let about = c.requires.mail.0 in
-    renamed about.netlist about.wires_are about.heards_are (sym c.requires.mail.1) (λ m ws hs p. KnowsAhead m ws hs p (record { from = c.loop-from.from; until = c.min-until.result }) c.loop-from.run.simulation) (record {
+    let about = c.requires.channels.0 in
+    renamed about.netlist about.wires_are about.heards_are (sym c.requires.channels.1) (λ m ws hs p. KnowsAhead m ws hs p (record { from = c.loop-from.from; until = c.min-until.result }) c.loop-from.run.simulation) (record {
       homes = homes;
       parts = c.args.self.division.now.parts;
       form = c.horizon-horizon.ensures.form;
@@ -91,18 +91,18 @@ run_units-requires-clause-before g c =
     let before = c.loop-from.invariant in
     let from = c.loop-from.from in
     let until = c.min-until.result in
-    let changes = c.in_ok-hear.field-0.items in
-    let bys = parts_of c.args.mail.from.items in
+    let changes = c.in_ok-receive.field-0.items in
+    let bys = parts_of c.args.channels.from.items in
     let later = before.later in
     let horizon = before.horizon in
     let next : c.loop-from.from ≡ c.loop-from.from - 1 + 1 = omega (arith, later) in
-    let about = c.requires.mail.0 in
-    let once = renamed (sym about.netlist) (sym about.wires_are) (sym about.heards_are) c.requires.mail.1 (λ m ws hs p. IsToldOnce m ws (heard_by hs p) bys) c.args.mail.once in
-    let told = renamed (sym about.netlist) (sym about.wires_are) (sym about.heards_are) c.requires.mail.1 (λ m ws hs p. AreTold m ws (heard_by hs p) bys (record { from = from; until = until }) changes) c.in_ok-hear.ensures in
+    let about = c.requires.channels.0 in
+    let once = renamed (sym about.netlist) (sym about.wires_are) (sym about.heards_are) c.requires.channels.1 (λ m ws hs p. IsToldOnce m ws (heard_by hs p) bys) c.args.channels.once in
+    let told = renamed (sym about.netlist) (sym about.wires_are) (sym about.heards_are) c.requires.channels.1 (λ m ws hs p. AreTold m ws (heard_by hs p) bys (record { from = from; until = until }) changes) c.in_ok-receive.ensures in
     let told_next = subst (λ k. AreTold n wires (heard_by heards part) bys (record { from = k; until = until }) changes) next told in
     let low = c.min-until.ensures in
     let tidings = tidings_are n c.horizon-horizon.ensures.form homes wires heards c.args.self.division.now.parts about.division part bys (from - 1) until changes (omega (arith, low, horizon)) once told_next in
-    let over = c.hear-in-loop-from.ensures c.new-region.result c.args.self.keeps (is_marked heard) (from - 1) until (subst (λ k. IsUnderWay c.new-region.result c.args.self.keeps (is_marked heard) (from - 1) k c.loop-from.run) next before.under_way)
+    let over = c.receive-in-loop-from.ensures c.new-region.result c.args.self.keeps (is_marked heard) (from - 1) until (subst (λ k. IsUnderWay c.new-region.result c.args.self.keeps (is_marked heard) (from - 1) k c.loop-from.run) next before.under_way)
     (subst (λ (r : Circuit). AreTidings r (is_marked heard) (from - 1) until changes) (sym here) tidings) in
     record { keeps = c.args.self.keeps; is_heard = is_marked heard; is = over }
 
@@ -121,18 +121,18 @@ loop-from-preserved g c =
     let before = c.loop-from.invariant in
     let from = c.loop-from.from in
     let until = c.min-until.result in
-    let changes = c.in_ok-hear.field-0.items in
-    let bys = parts_of c.args.mail.from.items in
+    let changes = c.in_ok-receive.field-0.items in
+    let bys = parts_of c.args.channels.from.items in
     let later = before.later in
     let horizon = before.horizon in
     let next : c.loop-from.from ≡ c.loop-from.from - 1 + 1 = omega (arith, later) in
-    let about = c.requires.mail.0 in
-    let once = renamed (sym about.netlist) (sym about.wires_are) (sym about.heards_are) c.requires.mail.1 (λ m ws hs p. IsToldOnce m ws (heard_by hs p) bys) c.args.mail.once in
-    let told = renamed (sym about.netlist) (sym about.wires_are) (sym about.heards_are) c.requires.mail.1 (λ m ws hs p. AreTold m ws (heard_by hs p) bys (record { from = from; until = until }) changes) c.in_ok-hear.ensures in
+    let about = c.requires.channels.0 in
+    let once = renamed (sym about.netlist) (sym about.wires_are) (sym about.heards_are) c.requires.channels.1 (λ m ws hs p. IsToldOnce m ws (heard_by hs p) bys) c.args.channels.once in
+    let told = renamed (sym about.netlist) (sym about.wires_are) (sym about.heards_are) c.requires.channels.1 (λ m ws hs p. AreTold m ws (heard_by hs p) bys (record { from = from; until = until }) changes) c.in_ok-receive.ensures in
     let told_next = subst (λ k. AreTold n wires (heard_by heards part) bys (record { from = k; until = until }) changes) next told in
     let low = c.min-until.ensures in
     let tidings = tidings_are n c.horizon-horizon.ensures.form homes wires heards c.args.self.division.now.parts about.division part bys (from - 1) until changes (omega (arith, low, horizon)) once told_next in
-    let over = c.hear-in-loop-from.ensures c.new-region.result c.args.self.keeps (is_marked heard) (from - 1) until (subst (λ k. IsUnderWay c.new-region.result c.args.self.keeps (is_marked heard) (from - 1) k c.loop-from.run) next before.under_way)
+    let over = c.receive-in-loop-from.ensures c.new-region.result c.args.self.keeps (is_marked heard) (from - 1) until (subst (λ k. IsUnderWay c.new-region.result c.args.self.keeps (is_marked heard) (from - 1) k c.loop-from.run) next before.under_way)
     (subst (λ (r : Circuit). AreTidings r (is_marked heard) (from - 1) until changes) (sym here) tidings) in
     let sum = c.saturating_add.ensures in
     let some = c.loop-from-test.true in
@@ -152,7 +152,7 @@ loop-from-smaller g c =
     let low = c.min-until.ensures in
     let sum = c.saturating_add.ensures in
     let high = c.horizon-horizon.type_inv in
-    let delay = c.requires.mail.0.crossing.some in
+    let delay = c.requires.channels.0.crossing.some in
     omega (arith, span, some, low, sum, high, delay)
 
 pub finish-requires-clause-simulated : goal.finish-requires-clause-simulated

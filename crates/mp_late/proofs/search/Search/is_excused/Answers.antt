@@ -37,9 +37,10 @@ loop-key-preserved c =
     let value = subst
     (λ (d : Driven). (c.in_ok-is_excuse.field-0 || any_excused d.netlist.now w r c.is_excuse.new.self.pending.keys)
     ≡ (is_excused d.netlist.now w r (change_at d.netlist.now c.change_of.result.wire c.change_of.result.time) || any_excused d.netlist.now w r popped))
-    c.loop-key.invariant.0 c.in_ok-is_excuse.ensures.value in
-    (c.in_ok-is_excuse.ensures.of ∙ c.loop-key.invariant.0,
-    c.in_ok-is_excuse.ensures.below end bound below,
-    ap (λ b. b || any_excused n w r c.is_excuse.new.self.pending.keys) (sym c.if-branch.false) ∙ value
-    ∙ ap (λ b. b || any_excused n w r popped) by_number ∙ sym (any_last (λ q. is_excused n w r (change_by n q)) popped k)
-    ∙ ap (λ (ks : List ℕ). any_excused n w r ks) (sym removal) ∙ c.loop-key.invariant.2)
+    c.loop-key.invariant.0 c.in_ok-is_excuse.ensures.value in (
+      c.in_ok-is_excuse.ensures.of ∙ c.loop-key.invariant.0,
+      c.in_ok-is_excuse.ensures.below end bound below,
+      ap (λ b. b || any_excused n w r c.is_excuse.new.self.pending.keys) (sym c.if-branch.false) ∙ value
+          ∙ ap (λ b. b || any_excused n w r popped) by_number ∙ sym (any_last (λ q. is_excused n w r (change_by n q)) popped k)
+          ∙ ap (λ (ks : List ℕ). any_excused n w r ks) (sym removal) ∙ c.loop-key.invariant.2,
+    )

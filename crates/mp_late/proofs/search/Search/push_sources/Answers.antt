@@ -43,11 +43,12 @@ loop-input-preserved c =
     ∙ ap (λ u. from_on r (change_time (source_at n kind u input))) c.saturating_sub-heard.ensures in
     let value = c.in_ok-push.ensures.value in
     let wire_low : input.wire.0 < 2 ^ 32 = omega (arith, c.push.ensures.low) in
-    let more = ap (λ (ks : List ℕ). any_excused n w r ks) value ∙ pushed n ok w r keys input.wire (source_at n kind (t - delay) input) found wire_low is (λ x e. source_wire n kind (t - delay) input x e) in
-    (c.in_ok-push.ensures.of ∙ c.loop-input.invariant.0,
-    input_more n ok w r kind (t - delay) k items input _ _ _ low (get_or_default items k none input low) c.loop-input.invariant.1 more,
-    λ end bound all. subst (All (λ q. q < end)) (sym value)
-    (pushed_below keys input.wire.0 t end found wire_low bound (source_time n ok kind t delay r input found c.requires.delay is) (c.loop-input.invariant.2 end bound all)))
+    let more = ap (λ (ks : List ℕ). any_excused n w r ks) value ∙ pushed n ok w r keys input.wire (source_at n kind (t - delay) input) found wire_low is (λ x e. source_wire n kind (t - delay) input x e) in (
+      c.in_ok-push.ensures.of ∙ c.loop-input.invariant.0,
+      input_more n ok w r kind (t - delay) k items input _ _ _ low (get_or_default items k none input low) c.loop-input.invariant.1 more,
+      λ end bound all. subst (All (λ q. q < end)) (sym value)
+          (pushed_below keys input.wire.0 t end found wire_low bound (source_time n ok kind t delay r input found c.requires.delay is) (c.loop-input.invariant.2 end bound all)),
+    )
 
 pub returns-clause-value : goal.returns-clause-value
 returns-clause-value c = λ id.

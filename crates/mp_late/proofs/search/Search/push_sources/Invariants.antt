@@ -10,6 +10,6 @@ invariant-loop-input l =
     let n = l.fn.self.of.netlist.now in
     (l.self.of ≡ l.fn.self.of)
     × (any_excused n l.request.wire.0 l.request.time l.self.pending.keys
-        ≡ (any_excused n l.request.wire.0 l.request.time l.fn.self.pending.keys
-        || list_any (is_excused n l.request.wire.0 l.request.time) (filter_map (source_at n l.part.kind (l.time - l.delay)) (take l.input-index l.input-items))))
+    ≡ (any_excused n l.request.wire.0 l.request.time l.fn.self.pending.keys
+    || list_any (is_excused n l.request.wire.0 l.request.time) (filter_map (source_at n l.part.kind (l.time - l.delay)) (take l.input-index l.input-items))))
     × ((end : ℕ) → key l.time 0 ≤ end → All (λ k. k < end) l.fn.self.pending.keys → All (λ k. k < end) l.self.pending.keys)

@@ -1,7 +1,7 @@
 use Rattle.std.proofs.Common.{◌≡◌, ◌<◌, ℕ, length, map, option_map}
 use Rattle.std.specs.Arc.{arc_value}
 use Rattle.mp_netlist.specs.Slots.{slot_at}
-use Rattle.mp_depend.specs.history.Endings.{HasCheckpoints}
+use Rattle.mp_depend.specs.recording.Endings.{HasCheckpoints}
 use Rattle.mp_redo.specs.parts.Changes.{old_part}
 use Rattle.mp_redo.proofs.parts.part_run.part_checkpoints.Given as goal
 

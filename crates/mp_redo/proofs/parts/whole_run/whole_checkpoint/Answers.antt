@@ -1,7 +1,7 @@
 use Rattle.std.proofs.Common.{◌≡◌, ℕ, List, slice_index_or, ap, sym, subst, ◌∙◌}
 use Rattle.mp_netlist.specs.Slots.{slot_at}
-use Rattle.mp_depend.specs.history.Endings.{HasCheckpoints}
-use Rattle.mp_partition.specs.regions.Regions.{home_of}
+use Rattle.mp_depend.specs.recording.Endings.{HasCheckpoints}
+use Rattle.mp_partition.specs.regions.Regions.{partition_of}
 use Rattle.mp_redo.specs.parts.Changes.{homes_in}
 use Rattle.mp_redo.proofs.lemmas.parts.OkLemmas.{on_ok}
 use Rattle.mp_redo.proofs.lemmas.parts.WholeLemmas.{states_there, states_absent}
@@ -13,7 +13,7 @@ returns-in-Some c =
     let n = change.new.now in
     let m = c.args.id.0 in
     let found = c.index-parts-part.result in
-    let home : c.home_of-part.result ≡ home_of (homes_in change) m = c.home_of-part.ensures ∙ ap (λ (xs : List ℕ). home_of xs m) c.as_slice.ensures.value in
+    let home : c.partition_of-part.result ≡ partition_of (homes_in change) m = c.partition_of-part.ensures ∙ ap (λ (xs : List ℕ). partition_of xs m) c.as_slice.ensures.value in
     on_ok c.shared_checkpoints.result _ _ (λ kept is. subst (HasCheckpoints n m) (sym (is ∙ ap (λ k. slot_at (slice_index_or c.args.parts.now k found).run.kept m) home))
     (states_there change c.requires.change c.args.parts.now c.requires.parts found m c.in-Some.field-0.now (sym c.in-Some.ensures.value))) c.shared_checkpoints.ensures
 

@@ -1,7 +1,7 @@
 use Rattle.std.proofs.Common.{◌+◌, length, map, option_map, ap, ◌∙◌, arith}
 use Rattle.std.specs.Arc.{arc_value}
 use Rattle.std.proofs.lemmas.List.{length_push, length-map}
-use Rattle.mp_depend.proofs.lemmas.history.EndLemmas.{kept_more, kept_are}
+use Rattle.mp_depend.proofs.lemmas.recording.EndLemmas.{kept_more, kept_are}
 use Rattle.mp_redo.proofs.parts.whole_run.whole_checkpoints.Goals as goal
 
 pub loop-m-preserved : goal.loop-m-preserved

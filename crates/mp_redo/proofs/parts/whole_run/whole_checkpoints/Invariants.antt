@@ -1,7 +1,7 @@
 use Rattle.std.proofs.Common.{◌≡◌, ◌<◌, ℕ, length, map, option_map}
 use Rattle.std.specs.Arc.{arc_value}
 use Rattle.mp_netlist.specs.Slots.{slot_at}
-use Rattle.mp_depend.specs.history.Endings.{HasCheckpoints}
+use Rattle.mp_depend.specs.recording.Endings.{HasCheckpoints}
 use Rattle.mp_redo.proofs.parts.whole_run.whole_checkpoints.Given as goal
 
 -- those so far

@@ -3,7 +3,7 @@ use Rattle.mp_netlist.specs.Circuit.{Circuit, IsCircuit}
 use Rattle.mp_netlist.specs.Drivers.{driver}
 use Rattle.mp_kernel.specs.automata.Codes.{bit}
 use Rattle.mp_partition.specs.runs.Marks.{is_marked}
-use Rattle.mp_partition.specs.regions.Regions.{home_of}
+use Rattle.mp_partition.specs.regions.Regions.{partition_of}
 use Rattle.mp_simulation.specs.run.Settling.{ports_of}
 use Rattle.mp_simulation.specs.run.Beginnings.{IsPartOf, IsLayout, IsBegun}
 use Rattle.mp_active.specs.excerpt.Excerpts.{excerpt, is_followed}
@@ -12,8 +12,8 @@ use Rattle.mp_redo.proofs.lemmas.rerun.StartingLemmas.{seen_ok, part_of, is_firs
 use Rattle.mp_redo.proofs.rerun.first_simulation.first_simulation.Goals as goal
 
 -- the lists as they are passed
-at_home : (active : List Bool) (items passed : List ℕ) → passed ≡ items → ((m : ℕ) → home_of items m ≡ bit (is_marked active m)) → (m : ℕ) → home_of passed m ≡ bit (is_marked active m)
-at_home active items passed same are m = ap (λ (xs : List ℕ). home_of xs m) same ∙ are m
+at_home : (active : List Bool) (items passed : List ℕ) → passed ≡ items → ((m : ℕ) → partition_of items m ≡ bit (is_marked active m)) → (m : ℕ) → partition_of passed m ≡ bit (is_marked active m)
+at_home active items passed same are m = ap (λ (xs : List ℕ). partition_of xs m) same ∙ are m
 
 hears : (n : Circuit) (active items passed : List Bool) → passed ≡ items → ((w : ℕ) → is_marked items w ≡ is_followed (λ m. is_marked active m) (driver n w)) →
     (w : ℕ) → is_marked passed w ≡ is_followed (λ m. is_marked active m) (driver n w)

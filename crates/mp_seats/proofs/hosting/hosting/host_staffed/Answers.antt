@@ -33,10 +33,10 @@ returns-clause-hosted g c = λ start designers viewers opening.
           subst (λ n. HasAdjourned n sittings.items (length c.args.hall.viewers.items) now tallies numbers) opening
           (subst (λ n. HasAdjourned c.args.staffed.desk.opening sittings.items n now tallies numbers) many adjourned);
       claimed =
-          claimed_once g.row.D-Output.Denot g.D.Door.Comes g.D.Door.Leaves g.D.Door.TurnsAway (record { answer = g.B.Scribe.answer_text; reply = g.B.Scribe.reply_text }) start now
+          claimed_once g.row.D-Output.Denot g.D.Door.Comes g.D.Door.Leaves g.D.Door.TurnsAway (record { answer = g.B.ReplyWriter.answer_text; reply = g.B.ReplyWriter.reply_text }) start now
           c.args.hall.designers.items sittings.items edited adjourned.seen adjourned.signed (subst (λ n. length now.edits ≡ n + accepted_by (map working sittings.items)) opening adjourned.counted);
       extends =
-          first_extends g.row.D-Output.Denot g.D.Door.Comes g.D.Door.Leaves g.D.Door.TurnsAway (record { answer = g.B.Scribe.answer_text; reply = g.B.Scribe.reply_text }) true now
+          first_extends g.row.D-Output.Denot g.D.Door.Comes g.D.Door.Leaves g.D.Door.TurnsAway (record { answer = g.B.ReplyWriter.answer_text; reply = g.B.ReplyWriter.reply_text }) true now
           (λ number. just_come number start) 1 c.args.hall.designers.items (map sitter sittings.items) edited some (sitters_extend now sittings.items adjourned.seen);
     }
 
@@ -44,7 +44,7 @@ pub returns-clause-talked : goal.returns-clause-talked
 returns-clause-talked g c = λ start viewers.
     let own : c.in-Some.own ≡ fresh_viewer start =
     last_all (λ (v : Seeing). v ≡ fresh_viewer start) c.pop.new.self.items c.in-Some.own (subst (All (λ (v : Seeing). v ≡ fresh_viewer start)) c.in-Some.ensures.items viewers) in
-    subst (λ (s : Story). HasTalked (record { answer = g.B.Scribe.answer_text; reply = g.B.Scribe.reply_text }) (Ok tt) s (g.X.Exit.names c.args.hall.exit) c.args.lines.now c.serve.new.lines c.args.out.now c.serve.new.out)
+    subst (λ (s : Story). HasTalked (record { answer = g.B.ReplyWriter.answer_text; reply = g.B.ReplyWriter.reply_text }) (Ok tt) s (g.X.Exit.names c.args.hall.exit) c.args.lines.now c.serve.new.lines c.args.out.now c.serve.new.out)
     (ap (λ (v : Seeing). v.last) own) c.in_ok-sittings-2.ensures.talked
 
 pub returns-in_err-sittings-2-clause-fault : goal.returns-in_err-sittings-2-clause-fault
@@ -55,5 +55,5 @@ returns-in_err-sittings-2-clause-fault g c =
     (λ start viewers.
     let own : c.in-Some.own ≡ fresh_viewer start =
     last_all (λ (v : Seeing). v ≡ fresh_viewer start) c.pop.new.self.items c.in-Some.own (subst (All (λ (v : Seeing). v ≡ fresh_viewer start)) c.in-Some.ensures.items viewers) in
-    subst (λ (s : Story). EndsFor (record { answer = g.B.Scribe.answer_text; reply = g.B.Scribe.reply_text }) c.in_err-sittings-2.field-0.0 s (g.X.Exit.names c.args.hall.exit) c.args.lines.now c.serve.new.lines c.args.out.now c.serve.new.out)
+    subst (λ (s : Story). EndsFor (record { answer = g.B.ReplyWriter.answer_text; reply = g.B.ReplyWriter.reply_text }) c.in_err-sittings-2.field-0.0 s (g.X.Exit.names c.args.hall.exit) c.args.lines.now c.serve.new.lines c.args.out.now c.serve.new.out)
     (ap (λ (v : Seeing). v.last) own) c.in_err-sittings-2.ensures.fault)

@@ -27,10 +27,10 @@ returns-clause-designers g c = λ start came.
     let old = c.in_ok-staff.staff.designers in
     let same : length new.items ≡ length old.items = omega (arith, c.serve_all-ended.ensures.designers.0, new.ok.0, old.ok.0) in
     subst
-    (λ lasts. AreAttended g.row.D-Output.Denot g.D.Door.Comes g.D.Door.Leaves g.D.Door.TurnsAway (record { answer = g.B.Scribe.answer_text; reply = g.B.Scribe.reply_text }) true
+    (λ lasts. AreAttended g.row.D-Output.Denot g.D.Door.Comes g.D.Door.Leaves g.D.Door.TurnsAway (record { answer = g.B.ReplyWriter.answer_text; reply = g.B.ReplyWriter.reply_text }) true
     (λ number. just_come number start) 1 c.args.hall.designers.items lasts)
     (sym c.in_ok-people_of.ensures.designers)
-    (all_attended g.row.D-Output.Denot g.D.Door.Comes g.D.Door.Leaves g.D.Door.TurnsAway (record { answer = g.B.Scribe.answer_text; reply = g.B.Scribe.reply_text }) true (λ p. p.seat) (λ p. p.door)
+    (all_attended g.row.D-Output.Denot g.D.Door.Comes g.D.Door.Leaves g.D.Door.TurnsAway (record { answer = g.B.ReplyWriter.answer_text; reply = g.B.ReplyWriter.reply_text }) true (λ p. p.seat) (λ p. p.door)
     (λ number. just_come number start) sitter c.args.people.sittings.items c.args.hall.designers.items old.items new.items c.in_ok-staff.ensures.designers came c.in_ok-staff.ensures.designer_doors same
     c.serve_all-ended.ensures.designers.1)
 
@@ -40,10 +40,10 @@ returns-clause-viewers g c = λ start came.
     let old = c.in_ok-staff.staff.viewers in
     let same : length new.items ≡ length old.items = omega (arith, c.serve_all-ended.ensures.viewers.0, new.ok.0, old.ok.0) in
     subst
-    (λ lasts. AreAttended g.row.D-Output.Denot g.D.Door.Comes g.D.Door.Leaves g.D.Door.TurnsAway (record { answer = g.B.Scribe.answer_text; reply = g.B.Scribe.reply_text }) false
+    (λ lasts. AreAttended g.row.D-Output.Denot g.D.Door.Comes g.D.Door.Leaves g.D.Door.TurnsAway (record { answer = g.B.ReplyWriter.answer_text; reply = g.B.ReplyWriter.reply_text }) false
     (λ number. just_looking start) 1 c.args.hall.viewers.items lasts)
     (sym c.in_ok-people_of.ensures.viewers)
-    (all_attended g.row.D-Output.Denot g.D.Door.Comes g.D.Door.Leaves g.D.Door.TurnsAway (record { answer = g.B.Scribe.answer_text; reply = g.B.Scribe.reply_text }) false (λ p. p.seat) (λ p. p.door)
+    (all_attended g.row.D-Output.Denot g.D.Door.Comes g.D.Door.Leaves g.D.Door.TurnsAway (record { answer = g.B.ReplyWriter.answer_text; reply = g.B.ReplyWriter.reply_text }) false (λ p. p.seat) (λ p. p.door)
     (λ number. just_looking start) looker c.args.people.viewers.items c.args.hall.viewers.items old.items new.items c.in_ok-staff.ensures.viewers came c.in_ok-staff.ensures.viewer_doors same
     c.serve_all-ended.ensures.viewers.1)
 

@@ -3,5 +3,5 @@ use Rattle.mp_seats.proofs.seat.Seat.serve.Goals as goal
 
 pub returns-clause-visit : goal.returns-clause-visit
 returns-clause-visit g c =
-    visit (record { answer = g.B.Scribe.answer_text; reply = g.B.Scribe.reply_text }) g.G.Guest.edits c.converse.result c.args.self.now c.converse.new.who c.args.lines.now c.converse.new.lines
+    visit (record { answer = g.B.ReplyWriter.answer_text; reply = g.B.ReplyWriter.reply_text }) g.G.Occupant.edits c.converse.result c.args.self.now c.converse.new.who c.args.lines.now c.converse.new.lines
     c.args.out.now c.converse.new.out c.converse.ensures.conversed

@@ -1,6 +1,6 @@
 use Rattle.std.proofs.Common.{cond, refl, ap, ◌∙◌, arith}
 use Rattle.std.proofs.lemmas.Bool.{eq-eqb}
-use Rattle.mp_kernel.specs.calendar.Calendars.{never}
+use Rattle.mp_kernel.specs.timers.TimerWheels.{never}
 use Rattle.mp_active.specs.compare.Comparing.{source_at}
 use Rattle.mp_active.specs.compare.Waking.{from_then}
 use Rattle.mp_active.proofs.lemmas.compare.WakingLemmas.{one_turned, differ_own}

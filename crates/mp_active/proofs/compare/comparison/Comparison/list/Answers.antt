@@ -25,7 +25,7 @@ returns-clause-cursors c =
     let was = c.args.self.now in
     let number = c.args.number in
     let place = c.old_count-place.result in
-    let is = record was { calendar = c.list.new.self; places = with_item was.places number place } in
+    let is = record was { timers = c.arm.new.self; places = with_item was.places number place } in
     let cs : changes_in c.old_changes-changes.result ≡ changes_at run was number = c.old_changes-changes.ensures ∙ ap (old_changes run) c.wire_of-wire.ensures in
     let long = c.len.ensures ∙ ap (length {A = ℕ × ℕ}) cs in
     let more = c.if-place-len.false in
@@ -45,7 +45,7 @@ returns-clause-cursors c =
       later = omega arith;
       kept = refl;
       places = refl;
-      times = c.in_ok-list.ensures.times;
-      calendar = c.in_ok-list.ensures.fresh [] (sym c.time_of.ensures ∙ c.if-time_of.false);
+      times = c.in_ok-arm.ensures.times;
+      timers = c.in_ok-arm.ensures.fresh [] (sym c.time_of.ensures ∙ c.if-time_of.false);
     } in
     fresh_cursors run c.args.now number (c.time_at.result + c.delay_of-delay.result) place was is c.requires.cursors fresh

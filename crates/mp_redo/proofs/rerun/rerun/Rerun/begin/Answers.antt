@@ -27,9 +27,9 @@ returns c =
       comparison = first.comparison;
       inputs = first.inputs;
       stimuli = c.in_ok-stimuli.stimuli;
-      tails = record { list = c.new.result; place = 0 };
+      pending_outputs = record { list = c.new.result; place = 0 };
       activity = c.in_ok-activity.activity;
-      history = c.in_ok-history.history;
+      recorder = c.in_ok-recorder.recorder;
       set = record { bits = c.new-2.result; levels = c.new-3.result };
       window_end = c.window_end.result;
       look_at = 0;
@@ -55,8 +55,8 @@ returns c =
       unseen = is.unseen;
       complete = is.complete;
       stimuli = subst (λ (sources : List WireSource). AreSetAnew new (until_in sources) 0 (left_of c.in_ok-stimuli.stimuli)) c.as_slice-3.ensures.value (set_anew new (until_in c.as_slice-3.result.now) 0 (left_of c.in_ok-stimuli.stimuli) c.in_ok-stimuli.ensures);
-      tails = c.new.ensures.items;
-      history = c.in_ok-history.ensures old run (λ m. is_marked active m) (λ m. ap (λ (ms : List Bool). is_marked ms m) (sym marks)) states;
+      pending_outputs = c.new.ensures.items;
+      recorder = c.in_ok-recorder.ensures old run (λ m. is_marked active m) (λ m. ap (λ (ms : List Bool). is_marked ms m) (sym marks)) states;
       window =
           c.window_end.ensures ∙ ap (λ k. end_of_window k c.horizon.result 0) c.requires.least ∙ ap (λ k. end_of_window (least_delay new) k 0) c.horizon.ensures.value;
     })

@@ -1,7 +1,7 @@
 use Rattle.std.proofs.Common.{◌≡◌, ℕ, ◌+◌, ◌-◌, subst, arith}
 use Rattle.mp_depend.specs.work.Work.{block_of, window_end, IsWindow}
 use Rattle.mp_depend.proofs.lemmas.work.WindowLemmas.{window_within}
-use Rattle.mp_depend.specs.history.Live.{AreAtWork}
+use Rattle.mp_depend.specs.recording.Live.{AreAtWork}
 use Rattle.mp_redo.specs.rerun.Reruns.{active_of}
 use Rattle.mp_redo.proofs.lemmas.rerun.WindowLemmas.{end_is, window_begun}
 use Rattle.mp_redo.proofs.rerun.rerun.Rerun.begin_window.Goals as goal

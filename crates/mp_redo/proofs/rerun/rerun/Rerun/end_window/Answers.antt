@@ -3,7 +3,7 @@ use Rattle.std.specs.List.{Contains}
 use Rattle.mp_records.specs.declared.ids.ModuleId.{ModuleId}
 use Rattle.mp_netlist.specs.Circuit.{module_at}
 use Rattle.mp_depend.specs.work.Work.{block_of}
-use Rattle.mp_depend.proofs.lemmas.history.HistoryLemmas.{history_sound}
+use Rattle.mp_depend.proofs.lemmas.recording.HistoryLemmas.{history_sound}
 use Rattle.mp_redo.proofs.lemmas.rerun.WindowLemmas.{window_ends}
 use Rattle.mp_redo.proofs.rerun.rerun.Rerun.end_window.Goals as goal
 
@@ -11,7 +11,7 @@ pub open_joined-requires-clause-sound : goal.open_joined-requires-clause-sound
 open_joined-requires-clause-sound c =
     let change = c.args.change.now in
     let before = c.requires.before in
-    history_sound change.old.now change.new.now change.run.now (λ m. block_of change.new.now.horizon before.from) before.from before.is.live c.args.self.now.history before.is.history
+    history_sound change.old.now change.new.now change.run.now (λ m. block_of change.new.now.horizon before.from) before.from before.is.live c.args.self.now.recorder before.is.recorder
 
 pub open_joined-requires-clause-stand : goal.open_joined-requires-clause-stand
 open_joined-requires-clause-stand c =

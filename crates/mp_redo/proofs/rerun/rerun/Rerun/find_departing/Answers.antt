@@ -22,13 +22,13 @@ find_departing-requires-clause-within c =
     let some = c.requires.some in
     let next : c.args.time - 1 + 1 ≡ c.args.time = omega (arith, some) in
     let coming = c.coming_changes-coming.result in
-    let are = coming_is c.args.time (left_of s.stimuli) (left_of s.tails) s.simulation c.list_due-2.new.set coming c.coming_changes-coming.ensures
-    (only_bits c.args.time s.stimuli.place s.tails.place s.stimuli.list.items s.tails.list.items c.as_slice.result.now c.as_slice-2.result.now c.as_slice.ensures.value c.as_slice-2.ensures.value
+    let are = coming_is c.args.time (left_of s.stimuli) (left_of s.pending_outputs) s.simulation c.list_due-2.new.set coming c.coming_changes-coming.ensures
+    (only_bits c.args.time s.stimuli.place s.pending_outputs.place s.stimuli.list.items s.pending_outputs.list.items c.as_slice.result.now c.as_slice-2.result.now c.as_slice.ensures.value c.as_slice-2.ensures.value
     c.clear.new.self.items c.list_due.new.set.bits.items c.list_due-2.new.set.bits.items c.clear.ensures.items c.in_ok-list_due.ensures.bits c.in_ok-list_due-2.ensures.bits)
-    (only_levels c.args.time s.stimuli.place s.tails.place s.stimuli.list.items s.tails.list.items c.as_slice.result.now c.as_slice-2.result.now c.as_slice.ensures.value c.as_slice-2.ensures.value
+    (only_levels c.args.time s.stimuli.place s.pending_outputs.place s.stimuli.list.items s.pending_outputs.list.items c.as_slice.result.now c.as_slice-2.result.now c.as_slice.ensures.value c.as_slice-2.ensures.value
     c.clear-2.new.self.items c.list_due.new.set.levels.items c.list_due-2.new.set.levels.items c.clear-2.ensures.items c.in_ok-list_due.ensures.levels c.in_ok-list_due-2.ensures.levels) in
     coming_within c.args.change.now.old.now c.args.change.now.new.now change.old_form change.form change.revision c.args.change.now.run.now at.numbering at.since (c.args.time - 1) s at.is coming
-    (subst (λ u. AreComing u (left_of s.stimuli) (left_of s.tails) s.simulation coming) (sym next) are)
+    (subst (λ u. AreComing u (left_of s.stimuli) (left_of s.pending_outputs) s.simulation coming) (sym next) are)
 
 pub returns-clause-is : goal.returns-clause-is
 returns-clause-is c latest at =
@@ -50,12 +50,12 @@ returns-clause-departing c =
     let same = change.revision.horizon in
     let next : c.args.time - 1 + 1 ≡ c.args.time = omega (arith, some) in
     let coming = c.coming_changes-coming.result in
-    let are = coming_is time (left_of s.stimuli) (left_of s.tails) s.simulation c.list_due-2.new.set coming c.coming_changes-coming.ensures
-    (only_bits time s.stimuli.place s.tails.place s.stimuli.list.items s.tails.list.items c.as_slice.result.now c.as_slice-2.result.now c.as_slice.ensures.value c.as_slice-2.ensures.value
+    let are = coming_is time (left_of s.stimuli) (left_of s.pending_outputs) s.simulation c.list_due-2.new.set coming c.coming_changes-coming.ensures
+    (only_bits time s.stimuli.place s.pending_outputs.place s.stimuli.list.items s.pending_outputs.list.items c.as_slice.result.now c.as_slice-2.result.now c.as_slice.ensures.value c.as_slice-2.ensures.value
     c.clear.new.self.items c.list_due.new.set.bits.items c.list_due-2.new.set.bits.items c.clear.ensures.items c.in_ok-list_due.ensures.bits c.in_ok-list_due-2.ensures.bits)
-    (only_levels time s.stimuli.place s.tails.place s.stimuli.list.items s.tails.list.items c.as_slice.result.now c.as_slice-2.result.now c.as_slice.ensures.value c.as_slice-2.ensures.value
+    (only_levels time s.stimuli.place s.pending_outputs.place s.stimuli.list.items s.pending_outputs.list.items c.as_slice.result.now c.as_slice-2.result.now c.as_slice.ensures.value c.as_slice-2.ensures.value
     c.clear-2.new.self.items c.list_due.new.set.levels.items c.list_due-2.new.set.levels.items c.clear-2.ensures.items c.in_ok-list_due.ensures.levels c.in_ok-list_due-2.ensures.levels) in
-    let there = subst (λ u. AreComing u (left_of s.stimuli) (left_of s.tails) s.simulation coming) (sym next) are in
+    let there = subst (λ u. AreComing u (left_of s.stimuli) (left_of s.pending_outputs) s.simulation coming) (sym next) are in
     departing_is old new change.old_form change.form change.revision run at.numbering at.since (time - 1) s at.is (record s { comparison = c.find_departing.new.self; set = c.list_due-2.new.set }) time
     (ap (λ (x : Comparison). record s { comparison = x; set = c.list_due-2.new.set }) c.in_ok-find_departing.ensures.kept)
     (c.in_ok-find_departing.ensures.departing (level old) (level new) (c.runs_are_old.ensures.levels old change.old_form run change.run time (omega (arith, below, same))) at.is.followed.complete

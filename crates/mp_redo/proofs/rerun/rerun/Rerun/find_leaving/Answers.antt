@@ -2,7 +2,7 @@ use Rattle.std.proofs.Common.{◌+◌, ◌<◌, ◌≤◌, List, length, slice_i
 use Rattle.std.proofs.lemmas.Bool.{both_ways}
 use Rattle.std.proofs.lemmas.List.{get_or_default}
 use Rattle.mp_records.specs.declared.ids.ModuleId.{ModuleId}
-use Rattle.mp_depend.specs.history.Live.{IsWorking}
+use Rattle.mp_depend.specs.recording.Live.{IsWorking}
 use Rattle.mp_redo.proofs.lemmas.rerun.BorderLemmas.{HasFound, found_none, found_more, found_else, found_all}
 use Rattle.mp_redo.proofs.rerun.rerun.Rerun.find_leaving.Goals as goal
 use Rattle.mp_redo.proofs.rerun.rerun.Rerun.find_leaving.Goals.{then-is_back+in_ok-push, else-is_back}
@@ -10,7 +10,7 @@ use Rattle.mp_redo.proofs.rerun.rerun.Rerun.find_leaving.Goals.{then-is_back+in_
 pub loop-id-init : goal.loop-id-init
 loop-id-init c =
     let change = c.args.change.now in
-    found_none change.old.now change.new.now c.args.time c.args.self.now c.args.self.now.history.live.items c.args.leaving.now.items c.requires.none
+    found_none change.old.now change.new.now c.args.time c.args.self.now c.args.self.now.recorder.live.items c.args.leaving.now.items c.requires.none
 
 pub loop-id-preserved : goal.loop-id-preserved
 loop-id-preserved c =
@@ -18,7 +18,7 @@ loop-id-preserved c =
     let new = c.args.change.now.new.now in
     let time = c.args.time in
     let s = c.args.self.now in
-    let list = s.history.live.items in
+    let list = s.recorder.live.items in
     let i = c.loop-id.id-index in
     let seen = c.live-id-items.result.now in
     let id : ModuleId = slice_index_or seen i (record { 0 = 0 }) in
@@ -44,5 +44,5 @@ pub returns-clause-others : goal.returns-clause-others
 returns-clause-others c =
     let change = c.args.change.now in
     let s = c.args.self.now in
-    found_all change.old.now change.new.now c.args.time s s.history.live.items c.loop-id.id-index c.loop-id.leaving.items c.loop-id.invariant
+    found_all change.old.now change.new.now c.args.time s s.recorder.live.items c.loop-id.id-index c.loop-id.leaving.items c.loop-id.invariant
     (subst (λ (xs : List ModuleId). length xs ≤ c.loop-id.id-index) c.live-id-items.ensures c.loop-id-test.false)

@@ -3,8 +3,8 @@ use Rattle.mp_netlist.specs.Circuit.{wire_at}
 use Rattle.mp_model.specs.Waves.{slot_wave}
 use Rattle.mp_partition.specs.runs.Outcomes.{AreSlots}
 use Rattle.mp_partition.specs.runs.Runs.{IsRun}
-use Rattle.mp_depend.specs.history.Histories.{IsHistory, IsOver}
-use Rattle.mp_depend.proofs.lemmas.history.HistoryLemmas.{history_over}
+use Rattle.mp_depend.specs.recording.Recorders.{IsRecorder, IsOver}
+use Rattle.mp_depend.proofs.lemmas.recording.HistoryLemmas.{history_over}
 use Rattle.mp_active.specs.declared.compare.wire_source.WireSource.{WireSource}
 use Rattle.mp_depend.specs.work.Work.{block_of}
 use Rattle.mp_redo.specs.declared.rerun.finishing.Remains.{Remains}
@@ -69,13 +69,13 @@ finish-requires c =
     let is = c.requires.change in
     let over = c.requires.over in
     let block = block_of new.horizon (new.horizon - 1) in
-    let history = history_left old new is.old_form is.form is.revision run is.run c.runs_are_old.ensures.levels c.readers_agree.ensures.sleepers c.wires_agree.ensures.wires c.readers_agree.ensures.quiet c.sleepers_agree.ensures.agree c.sleepers_agree.ensures.on c.sleepers_rest.ensures.rest
+    let recorder = history_left old new is.old_form is.form is.revision run is.run c.runs_are_old.ensures.levels c.readers_agree.ensures.sleepers c.wires_agree.ensures.wires c.readers_agree.ensures.quiet c.sleepers_agree.ensures.agree c.sleepers_agree.ensures.on c.sleepers_rest.ensures.rest
     c.args.end c.args.self over in
-    subst (λ (it : Remains). IsOver new run it.history) (sym c.remains_of-simulation.ensures)
-    (history_over old new run (λ m. block) new.horizon (active_of c.args.self) c.args.self.history history (λ m b border less. last_block new b border less))
+    subst (λ (it : Remains). IsOver new run it.recorder) (sym c.remains_of-simulation.ensures)
+    (history_over old new run (λ m. block) new.horizon (active_of c.args.self) c.args.self.recorder recorder (λ m b border less. last_block new b border less))
 
-pub returns-clause-stretches : goal.returns-clause-stretches
-returns-clause-stretches c =
+pub returns-clause-work_spans : goal.returns-clause-work_spans
+returns-clause-work_spans c =
     let change = c.args.change.now in
     let old = change.old.now in
     let new = change.new.now in
@@ -83,10 +83,10 @@ returns-clause-stretches c =
     let is = c.requires.change in
     let over = c.requires.over in
     let block = block_of new.horizon (new.horizon - 1) in
-    let history = history_left old new is.old_form is.form is.revision run is.run c.runs_are_old.ensures.levels c.readers_agree.ensures.sleepers c.wires_agree.ensures.wires c.readers_agree.ensures.quiet c.sleepers_agree.ensures.agree c.sleepers_agree.ensures.on c.sleepers_rest.ensures.rest
+    let recorder = history_left old new is.old_form is.form is.revision run is.run c.runs_are_old.ensures.levels c.readers_agree.ensures.sleepers c.wires_agree.ensures.wires c.readers_agree.ensures.quiet c.sleepers_agree.ensures.agree c.sleepers_agree.ensures.on c.sleepers_rest.ensures.rest
     c.args.end c.args.self over in
-    c.in_ok-kept.ensures.stretches old (λ m. block) (active_of c.args.self)
-    (subst (λ (it : Remains). IsHistory old new run (λ m. block) new.horizon (active_of c.args.self) it.history) (sym c.remains_of-simulation.ensures) history)
+    c.in_ok-kept.ensures.work_spans old (λ m. block) (active_of c.args.self)
+    (subst (λ (it : Remains). IsRecorder old new run (λ m. block) new.horizon (active_of c.args.self) it.recorder) (sym c.remains_of-simulation.ensures) recorder)
 
 pub returns-clause-run : goal.returns-clause-run
 returns-clause-run c =

@@ -22,8 +22,8 @@ returns-clause-after c =
     let can : CanLeap c.rest_end-time.result c.args.self.now = record {
       rest = c.if-not-is_idle.ensures.rest refl;
       stimuli = c.rest_end-time.ensures.stimuli;
-      tails = c.rest_end-time.ensures.tails;
-      calendar = c.rest_end-time.ensures.calendar;
+      pending_outputs = c.rest_end-time.ensures.pending_outputs;
+      timers = c.rest_end-time.ensures.timers;
       times = c.rest_end-time.ensures.times;
     } in
     let within : c.rest_end-time.result ≤ c.args.change.now.new.now.horizon = subst (λ h. c.rest_end-time.result ≤ h) c.horizon.ensures.value c.rest_end-time.ensures.within in

@@ -4,7 +4,7 @@ use Rattle.std.proofs.lemmas.List.{get_or_read}
 use Rattle.mp_model.proofs.SlotLemmas.{slot_within}
 use Rattle.mp_netlist.specs.Circuit.{module_at}
 use Rattle.mp_partition.specs.runs.Marks.{is_marked}
-use Rattle.mp_depend.specs.history.Live.{IsWorking}
+use Rattle.mp_depend.specs.recording.Live.{IsWorking}
 use Rattle.mp_redo.proofs.lemmas.rerun.BorderLemmas.{can_tell, told_state, can_leave_at, works_on}
 use Rattle.mp_redo.proofs.lemmas.rerun.StandingLemmas.{standing}
 use Rattle.mp_redo.proofs.rerun.rerun.Rerun.is_back.Goals as goal

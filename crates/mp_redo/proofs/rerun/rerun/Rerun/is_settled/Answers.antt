@@ -11,8 +11,8 @@ returns-then-is_multiple_of c settled =
     record {
       nobody = λ m stands on.
           none_in (let id : ModuleId = record { 0 = m } in id)
-          (subst (λ (xs : List ModuleId). Contains xs (record { 0 = m })) (alone.nobody c.if-is_left_alone.true) (at.history.listed m stands on));
+          (subst (λ (xs : List ModuleId). Contains xs (record { 0 = m })) (alone.nobody c.if-is_left_alone.true) (at.recorder.listed m stands on));
       stimuli = alone.stimuli c.if-is_left_alone.true;
-      tails = alone.tails c.if-is_left_alone.true;
+      pending_outputs = alone.pending_outputs c.if-is_left_alone.true;
       alike = c.are_numbers_settled.ensures settled;
     }

@@ -8,10 +8,10 @@ use Rattle.mp_netlist.specs.Circuit.{module_at}
 use Rattle.mp_partition.specs.runs.Checkpoints.{state_before}
 use Rattle.mp_simulation.specs.declared.units.netlist_simulation.NetlistSimulation.{NetlistSimulation}
 use Rattle.mp_simulation.specs.units.NetlistSimulations.{IsSimulated, CanTell}
-use Rattle.mp_depend.specs.declared.history.history.History.{History}
-use Rattle.mp_depend.specs.history.Histories.{IsHistory, CanKeep}
-use Rattle.mp_depend.specs.history.Keeping.{KeepsState}
-use Rattle.mp_depend.proofs.lemmas.history.HistoryLemmas.{kept_all}
+use Rattle.mp_depend.specs.declared.recording.rerun_recorder.RerunRecorder.{RerunRecorder}
+use Rattle.mp_depend.specs.recording.Recorders.{IsRecorder, CanKeep}
+use Rattle.mp_depend.specs.recording.Keeping.{KeepsState}
+use Rattle.mp_depend.proofs.lemmas.recording.HistoryLemmas.{kept_all}
 use Rattle.mp_depend.specs.work.Work.{block_of}
 use Rattle.mp_redo.specs.declared.rerun.rerun.Rerun.{Rerun}
 use Rattle.mp_redo.specs.rerun.Reruns.{active_of}
@@ -30,8 +30,8 @@ loop-place-init c =
     record {
       same = refl;
       listed = refl;
-      keeping = keeping_begins change.old.now change.new.now change.run.now block c.args.time (active_of s) s.history.live.items s.history
-          (subst (λ (t : ℕ). IsHistory change.old.now change.new.now change.run.now (λ m. block) t (active_of s) s.history) next c.requires.before.history);
+      keeping = keeping_begins change.old.now change.new.now change.run.now block c.args.time (active_of s) s.recorder.live.items s.recorder
+          (subst (λ (t : ℕ). IsRecorder change.old.now change.new.now change.run.now (λ m. block) t (active_of s) s.recorder) next c.requires.before.recorder);
     }
 
 pub memory-memory-requires : goal.memory-memory-requires
@@ -51,10 +51,10 @@ keep-requires c =
     let block = block_of new.horizon (time - 1) in
     let s = c.args.self.now in
     let live = active_of s in
-    let list = s.history.live.items in
+    let list = s.recorder.live.items in
     let k = c.loop-place.place in
     let d : ModuleId = record { 0 = 0 } in
-    let now = c.loop-place.self.history in
+    let now = c.loop-place.self.recorder in
     let inv = c.loop-place.invariant in
     let seen = c.live.result.now in
     let same : seen ≡ list = c.live.ensures ∙ ap (λ v. v.items) inv.listed in
@@ -77,10 +77,10 @@ loop-place-preserved c =
     let block = block_of new.horizon (time - 1) in
     let s = c.args.self.now in
     let live = active_of s in
-    let list = s.history.live.items in
+    let list = s.recorder.live.items in
     let k = c.loop-place.place in
     let d : ModuleId = record { 0 = 0 } in
-    let now : History = c.loop-place.self.history in
+    let now : RerunRecorder = c.loop-place.self.recorder in
     let inv = c.loop-place.invariant in
     let seen = c.live.result.now in
     let same : seen ≡ list = c.live.ensures ∙ ap (λ v. v.items) inv.listed in
@@ -88,8 +88,8 @@ loop-place-preserved c =
     let next = next_border new time c.requires.border c.requires.some c.requires.below in
     elim c.if-is_at_work.branch [
       | then-is_at_work+in_ok-keep w ↦
-          let after : History = w.keep.new.self in
-          let mid : Rerun = record (c.loop-place.self) { history = after } in
+          let after : RerunRecorder = w.keep.new.self in
+          let mid : Rerun = record (c.loop-place.self) { recorder = after } in
           let is : c.if-is_at_work.self ≡ mid = w.self-is in
           let done = w.in_ok-keep.ensures in
           let at = c.is_at_work.ensures.0 w.if-is_at_work.true in
@@ -105,12 +105,12 @@ loop-place-preserved c =
           let state = subst (λ xs. KeepsState new live inv.keeping.kept (kept_now inv.keeping.kept (slice_index_or list k d).0 time) (slice_index_or xs k d).0 time memory) (sym same)
           (keeping_state old new run block time live list k d now within inv.keeping next stands on memory
           (λ r here. subst (λ xs. memory ≡ state_before new (slice_index_or xs k d).0 r time) same (told r (subst (λ xs. module_at new (slice_index_or xs k d).0 ≡ Some r) (sym same) here)))) in
-          let kept : IsHistory old new run (kept_now inv.keeping.kept (slice_index_or list k d).0 time) time live after =
+          let kept : IsRecorder old new run (kept_now inv.keeping.kept (slice_index_or list k d).0 time) time live after =
           done.kept old new run inv.keeping.kept (kept_now inv.keeping.kept (slice_index_or list k d).0 time) time live state inv.keeping.is in
           record {
-            same = is ∙ ap (λ (x : Rerun). (let y : Rerun = record x { history = after } in y)) inv.same ∙ ap (λ (h : History). (let y : Rerun = record s { history = h } in y)) (sym (ap (λ (x : Rerun). x.history) is));
-            listed = ap (λ (x : Rerun). x.history.live) is ∙ done.listed ∙ inv.listed;
-            keeping = subst (λ (h : History). IsKeeping old new run block time live list (k + 1) h) (sym (ap (λ (x : Rerun). x.history) is))
+            same = is ∙ ap (λ (x : Rerun). (let y : Rerun = record x { recorder = after } in y)) inv.same ∙ ap (λ (h : RerunRecorder). (let y : Rerun = record s { recorder = h } in y)) (sym (ap (λ (x : Rerun). x.recorder) is));
+            listed = ap (λ (x : Rerun). x.recorder.live) is ∙ done.listed ∙ inv.listed;
+            keeping = subst (λ (h : RerunRecorder). IsKeeping old new run block time live list (k + 1) h) (sym (ap (λ (x : Rerun). x.recorder) is))
                 (keeping_more old new run block time live list k d now within inv.keeping next stands on after kept);
           }
       | else-is_at_work w ↦
@@ -121,14 +121,14 @@ loop-place-preserved c =
             ap (λ (x : Rerun). active_of x (slice_index_or seen k d).0) inv.same ∙ subst (λ xs. live (slice_index_or xs k d).0 ≡ true) (sym same) on,
           )) in
           record {
-            same = is ∙ inv.same ∙ ap (λ (h : History). (let y : Rerun = record s { history = h } in y)) (sym (ap (λ (x : Rerun). x.history) is));
-            listed = ap (λ (x : Rerun). x.history.live) is ∙ inv.listed;
-            keeping = subst (λ (h : History). IsKeeping old new run block time live list (k + 1) h) (sym (ap (λ (x : Rerun). x.history) is)) (keeping_same old new run block time live list k d now within inv.keeping none);
+            same = is ∙ inv.same ∙ ap (λ (h : RerunRecorder). (let y : Rerun = record s { recorder = h } in y)) (sym (ap (λ (x : Rerun). x.recorder) is));
+            listed = ap (λ (x : Rerun). x.recorder.live) is ∙ inv.listed;
+            keeping = subst (λ (h : RerunRecorder). IsKeeping old new run block time live list (k + 1) h) (sym (ap (λ (x : Rerun). x.recorder) is)) (keeping_same old new run block time live list k d now within inv.keeping none);
           }
     ]
 
-pub returns-clause-history : goal.returns-clause-history
-returns-clause-history c =
+pub returns-clause-recorder : goal.returns-clause-recorder
+returns-clause-recorder c =
     let change = c.args.change.now in
     let old = change.old.now in
     let new = change.new.now in
@@ -138,8 +138,8 @@ returns-clause-history c =
     let block = block_of new.horizon (time - 1) in
     let s = c.args.self.now in
     let live = active_of s in
-    let list = s.history.live.items in
-    let now : History = c.loop-place.self.history in
+    let list = s.recorder.live.items in
+    let now : RerunRecorder = c.loop-place.self.recorder in
     let keeping = c.loop-place.invariant.keeping in
     let next = next_border new time c.requires.border c.requires.some c.requires.below in
     let later = next.later in

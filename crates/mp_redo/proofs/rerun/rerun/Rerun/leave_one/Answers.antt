@@ -3,8 +3,8 @@ use Rattle.std.proofs.lemmas.List.{get_or_read}
 use Rattle.mp_netlist.specs.Circuit.{module_at}
 use Rattle.mp_model.proofs.SlotLemmas.{slot_within}
 use Rattle.mp_partition.specs.runs.Marks.{is_marked}
-use Rattle.mp_depend.specs.declared.history.history.History.{History}
-use Rattle.mp_depend.specs.history.Histories.{CanLeave}
+use Rattle.mp_depend.specs.declared.recording.rerun_recorder.RerunRecorder.{RerunRecorder}
+use Rattle.mp_depend.specs.recording.Recorders.{CanLeave}
 use Rattle.mp_redo.specs.declared.rerun.rerun.Rerun.{Rerun}
 use Rattle.mp_redo.proofs.rerun.rerun.Rerun.leave_one.Goals as goal
 
@@ -49,7 +49,7 @@ leave-requires c =
     let places = c.requires.places in
     let low : c.args.id.0 < length marks = omega (arith, within, places) in
     let on : is_marked marks c.args.id.0 ≡ true = sym (get_or_read marks c.args.id.0 c.index.result.now low c.index.ensures false) ∙ c.if-not-index.false in
-    subst (λ (h : History). CanLeave h c.args.id.0 c.args.time) (sym (ap (λ (x : Rerun). x.history) c.in_ok-fall_asleep.ensures.kept)) (c.requires.leaves (ap is_some at) on)
+    subst (λ (h : RerunRecorder). CanLeave h c.args.id.0 c.args.time) (sym (ap (λ (x : Rerun). x.recorder) c.in_ok-fall_asleep.ensures.kept)) (c.requires.leaves (ap is_some at) on)
 
 pub returns : goal.returns
 returns c =

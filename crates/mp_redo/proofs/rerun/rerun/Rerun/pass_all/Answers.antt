@@ -1,5 +1,5 @@
 use Rattle.std.proofs.Common.{◌≡◌, ℕ, ◌+◌, ◌-◌, subst, arith}
-use Rattle.mp_redo.specs.declared.rerun.ahead.Ahead.{Ahead}
+use Rattle.mp_redo.specs.declared.rerun.next_step.NextStep.{NextStep}
 use Rattle.mp_redo.specs.rerun.Settling.{IsAhead}
 use Rattle.mp_redo.specs.rerun.Windows.{IsUnderWay}
 use Rattle.mp_redo.proofs.rerun.rerun.Rerun.pass_all.Goals as goal
@@ -7,7 +7,7 @@ use Rattle.mp_redo.proofs.rerun.rerun.Rerun.pass_all.Goals as goal
 pub loop-time-preserved : goal.loop-time-preserved
 loop-time-preserved g c =
     let change = c.args.change.now in
-    let ahead = subst (λ (a : Ahead). IsAhead change.old.now change.new.now change.run.now c.loop-time.time c.look_ahead.new.self a) c.in-Next.is c.in_ok-next.ensures in
+    let ahead = subst (λ (a : NextStep). IsAhead change.old.now change.new.now change.run.now c.loop-time.time c.look_ahead.new.self a) c.in-Next.is c.in_ok-next.ensures in
     let first = ahead.0 in
     let before = c.loop-time.invariant.some in
     let over = c.pass_still-time.ensures in

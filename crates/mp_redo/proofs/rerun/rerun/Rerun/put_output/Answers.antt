@@ -28,13 +28,13 @@ returns-in_default-wave c = λ next.
 pub take_tail_back-requires-clause-below : goal.take_tail_back-requires-clause-below
 take_tail_back-requires-clause-below c = let most = horizon_within c.args.change.now.new.now c.requires.change.form in let below = c.requires.below in omega (arith, most, below)
 
-pub take_tail_back-requires-clause-tails : goal.take_tail_back-requires-clause-tails
-take_tail_back-requires-clause-tails c =
+pub take_tail_back-requires-clause-pending_outputs : goal.take_tail_back-requires-clause-pending_outputs
+take_tail_back-requires-clause-pending_outputs c =
     let are = c.requires.change in
     let next = c.requires.next in
     let s = c.args.self.now in
     let wide = c.index-2.result.now in
-    subst (λ u. AreTailsIn c.in-Some.wire.0 c.args.now u (room wide s.simulation) wide (left_of s.tails))
+    subst (λ u. AreTailsIn c.in-Some.wire.0 c.args.now u (room wide s.simulation) wide (left_of s.pending_outputs))
     (told_until c.args.change.now.old.now c.args.change.now.new.now c.args.change.now.run.now are.old_form are.form are.revision are.run c.wires_agree.ensures.sleepers c.args.now c.args.id.0 c.args.port c.args.output c.args.self.now next c.in-Some.wire.0 c.in-Some.is c.index.result.now c.index.ensures)
     (tails_in c.args.change.now.old.now c.args.change.now.new.now c.args.change.now.run.now are.old_form are.form are.revision are.run c.wires_agree.ensures.sleepers c.args.now c.args.id.0 c.args.port c.args.output c.args.self.now next c.in-Some.wire.0 c.in-Some.is wide (told_kind c.args.change.now.old.now c.args.change.now.new.now c.args.change.now.run.now are.old_form are.form are.revision are.run c.wires_agree.ensures.sleepers c.args.now c.args.id.0 c.args.port c.args.output c.args.self.now next c.in-Some.wire.0 c.in-Some.is wide c.index-2.ensures))
 
@@ -66,7 +66,7 @@ put_near_changes-requires-clause-within c =
     let s = c.args.self.now in
     let wide = c.index-2.result.now in
     let fits = has_room c.args.change.now.old.now c.args.change.now.new.now c.args.change.now.run.now are.old_form are.form are.revision are.run c.wires_agree.ensures.sleepers c.args.now c.args.id.0 c.args.port c.args.output c.args.self.now next c.in-Some.wire.0 c.in-Some.is wide in
-    let same = room_kept wide wide (entries_of c.in-Some.wire.0 c.args.now (tail_of c.in-Some.wire.0 (left_of s.tails))) s.simulation c.take_tail_back.new.self.simulation c.in_ok-take_tail_back.ensures.put in
+    let same = room_kept wide wide (entries_of c.in-Some.wire.0 c.args.now (tail_of c.in-Some.wire.0 (left_of s.pending_outputs))) s.simulation c.take_tail_back.new.self.simulation c.in_ok-take_tail_back.ensures.put in
     let low = until_low c.args.change.now.old.now c.args.change.now.new.now c.args.change.now.run.now are.old_form are.form are.revision are.run c.wires_agree.ensures.sleepers c.args.now c.args.id.0 c.args.port c.args.output c.args.self.now next c.in-Some.wire.0 c.in-Some.is in
     let until = told_until c.args.change.now.old.now c.args.change.now.new.now c.args.change.now.run.now are.old_form are.form are.revision are.run c.wires_agree.ensures.sleepers c.args.now c.args.id.0 c.args.port c.args.output c.args.self.now next c.in-Some.wire.0 c.in-Some.is c.index.result.now c.index.ensures in
     let first = c.max-own.ensures in
@@ -102,11 +102,11 @@ put_last_changes-requires-clause-can c =
     let some = c.if-kept-known.true in (
       next.part,
       w,
-      can_put_last c.args.change.now.old.now c.args.change.now.new.now c.args.change.now.run.now are.old_form are.form are.revision are.run c.wires_agree.ensures.sleepers c.args.now c.args.id.0 c.args.port c.args.output c.args.self.now next c.in-Some.wire.0 c.in-Some.is c.max-kept.result (omega (arith, until, first, kept)) (omega (arith, some)) sim2 s1.tails
+      can_put_last c.args.change.now.old.now c.args.change.now.new.now c.args.change.now.run.now are.old_form are.form are.revision are.run c.wires_agree.ensures.sleepers c.args.now c.args.id.0 c.args.port c.args.output c.args.self.now next c.in-Some.wire.0 c.in-Some.is c.max-kept.result (omega (arith, until, first, kept)) (omega (arith, some)) sim2 s1.pending_outputs
           (record s1 { simulation = sim2 }) (ap (λ (x : Rerun). (let y : Rerun = record x { simulation = sim2 } in y)) c.in_ok-take_tail_back.ensures.kept)
           (λ kind.
           room_kept kind wide _ s1.simulation sim2 c.in_ok-put_near_changes.ensures
-          ∙ room_kept kind wide (entries_of w c.args.now (tail_of w (left_of s.tails))) s.simulation s1.simulation c.in_ok-take_tail_back.ensures.put),
+          ∙ room_kept kind wide (entries_of w c.args.now (tail_of w (left_of s.pending_outputs))) s.simulation s1.simulation c.in_ok-take_tail_back.ensures.put),
     )
 
 pub returns-in_ok-put_last_changes : goal.returns-in_ok-put_last_changes
@@ -126,14 +126,14 @@ returns-in_ok-put_last_changes c = λ next.
     let some = c.if-kept-known.true in
     three_back c.args.change.now.old.now c.args.change.now.new.now c.args.change.now.run.now are.old_form are.form are.revision are.run c.wires_agree.ensures.sleepers c.args.now c.args.id.0 c.args.port c.args.output c.args.self.now next c.in-Some.wire.0 c.in-Some.is wide (told_kind c.args.change.now.old.now c.args.change.now.new.now c.args.change.now.run.now are.old_form are.form are.revision are.run c.wires_agree.ensures.sleepers c.args.now c.args.id.0 c.args.port c.args.output c.args.self.now next c.in-Some.wire.0 c.in-Some.is wide c.index-2.ensures) c.in-Some-wave.wave.now c.in-Some-wave.ensures c.max-own.result c.max-kept.result
     (first ∙ ap (λ u. max u (c.args.now + 1)) (sym until)) (omega (arith, kept)) (omega (arith, low, until, first, least, kept)) (λ more. omega (arith, more, least, kept, end))
-    s1.simulation sim2 c.in_ok-take_tail_back.ensures.put c.in_ok-put_near_changes.ensures s1.tails c.in_ok-take_tail_back.ensures.left
+    s1.simulation sim2 c.in_ok-take_tail_back.ensures.put c.in_ok-put_near_changes.ensures s1.pending_outputs c.in_ok-take_tail_back.ensures.left
     (record s1 { simulation = sim2 }) (ap (λ (x : Rerun). (let y : Rerun = record x { simulation = sim2 } in y)) c.in_ok-take_tail_back.ensures.kept)
     c.put_last_changes.new.self (subst (λ d. HasPutSpan c.args.change.now.new.now w c.args.now (c.max-kept.result - 1) (c.args.now + 1 + d) (record s1 { simulation = sim2 }) c.put_last_changes.new.self) (delay_is c.args.change.now.old.now c.args.change.now.new.now c.args.change.now.run.now are.old_form are.form are.revision are.run c.wires_agree.ensures.sleepers c.args.now c.args.id.0 c.args.port c.args.output c.args.self.now next c.in-Some.wire.0 c.in-Some.is)
-    (c.in_ok-put_last_changes.ensures next.part w (can_put_last c.args.change.now.old.now c.args.change.now.new.now c.args.change.now.run.now are.old_form are.form are.revision are.run c.wires_agree.ensures.sleepers c.args.now c.args.id.0 c.args.port c.args.output c.args.self.now next c.in-Some.wire.0 c.in-Some.is c.max-kept.result (omega (arith, until, first, kept)) (omega (arith, some)) sim2 s1.tails
+    (c.in_ok-put_last_changes.ensures next.part w (can_put_last c.args.change.now.old.now c.args.change.now.new.now c.args.change.now.run.now are.old_form are.form are.revision are.run c.wires_agree.ensures.sleepers c.args.now c.args.id.0 c.args.port c.args.output c.args.self.now next c.in-Some.wire.0 c.in-Some.is c.max-kept.result (omega (arith, until, first, kept)) (omega (arith, some)) sim2 s1.pending_outputs
     (record s1 { simulation = sim2 }) (ap (λ (x : Rerun). (let y : Rerun = record x { simulation = sim2 } in y)) c.in_ok-take_tail_back.ensures.kept)
     (λ kind.
     room_kept kind wide _ s1.simulation sim2 c.in_ok-put_near_changes.ensures
-    ∙ room_kept kind wide (entries_of w c.args.now (tail_of w (left_of s.tails))) s.simulation s1.simulation c.in_ok-take_tail_back.ensures.put))))
+    ∙ room_kept kind wide (entries_of w c.args.now (tail_of w (left_of s.pending_outputs))) s.simulation s1.simulation c.in_ok-take_tail_back.ensures.put))))
 
 pub returns-else-kept-known : goal.returns-else-kept-known
 returns-else-kept-known c = λ next.
@@ -152,6 +152,6 @@ returns-else-kept-known c = λ next.
     let none = c.if-kept-known.false in
     two_back c.args.change.now.old.now c.args.change.now.new.now c.args.change.now.run.now are.old_form are.form are.revision are.run c.wires_agree.ensures.sleepers c.args.now c.args.id.0 c.args.port c.args.output c.args.self.now next c.in-Some.wire.0 c.in-Some.is wide (told_kind c.args.change.now.old.now c.args.change.now.new.now c.args.change.now.run.now are.old_form are.form are.revision are.run c.wires_agree.ensures.sleepers c.args.now c.args.id.0 c.args.port c.args.output c.args.self.now next c.in-Some.wire.0 c.in-Some.is wide c.index-2.ensures) c.in-Some-wave.wave.now c.in-Some-wave.ensures c.max-own.result c.max-kept.result
     (first ∙ ap (λ u. max u (c.args.now + 1)) (sym until)) (omega (arith, kept)) (omega (arith, low, until, first, least, kept)) (λ more. omega (arith, more, least, kept, end))
-    s1.simulation sim2 c.in_ok-take_tail_back.ensures.put c.in_ok-put_near_changes.ensures s1.tails c.in_ok-take_tail_back.ensures.left
+    s1.simulation sim2 c.in_ok-take_tail_back.ensures.put c.in_ok-put_near_changes.ensures s1.pending_outputs c.in_ok-take_tail_back.ensures.left
     (record s1 { simulation = sim2 }) (ap (λ (x : Rerun). (let y : Rerun = record x { simulation = sim2 } in y)) c.in_ok-take_tail_back.ensures.kept)
     (omega (arith, low, until, first, least, kept, none))

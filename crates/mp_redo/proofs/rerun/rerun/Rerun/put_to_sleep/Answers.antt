@@ -6,8 +6,8 @@ use Rattle.std.proofs.lemmas.List.Elements.{Contains-get_or}
 use Rattle.mp_records.specs.declared.ids.ModuleId.{ModuleId}
 use Rattle.mp_netlist.specs.Circuit.{module_at}
 use Rattle.mp_netlist.proofs.LimitLemmas.{horizon_within}
-use Rattle.mp_depend.specs.history.Histories.{IsHistory}
-use Rattle.mp_depend.proofs.lemmas.history.HistoryLemmas.{can_leave}
+use Rattle.mp_depend.specs.recording.Recorders.{IsRecorder}
+use Rattle.mp_depend.proofs.lemmas.recording.HistoryLemmas.{can_leave}
 use Rattle.mp_redo.specs.declared.rerun.rerun.Rerun.{Rerun}
 use Rattle.mp_redo.specs.rerun.Reruns.{active_of}
 use Rattle.mp_redo.proofs.lemmas.rerun.FallLemmas.{falling_begins}
@@ -19,7 +19,7 @@ pub loop-id-init : goal.loop-id-init
 loop-id-init c =
     let change = c.args.change.now in
     record {
-      falling = λ numbering since is. falling_begins change.old.now change.new.now change.run.now numbering since c.args.time c.args.leaving.now c.args.self.now is c.requires.history;
+      falling = λ numbering since is. falling_begins change.old.now change.new.now change.run.now numbering since c.args.time c.args.leaving.now c.args.self.now is c.requires.recorder;
       done = λ k d low. absurd (let no : ⊥ = omega (arith, low) in no);
       low = omega arith;
     }
@@ -42,7 +42,7 @@ leave_one-requires-clause-leaves c = λ stands on.
     let re = c.requires.is.2 in
     let high = horizon_within change.new.now c.requires.change.form in
     let below = c.requires.below in
-    can_leave change.old.now change.new.now change.run.now (λ m. c.args.time) c.args.time (active_of c.loop-id.self) c.loop-id.self.history (c.loop-id.invariant.falling re.numbering re.since re.is).history
+    can_leave change.old.now change.new.now change.run.now (λ m. c.args.time) c.args.time (active_of c.loop-id.self) c.loop-id.self.recorder (c.loop-id.invariant.falling re.numbering re.since re.is).recorder
     (slice_index_or c.args.leaving.now c.loop-id.id-index (record { 0 = 0 })).0 c.args.time stands on refl below (omega (arith, high, below))
 
 pub loop-id-preserved : goal.loop-id-preserved
@@ -117,9 +117,9 @@ returns-clause-is c =
     rerun_slept change.old.now change.new.now c.requires.change.form change.run.now re.numbering re.since c.args.time c.loop-id.units c.args.leaving.now c.args.self.now c.loop-id.self c.requires.some c.requires.below re.is
     (c.loop-id.invariant.falling re.numbering re.since re.is) c.take_tails.new.self c.in_ok-take_tails.ensures c.requires.can (λ m. let first = re.early m in omega (arith, first, le))
 
-pub returns-clause-history : goal.returns-clause-history
-returns-clause-history c =
+pub returns-clause-recorder : goal.returns-clause-recorder
+returns-clause-recorder c =
     let change = c.args.change.now in
     let re = c.requires.is.2 in
     let told = c.in_ok-take_tails.ensures in
-    subst (λ (x : Rerun). IsHistory change.old.now change.new.now change.run.now (λ m. c.args.time) c.args.time (active_of x) x.history) (sym told.kept) (c.loop-id.invariant.falling re.numbering re.since re.is).history
+    subst (λ (x : Rerun). IsRecorder change.old.now change.new.now change.run.now (λ m. c.args.time) c.args.time (active_of x) x.recorder) (sym told.kept) (c.loop-id.invariant.falling re.numbering re.since re.is).recorder

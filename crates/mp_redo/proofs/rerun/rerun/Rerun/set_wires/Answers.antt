@@ -18,13 +18,13 @@ returns-clause-followed c numbering since is =
     let s = c.args.self.now in
     let some = c.requires.some in
     let next : c.args.time - 1 + 1 ≡ c.args.time = omega (arith, some) in
-    let kept = ap (λ (x : Comparison). record s { comparison = x; stimuli = record (s.stimuli) { place = c.in_ok-self.field-0 }; tails = record (s.tails) { place = c.in_ok-self-2.field-0 }; set = c.list_due-2.new.set })
+    let kept = ap (λ (x : Comparison). record s { comparison = x; stimuli = record (s.stimuli) { place = c.in_ok-self.field-0 }; pending_outputs = record (s.pending_outputs) { place = c.in_ok-self-2.field-0 }; set = c.list_due-2.new.set })
     c.in_ok-pass_unit.ensures.kept in
     followed_at c.args.change.now.old.now c.args.change.now.new.now c.args.change.now.run.now numbering since (c.args.time - 1) c.args.time s
-    (record s { comparison = c.pass_unit.new.self; stimuli = record (s.stimuli) { place = c.in_ok-self.field-0 }; tails = record (s.tails) { place = c.in_ok-self-2.field-0 }; set = c.list_due-2.new.set })
+    (record s { comparison = c.pass_unit.new.self; stimuli = record (s.stimuli) { place = c.in_ok-self.field-0 }; pending_outputs = record (s.pending_outputs) { place = c.in_ok-self-2.field-0 }; set = c.list_due-2.new.set })
     next kept c.sleepers_agree.ensures.on c.requires.quiet c.in_ok-pass_unit.ensures.cursors (c.in_ok-pass_unit.ensures.complete is.followed.complete)
     (due_left c.args.time c.in_ok-self.field-0 s.stimuli.place s.stimuli.list.items c.as_slice.result.now c.as_slice.ensures.value c.in_ok-self.ensures.left)
-    (due_left c.args.time c.in_ok-self-2.field-0 s.tails.place s.tails.list.items c.as_slice-2.result.now c.as_slice-2.ensures.value c.in_ok-self-2.ensures.left)
+    (due_left c.args.time c.in_ok-self-2.field-0 s.pending_outputs.place s.pending_outputs.list.items c.as_slice-2.result.now c.as_slice-2.ensures.value c.in_ok-self-2.ensures.left)
     is.followed
 
 pub returns-clause-set : goal.returns-clause-set
@@ -40,16 +40,16 @@ returns-clause-set c =
     let below = c.requires.below in
     let same = change.revision.horizon in
     let next : c.args.time - 1 + 1 ≡ c.args.time = omega (arith, some) in
-    let kept = ap (λ (x : Comparison). record s { comparison = x; stimuli = record (s.stimuli) { place = c.in_ok-self.field-0 }; tails = record (s.tails) { place = c.in_ok-self-2.field-0 }; set = c.list_due-2.new.set })
+    let kept = ap (λ (x : Comparison). record s { comparison = x; stimuli = record (s.stimuli) { place = c.in_ok-self.field-0 }; pending_outputs = record (s.pending_outputs) { place = c.in_ok-self-2.field-0 }; set = c.list_due-2.new.set })
     c.in_ok-pass_unit.ensures.kept in
     set_there new time s
-    (record s { comparison = c.pass_unit.new.self; stimuli = record (s.stimuli) { place = c.in_ok-self.field-0 }; tails = record (s.tails) { place = c.in_ok-self-2.field-0 }; set = c.list_due-2.new.set })
+    (record s { comparison = c.pass_unit.new.self; stimuli = record (s.stimuli) { place = c.in_ok-self.field-0 }; pending_outputs = record (s.pending_outputs) { place = c.in_ok-self-2.field-0 }; set = c.list_due-2.new.set })
     kept
     (set_outside_at old new change.old_form change.form change.revision c.wires_agree.ensures.wires c.wires_agree.ensures.sleepers run at.numbering at.since (time - 1) time s
     (record { bits = c.clear.new.self; levels = c.clear-2.new.self }) c.pass_unit.new.set c.list_due-2.new.set.bits.items c.list_due-2.new.set.levels.items next (below_never new change.form time below)
     at.is.followed c.clear.ensures.items c.clear-2.ensures.items
     (c.in_ok-pass_unit.ensures.set (level old) (c.runs_are_old.ensures.levels old change.old_form run change.run time (omega (arith, below, same))) at.is.followed.complete)
-    (due_bits time s.stimuli.place s.tails.place s.stimuli.list.items s.tails.list.items c.as_slice.result.now c.as_slice-2.result.now c.as_slice.ensures.value c.as_slice-2.ensures.value
+    (due_bits time s.stimuli.place s.pending_outputs.place s.stimuli.list.items s.pending_outputs.list.items c.as_slice.result.now c.as_slice-2.result.now c.as_slice.ensures.value c.as_slice-2.ensures.value
     c.pass_unit.new.set.bits.items c.list_due.new.set.bits.items c.list_due-2.new.set.bits.items c.in_ok-self.ensures.bits c.in_ok-self-2.ensures.bits)
-    (due_levels time s.stimuli.place s.tails.place s.stimuli.list.items s.tails.list.items c.as_slice.result.now c.as_slice-2.result.now c.as_slice.ensures.value c.as_slice-2.ensures.value
+    (due_levels time s.stimuli.place s.pending_outputs.place s.stimuli.list.items s.pending_outputs.list.items c.as_slice.result.now c.as_slice-2.result.now c.as_slice.ensures.value c.as_slice-2.ensures.value
     c.pass_unit.new.set.levels.items c.list_due.new.set.levels.items c.list_due-2.new.set.levels.items c.in_ok-self.ensures.levels c.in_ok-self-2.ensures.levels))

@@ -3,4 +3,4 @@ use Rattle.mp_redo.proofs.rerun.rerun.Rerun.take_tails.Given as goal
 
 -- the tails before are copied
 abbrev pub invariant-loop-place : goal.invariant-loop-place
-invariant-loop-place l = l.tails.items ++ drop l.place l.self.tails.list.items ≡ drop l.self.tails.place l.self.tails.list.items
+invariant-loop-place l = l.pending_outputs.items ++ drop l.place l.self.pending_outputs.list.items ≡ drop l.self.pending_outputs.place l.self.pending_outputs.list.items

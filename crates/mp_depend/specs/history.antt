@@ -1,7 +1,0 @@
-pub mod Ledgers
-pub mod Keeping
-pub mod Live
-pub mod Opened
-pub mod Leaving
-pub mod Endings
-pub mod Histories

@@ -1,4 +1,0 @@
-pub mod CountLemmas
-pub mod LetterLemmas
-pub mod TellingLemmas
-pub mod LineLemmas

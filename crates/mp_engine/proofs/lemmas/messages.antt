@@ -1,0 +1,4 @@
+pub mod CountLemmas
+pub mod MessageLemmas
+pub mod TellingLemmas
+pub mod LineLemmas

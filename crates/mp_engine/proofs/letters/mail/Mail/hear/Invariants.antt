@@ -1,9 +1,0 @@
-use Rattle.std.proofs.Common.{take}
-use Rattle.mp_partition.specs.regions.Divisions.{heard_by}
-use Rattle.mp_engine.specs.letters.Letters.{AreTold}
-use Rattle.mp_engine.specs.letters.Lines.{parts_of}
-use Rattle.mp_engine.proofs.letters.mail.Mail.hear.Given as goal
-
--- those so far have told
-abbrev pub invariant-loop-line : goal.invariant-loop-line
-invariant-loop-line g l = AreTold g.J.Subject.netlist g.J.Subject.wires (heard_by g.J.Subject.heards l.self.part) (parts_of (take l.line-index l.self.from.items)) l.window l.changes.items

@@ -1,0 +1,11 @@
+//! What parts of a netlist tell each other, and the lines by which they do.
+
+mod channels;
+mod given_up;
+mod lines;
+mod message;
+
+pub use channels::Channels;
+pub use given_up::GivenUp;
+pub use lines::Lines;
+pub use message::{Subject, Window};

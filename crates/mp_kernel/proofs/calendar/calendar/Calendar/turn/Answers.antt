@@ -1,6 +1,0 @@
-use Rattle.std.proofs.Common.{refl}
-use Rattle.mp_kernel.proofs.lemmas.calendar.CalendarLemmas.{turned}
-use Rattle.mp_kernel.proofs.calendar.calendar.Calendar.turn.Goals as goal
-
-pub returns-clause-is : goal.returns-clause-is
-returns-clause-is c t is = turned t c.args.self.now (record c.args.self.now { wheel = c.turn.new.self }) refl refl c.turn.ensures.turned is

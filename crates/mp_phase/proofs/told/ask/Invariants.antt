@@ -1,4 +1,0 @@
-use Rattle.mp_phase.proofs.told.ask.Given as goal
-
-abbrev pub ghosts-ask_as : goal.ghosts-ask_as
-ghosts-ask_as g a = record { asked = a.tasks.now }

@@ -1,0 +1,10 @@
+//! What is drawn of a wire.
+
+/// What is drawn of a wire, column by column: bands and a path of width 1, or values and a path of a wider wire.
+#[derive(Clone, Copy, Debug, PartialEq, Eq)]
+pub enum SvgDrawing {
+    Bands,
+    Bits,
+    Values,
+    Words,
+}

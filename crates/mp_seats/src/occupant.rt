@@ -1,0 +1,39 @@
+//! Those who sit at seats.
+ghost use Rattle.std.specs.Prelude.{◌≡◌, Bool, IfOk, OnErr};
+ghost use Rattle.std.specs.Arc.{arc_value};
+ghost use Rattle.std.specs.Thread.{IsSync};
+ghost use Rattle.mp_desk.specs.Extending.{Extends};
+ghost use Rattle.mp_seats.specs.Steps.{Seated, with_seen, Submits};
+
+use crate::refusal::Refusal;
+use mp_netlist::Edit;
+use mp_version::Version;
+use std::alloc::AllocError;
+use std::sync::{Arc, Wait};
+use std::thread::Threads;
+
+/// Who sits at a seat: a designer, or a viewer.
+pub trait Occupant: Drop {
+    // What was seen last, and how many edits were accepted.
+    ghost seated: { Self → Seated };
+
+    // Whether edits are made here.
+    ghost edits: { Bool };
+
+    /// Submits an edit, and tells how many were accepted so far, with this one. The error says why it isn't made. The clause `shared` says what
+    /// the bound `Sync` says: in a trait the prover asks for both.
+    fn submit<R: Threads + Wait + Sync>(&mut self, rt: &R, edit: &Edit) -> Result<u32, Refusal>
+        requires shared { IsSync R.row }
+        ensures { Submits edits result (seated self.old) (seated self.new) edit.now };
+
+    /// Reads the newest version, and waits for nobody: it is the one that was seen last, or a later one. The error comes where memory is wanting:
+    /// then the version that was seen last stays.
+    fn read(&mut self) -> Result<Arc<Version>, AllocError>
+        ensures later { IfOk result (λ v. Extends (arc_value v) (seated self.old).seen) }
+        ensures seen { IfOk result (λ v. seated self.new ≡ with_seen (seated self.old) (arc_value v)) }
+        ensures err { OnErr result (seated self.new ≡ seated self.old) };
+
+    /// Counts a line that was refused or not read. Nothing else changes.
+    fn refuse(&mut self)
+        ensures { seated self.new ≡ seated self.old };
+}
