@@ -25,6 +25,12 @@ ROWS = {
 }
 
 
+def row_file(name, kind):
+    """The file of a row, in whichever folder the row stands; the file need not be there."""
+    words, = ROWS_FOLDER.glob(f"*/{name}.words")
+    return words.with_suffix(f".{kind}")
+
+
 @functools.cache
 def answer(command, text, lacking=frozenset()):
     """What a command has to answer to an input; for `play`, where memory is lacking for the edits of these lines."""
@@ -34,7 +40,7 @@ def answer(command, text, lacking=frozenset()):
 @functools.cache
 def of_row(name):
     """The stored answer of a row."""
-    written, fault = ((ROWS_FOLDER / f"{name}.{kind}") for kind in ("out", "fault"))
+    written, fault = (row_file(name, kind) for kind in ("out", "fault"))
     status, _, complaint = fault.read_bytes().partition(b"\n") if fault.exists() else (b"0", b"", b"")
     return answers.Answer(int(status), [written.read_bytes()] if written.exists() else [], complaint)
 
@@ -82,7 +88,7 @@ class Sweep:
 
     @property
     def file(self):
-        return ROWS_FOLDER / f"{self.netlist}.in"
+        return row_file(self.netlist, "in")
 
     @property
     def right(self):
