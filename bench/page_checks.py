@@ -1,4 +1,5 @@
 """What a page has to hold and to answer: the program's own texts, and the causes that `why` tells. Both are taken from a netlist's file."""
+import glob
 import os
 import re
 import shutil
@@ -38,19 +39,19 @@ def written(words, given=""):
 def netlists(folder):
     """The files of the examples' netlists and of the short ones of rows that are read, each with its name and each text once."""
     known = set()
-    for part, kinds in (("examples", (".net", ".play", ".desk")), ("rows", (".in",))):
-        for file in sorted(os.listdir(f"{TOP}/{part}")):
-            name, kind = os.path.splitext(file)
-            if kind not in kinds or os.path.getsize(f"{TOP}/{part}/{file}") > MOST_BYTES:
+    for pattern in ("examples/*.net", "examples/*.play", "examples/*.desk", "rows/*/*.in"):
+        for file in sorted(glob.glob(pattern, root_dir=TOP)):
+            if os.path.getsize(f"{TOP}/{file}") > MOST_BYTES:
                 continue
-            with open(f"{TOP}/{part}/{file}", "rb") as text:
+            with open(f"{TOP}/{file}", "rb") as text:
                 netlist = front(text.read())
-            path = f"{folder}/{name}.net"
+            name = os.path.splitext(file)[0]
+            path = f"{folder}/{os.path.basename(name)}.net"
             with open(path, "wb") as out:
                 out.write(netlist)
             if netlist not in known and is_short(path, netlist):
                 known.add(netlist)
-                yield f"{part}/{name}", path
+                yield name, path
 
 
 def front(text):
