@@ -2,6 +2,7 @@
 import dataclasses
 import re
 
+import checks
 import formats
 import pictures
 import reader
@@ -87,6 +88,15 @@ def verilog(text):
     return of_netlist(text, "verilog")
 
 
+def check(text):
+    """What `check` answers: its status is 5 if a line is no note."""
+    circuit, fault = opened(text)
+    if fault:
+        return fault
+    written, status = checks.check(circuit)
+    return Answer(status, [written.encode()])
+
+
 class Keeper:
     """A netlist that is edited, and the work of the last edit that was accepted."""
 
@@ -118,6 +128,8 @@ class Keeper:
             return formats.text(self.circuit)
         if question[0] == "report":
             return formats.report(self.circuit, self.levels, self.found)
+        if question[0] == "check":
+            return checks.check(self.circuit)[0]
         return {"waves": formats.waves, "dump": formats.dump}[question[0]](self.circuit, self.levels)
 
     def shown(self, begin, end, names):

@@ -34,9 +34,7 @@ class Seat:
         self.seconds = seconds
         self.log = []  # lines with their replies
         self.waiting = b""
-        path = os.path.join(folder, name)
-        self.input = opened_to_write(f"{path}.in", seconds)
-        self.output = os.open(f"{path}.out", os.O_RDONLY | os.O_NONBLOCK)
+        self.output, self.input = opened(os.path.join(folder, name), seconds)
 
     def write(self, line):
         os.write(self.input, line)
@@ -92,9 +90,30 @@ class Seat:
         os.close(self.output)
         return rest.decode()
 
+    def __enter__(self):
+        return self
 
-def opened_to_write(path, seconds):
-    """The end of a pipe to write to, once somebody reads there, in so many seconds at most."""
+    def __exit__(self, *what):
+        os.close(self.input)
+        os.close(self.output)
+
+
+def opened(seat, seconds):
+    """The ends of a seat's pipes: to read what is answered, and to write."""
+    while True:
+        output = os.open(f"{seat}.out", os.O_RDONLY | os.O_NONBLOCK)
+        there = lambda output=output: os.path.samestat(os.fstat(output), os.stat(f"{seat}.out"))  # noqa: E731
+        given = opened_to_write(f"{seat}.in", seconds, there)
+        if given is not None and there():
+            return output, given
+        # (when somebody leaves, the desk puts another pipe into the place of the output)
+        for end in (output, given):
+            if end is not None:
+                os.close(end)
+
+
+def opened_to_write(path, seconds, holds=lambda: True):
+    """The end of a pipe to write to, once somebody reads there, in so many seconds at most. None where something doesn't hold before."""
     until = time.monotonic() + seconds
     while True:
         try:
@@ -104,6 +123,8 @@ def opened_to_write(path, seconds):
         except OSError as error:
             if error.errno != errno.ENXIO or time.monotonic() > until:
                 raise Unserved(f"nobody reads {path}") from error
+            if not holds():
+                return None
             time.sleep(0.001)
 
 
@@ -117,6 +138,10 @@ class Desk:
             for name in self.names:
                 os.mkfifo(os.path.join(folder, f"{name}.in"))
                 os.mkfifo(os.path.join(folder, f"{name}.out"))
+            # (those who come to a seat read from two pipes by turns)
+            os.mkdir(os.path.join(folder, ".desk"))
+            for name in self.names:
+                os.mkfifo(os.path.join(folder, ".desk", f"{name}.spare"))
         words = ["desk", netlist, "--at", folder, "--designers", str(designers), "--viewers", str(viewers)]
         self.log = []
         self.asking = threading.Lock()
@@ -245,3 +270,17 @@ def at_once(parts):
         thread.join()
     if faults:
         raise faults[0]
+
+
+LONG = 400_000
+LONG_EDIT = "stim a 1=1 3=0"  # the rings rest for two units, and then run on, so all of them are evaluated again
+
+
+def long_netlist(folder, horizon=LONG):
+    """A netlist whose evaluation takes a while: rings that run to the end of a long horizon where `a` is 0, and rest where it is 1."""
+    path = os.path.join(folder, "long.net")
+    with open(path, "w", encoding="ascii") as file:
+        file.write(f"format 2\nhorizon {horizon}\nwire a 1 0\n")
+        for ring in range(8):
+            file.write(f"wire w{ring} 1 0\nwire x{ring} 1 0\nmodule n{ring} XOR : w{ring} a > x{ring}/1\nmodule m{ring} NOT : x{ring} > w{ring}/1\n")
+    return path

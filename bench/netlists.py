@@ -68,7 +68,7 @@ def fifo(stages, horizon):
     """A pipeline of registers of 32 bits. Behind each register 1 is added to the data, the request goes on behind a matched delay, and both are a
     bundle. A register in front holds what it takes of a counter from each request to its acknowledge."""
     acks = [f"q{i}" for i in range(1, stages + 1)] + ["ack"]
-    lines = [f"horizon {horizon}", "wire take 1 0", "wire n 32 0"]
+    lines = ["format 2"] * (horizon > 65536) + [f"horizon {horizon}", "wire take 1 0", "wire n 32 0"]
     for i in range(stages + 1):
         lines += [f"wire r{i} 1 0", f"wire d{i} 32 {i}", f"wire {acks[i]} 1 0"] + ([f"wire x{i} 32 {i - 1}"] if i else [])
     lines += ["module source NOT : q1 > take/3", "module count ADDC 3 : n > n/7", "module hold REG 0 : n take q1 > d0/1 - -"]

@@ -68,18 +68,13 @@ def is_short(path, netlist):
     return found.returncode == 0 and len(found.stdout) <= MOST_BYTES
 
 
-def list_of():
-    """The command whose lines a page lists."""
-    return "check" if re.search(r"(?m)^  check ", written([PROGRAM, "--help"])) else "report"
-
-
 def texts_of(page):
     """The three texts in a page, as they stand there."""
     return re.findall(r'<script type="text/plain" id="\w+-text" title="\w+">(.*?)</script>', page, re.S)
 
 
-def texts_wanted(path, listed):
-    return [written([PROGRAM, "play", path], "text\n"), written([PROGRAM, "waves", path]), written([PROGRAM, listed, path])]
+def texts_wanted(path):
+    return [written([PROGRAM, "play", path], "text\n"), written([PROGRAM, "waves", path]), written([PROGRAM, "check", path])]
 
 
 def waves(text):

@@ -2,7 +2,11 @@
 modules' names are `module_names`."""
 import html
 
+import questions
 import reference
+
+decimal = str
+hex_digits = "0x{:x}".format
 
 UNICODE = "▁▔╱╲▒═╳"
 ASCII = "_-/\\#=X"
@@ -45,15 +49,15 @@ def narrow(cells, units, marks):
     return "".join(low_high[level] if not count or (count == 1 and units == 1) else rise_fall[level] if count == 1 else busy for count, level in cells)
 
 
-def wide(cells, marks):
+def wide(cells, marks, digits=decimal):
     """Flat columns, crosses at events, and behind each cross, and at the first column, the level where it fits."""
     row = [marks[6] if count else marks[5] for count, _ in cells]
     crosses = [column for column, (count, _) in enumerate(cells) if count]
     starts = [(cross + 1, cells[cross][1]) for cross in crosses] + ([] if cells[0][0] else [(0, cells[0][1])])
     for start, level in starts:
         room = next((cross for cross in crosses if cross >= start), len(row)) - start
-        if len(str(level)) <= room:
-            row[start : start + len(str(level))] = str(level)
+        if len(digits(level)) <= room:
+            row[start : start + len(digits(level))] = digits(level)
     return "".join(row)
 
 
@@ -62,7 +66,7 @@ def ruler(columns):
     return "".join(f"{columns.begins[column]:<{times.step}}" for column in times).rstrip()
 
 
-def picture(netlist, levels, found, columns, wires, marks):
+def picture(netlist, levels, found, columns, wires, marks, digits=decimal):
     """What `show` writes for wires by number, from all findings in order."""
     name = {"module": lambda n: netlist.module_names[n], "bundle": lambda n: netlist.bundles[n][0]}
     found = [one for one in found if columns.begin <= one[0] < columns.end]
@@ -73,7 +77,7 @@ def picture(netlist, levels, found, columns, wires, marks):
     lines = [" " * margin + ruler(columns)]
     for wire in wires:
         cells = columns.cells(levels[wire])
-        row = narrow(cells, columns.units, marks) if netlist.wires[wire][1] == 1 else wide(cells, marks)
+        row = narrow(cells, columns.units, marks) if netlist.wires[wire][1] == 1 else wide(cells, marks, digits)
         lines.append(f"{netlist.wires[wire][0]:<{margin}}{row}")
     for sort, number in places:
         times = {one[0] for one in found if one[1:3] == (sort, number)}
@@ -83,13 +87,13 @@ def picture(netlist, levels, found, columns, wires, marks):
     return "".join(f"{line}\n" for line in lines)
 
 
-def show(netlist, begin=0, end=None, most=72, names=None, marks=UNICODE):
+def show(netlist, begin=0, end=None, most=72, names=None, marks=UNICODE, digits=decimal):
     """What `show` writes; of wires that are named, each once."""
     levels, _, at_modules = reference.evaluated(netlist)
     columns = Columns(netlist.horizon, begin, netlist.horizon if end is None else end, most)
     standing = [number for number, wire in enumerate(netlist.wires) if wire]
     wires = standing if names is None else list(dict.fromkeys(map(netlist.wire, names)))
-    return picture(netlist, levels, reference.findings(netlist, levels, at_modules), columns, wires, marks)
+    return picture(netlist, levels, reference.findings(netlist, levels, at_modules), columns, wires, marks, digits)
 
 
 PITCH = 8
@@ -144,25 +148,25 @@ def rectangle(lane, column, columns, start="<rect"):
     return f'{start} x="{lane.x(column)}" y="{lane.top}" width="{PITCH * columns}" height="16"/>'
 
 
-def values(lane, cells):
+def values(lane, cells, digits=decimal):
     """The value of the first column and of each with an event, over the columns up to the next."""
     starts = [column for column, (count, _) in enumerate(cells) if count or not column]
     for start, end in zip(starts, [*starts[1:], len(cells)]):
         count, level = cells[start]
         x = lane.x(start) if not count else lane.x(start) + 4 if lane.units == 1 else lane.x(start + 1)
         room = end - start - bool(count or (lane.units == 1 and end < len(cells)))
-        text = f'<text x="{x}" y="{lane.base}">{level}</text>' if len(str(level)) <= room else ""
+        text = f'<text x="{x}" y="{lane.base}">{digits(level)}</text>' if len(digits(level)) <= room else ""
         frame = rectangle(lane, start, end - start)
-        yield f'<g class="value" data-column="{start}" data-level="{level}"><title>{level}</title>{frame}{text}</g>'
+        yield f'<g class="value" data-column="{start}" data-level="{level}"><title>{digits(level)}</title>{frame}{text}</g>'
 
 
-def wire_group(lane, number, name, width, cells):
+def wire_group(lane, number, name, width, cells, digits=decimal):
     """The row of a wire in an SVG."""
     if width == 1:
         shape = "".join(rectangle(lane, column, 1, '<rect class="band"') for column, (count, _) in enumerate(cells) if count > 1)
         path = bit_path(lane, cells)
     else:
-        shape, path = "".join(values(lane, cells)), word_path(lane, cells)
+        shape, path = "".join(values(lane, cells, digits)), word_path(lane, cells)
     heights = f'data-top="{lane.top}" data-bottom="{lane.bottom}"'
     title = f'<title>{name}</title><text x="8" y="{lane.base}">{name}</text>'
     return f'<g class="wire" id="wire-{number}" data-width="{width}" {heights}>{title}{shape}<path class="level" d="{path}"/></g>\n'
@@ -224,8 +228,27 @@ def lead(netlist, wires, place, x, row):
     return f'<path d="{path}"/>'
 
 
-def svg(netlist, begin=0, end=None, most=72, names=None, title="time in units"):
-    """What `show --svg` writes."""
+ARROWS = """<style>.causes path{fill:none;stroke:#8250df;stroke-width:1.5;marker-end:url(#head)}
+#head path{fill:#8250df}
+@media (prefers-color-scheme:dark){.causes path{stroke:#a371f7}
+#head path{fill:#a371f7}}</style>
+<defs><marker id="head" viewBox="0 0 8 8" refX="7" refY="4" markerWidth="7" markerHeight="7" orient="auto">
+<path d="M0 1L8 4L0 7Z"/></marker></defs>
+<g class="causes">""".replace("\n", "")
+
+
+def arrows(netlist, columns, wires, left, wire, time):
+    """An arrow for each cause that `why` names of a wire at a time, to its effect, where both are in the picture."""
+    causes = questions.Causes(netlist)
+    links = [(cause, effect) for effect, _, events in causes.chain(wire, time) for cause, _ in events]
+    place = lambda change: (left + PITCH * ((change[1] - columns.begin) // columns.units) + (0 if columns.units == 1 else 4), 28 * wires.index(change[0]) + 48)
+    is_in = lambda change: change[0] in wires and columns.begin <= change[1] < columns.end
+    lines = [(*place(cause), *place(effect)) for cause, effect in links if is_in(cause) and is_in(effect)]
+    return ARROWS + "".join(f'<path d="M{x} {y}L{to} {below}"/>' for x, y, to, below in lines) + "</g>\n" if links else ""
+
+
+def svg(netlist, begin=0, end=None, most=72, names=None, title="time in units", digits=decimal, causes=None):
+    """What `show --svg` writes, with the causes of a wire by number at a time."""
     levels, _, at_modules = reference.evaluated(netlist)
     columns = Columns(netlist.horizon, begin, netlist.horizon if end is None else end, min(most, 1200))
     standing = [number for number, wire in enumerate(netlist.wires) if wire]
@@ -251,12 +274,14 @@ def svg(netlist, begin=0, end=None, most=72, names=None, title="time in units"):
     x_of = lambda one: left + PITCH * column_of(one[0]) + (0 if columns.units == 1 else 4)
     text += '<g class="leads">' + "".join(lead(netlist, wires, one[1:3], x_of(one), row_of(one)) for one in found) + "</g>\n"
     for row, wire in enumerate(wires):
-        text += wire_group(Lane(left, row, columns.units), wire, *netlist.wires[wire][:2], columns.cells(levels[wire]))
+        text += wire_group(Lane(left, row, columns.units), wire, *netlist.wires[wire][:2], columns.cells(levels[wire]), digits)
     for row, (place, code) in enumerate(lines, len(wires)):
         text += place_group(left, row, place, code, name[place[0]](place[1]), last[place, code])
     for one in found:
         time, sort, number, code = one
         text += finding_group(left, row_of(one), column_of(time), f"{time} {sort} {name[sort](number)} {code}")
+    if causes:
+        text += arrows(netlist, columns, wires, left, *causes)
     return text + "</svg>\n"
 
 

@@ -41,8 +41,21 @@ class Played:
 
 
 def same_edit(line, edit):
-    """Whether a line makes the edit that is written so: the same words."""
-    return line.split("#")[0].split() == edit.split()
+    """Whether two lines make the same edit: the same words."""
+    return words_of(line) == words_of(edit)
+
+
+def words_of(line):
+    return line.split("#")[0].split()
+
+
+def unsigned(reply):
+    """The lines of an answer to `edits` without the designers who made them."""
+    return [line.split(" # ")[0] for line in reply]
+
+
+def is_edits(line):
+    return words_of(line)[:1] == ["edits"]
 
 
 EDITS = {"wire", "module", "stim", "bundle", "remove", "input", "output", "indelay", "delay", "clear", "batch"}
@@ -71,8 +84,20 @@ def check_seat(played, name, log):
         elif line.split() == ["work"]:
             expect(f"{name}: {line}", ["refused 23 NoWork"], reply)
         else:
-            least = number_of(played, name, line, reply, least)
+            least = number_of(played, name, line, unsigned(reply) if is_edits(line) else reply, least)
     return places
+
+
+def check_makers(logs, makers):
+    """Whether each edit that a seat was told of is signed by the designer who was told that it is accepted."""
+    for name, log in logs.items():
+        for line, reply in log:
+            if not is_edits(line) or not reply or reply[0].startswith("unread"):
+                continue
+            for edit in reply:
+                place, signed = int(edit.split()[0]), edit.partition(" # ")[2]
+                if signed and signed != makers.get(place, signed):
+                    raise Wrong(f"{name}: {edit} was made by {makers.get(place)}")
 
 
 def number_of(played, name, line, reply, least):
@@ -86,7 +111,7 @@ def number_of(played, name, line, reply, least):
 def is_refused(line, reply):
     """Whether a reply refuses an edit, or says that a line isn't read. A question is neither, also where it asks for what isn't there."""
     first = reply[0].split()[0] if reply else ""
-    return first == "refused" and is_edit(line) or first == "unread" and not line.startswith("edits ")
+    return first == "refused" and is_edit(line) or first == "unread" and not is_edits(line)
 
 
 def check_tally(name, log, places, written, unread):
@@ -104,14 +129,16 @@ def check_tally(name, log, places, written, unread):
 
 def check_all(played, logs, written, unread=0):
     """Whether all seats were answered rightly, and what the desk wrote at its end. The logs stand by the seats' names, designers first."""
-    places = []
+    places, makers = [], {}
     for name, log in logs.items():
         own = check_seat(played, name, log)
         places += own
+        makers |= dict.fromkeys(own, name)
         if name.startswith("designer"):
             check_tally(name, log, own, written, unread if name == "designer-1" else 0)
     if len(set(places)) != len(places):
         raise Wrong(f"two edits have one place: {places}")
+    check_makers(logs, makers)
     lost = [line for log in logs.values() for line, reply in log if reply is None]
     for place in sorted(set(range(1, len(played.edits) + 1)) - set(places)):
         made = [line for line in lost if same_edit(line, played.edits[place - 1])]
@@ -127,6 +154,6 @@ def check_all(played, logs, written, unread=0):
 
 def edits_of(lines):
     """The edits of the answer to `edits 1`."""
-    words = [line.split(" ", 1) for line in lines]
+    words = [line.split(" ", 1) for line in unsigned(lines)]
     expect("the numbers of edits", [str(k + 1) for k in range(len(words))], [number for number, _ in words])
     return [edit for _, edit in words]

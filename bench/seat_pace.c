@@ -38,8 +38,8 @@ static void ask(int lines, int answers, const char *line) {
 
 int main(int count, char **words) {
     if (count < 5) return 2;
-    int lines = open(words[1], O_WRONLY);
     int answers = open(words[2], O_RDONLY);
+    int lines = open(words[1], O_WRONLY);
     if (lines < 0 || answers < 0) fail("a pipe");
     long asked = atol(words[3]);
     long long begun = now();

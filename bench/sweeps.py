@@ -123,7 +123,7 @@ class Sweep:
         script, and for each of its lines, where these are always the same."""
         if is_whole(done, self.right):
             return True
-        if self.right.status:
+        if self.right.complaint:
             # no memory for the line that tells of a fault
             return self.is_front(done) or (done.status, done.written, done.complaint) == (self.right.status, b"", b"")
         if self.command != "play":
@@ -221,10 +221,10 @@ class Sweep:
     def is_right_without_sink(self, done, how, byte):
         """Whether that is right where a write failed so: the one of the byte with that number, where bytes go one by one."""
         right = self.right
-        if right.status and how == INTERRUPT:
+        if right.complaint and how == INTERRUPT:
             # what tells of a fault is written again
             return is_whole(done, right)
-        if right.status:
+        if right.complaint:
             front, written = right.complaint, done.complaint
             fault = (done.status, done.written) == (right.status, b"")
         else:

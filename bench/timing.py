@@ -2,6 +2,7 @@
 `reference.py`; the modules' names are `module_names`."""
 import bisect
 
+import checks
 import reference
 
 
@@ -26,14 +27,14 @@ def measured_wire(name, times):
     return ["wire", name, len(times), *(times and [times[0], times[-1]]), *extremes(gaps)]
 
 
-def measured_bundle(name, requests, acknowledges, changes):
-    """The margins of the requests, whose data and acknowledges may lie anywhere."""
+def measured_bundle(name, requests, acknowledges, changes, late):
+    """The margins of the requests, whose data and acknowledges may lie anywhere, and the units by which data are late."""
     places = [(time, bisect.bisect_right(changes, time), bisect.bisect_right(acknowledges, time)) for time in requests]
     setups = [time - changes[place - 1] for time, place, _ in places if place]
     responses = [acknowledges[place] - time for time, _, place in places if place < len(acknowledges)]
     setup = ["setup", min(setups)] if setups else []
     response = ["response", *extremes(responses)] if responses else []
-    return ["bundle", name, len(requests), *setup, *response]
+    return ["bundle", name, len(requests), *setup, *response, *(["late", max(late)] if late else [])]
 
 
 def measure(netlist, begin=0, end=None):
@@ -44,8 +45,10 @@ def measure(netlist, begin=0, end=None):
     all_events = [line and events(line) for line in levels]
     within = lambda wire: [time for time in all_events[wire] if begin <= time < end]
     found = [measured_wire(wire[0], within(number)) for number, wire in enumerate(netlist.wires) if wire]
-    for name, request, acknowledge, data, _ in filter(None, netlist.bundles):
-        found.append(measured_bundle(name, within(request), all_events[acknowledge], all_events[data]))
+    all_late = list(checks.Check(netlist).late()) if any(netlist.bundles) else []
+    for number, (name, request, acknowledge, data, _) in ((number, bundle) for number, bundle in enumerate(netlist.bundles) if bundle):
+        late = [units for time, at, units in all_late if at == number and begin <= time < end]
+        found.append(measured_bundle(name, within(request), all_events[acknowledge], all_events[data], late))
     return lines_of(" ".join(map(str, figures)) for figures in found)
 
 

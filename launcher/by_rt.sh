@@ -5,12 +5,16 @@
 seconds_of_a_run=60 # what such a run may take
 
 read_words() {
-    local word before=$1 others
+    local word values=0 others
     words=("$1")
     input=yes
     others=$(words_before_file "$1")
     for word in "${@:2}"; do
-        if [[ $word != -* ]] && ! takes_a_value "$before"; then
+        if [[ $word == -* ]]; then
+            values=$(values_of "$word")
+        elif [ "$values" -gt 0 ]; then
+            values=$((values - 1))
+        else
             if [ "$others" -gt 0 ]; then
                 others=$((others - 1))
             else
@@ -21,7 +25,6 @@ read_words() {
         fi
         case $word in -h | --help | -V | --version) input="" ;; esac
         words+=("$word")
-        before=$word
     done
 }
 

@@ -47,19 +47,29 @@ make_checked() {
     if [ -x "$room/program" ]; then { mkdir -p "$folder" && put_program "$room/program" "$checked"; } 2>/dev/null || true; fi
 }
 
+# sets up what the checked program runs in
+set_up_checked() {
+    tell_checked
+    export ASAN_OPTIONS="abort_on_error=0:exitcode=$status_of_check:allocator_may_return_null=1"
+}
+
 # the program has the input, the output and the terminal of the script, and ends with it
 run_checked() {
-    local status=0 ends_with_script=()
-    tell_checked
-    if setpriv --pdeathsig TERM true 2>/dev/null; then ends_with_script=(setpriv --pdeathsig TERM); fi
+    local status=0
+    set_up_checked
+    find_leash
     trap - INT TERM HUP
-    export ASAN_OPTIONS="abort_on_error=0:exitcode=$status_of_check:allocator_may_return_null=1"
-    "${ends_with_script[@]}" "$1" "${@:2}" || status=$?
-    case $status in
+    "${leash[@]}" "$chosen" "$@" || status=$?
+    tell_failed_check "$status"
+    exit "$status"
+}
+
+# ends the script where the status of a run says that a check failed
+tell_failed_check() {
+    case $1 in
     "$status_of_check" | 13[2-69])
         echo "mpwb: a check failed at run time: the program is at fault, and what it answered isn't complete" >&2
         exit 70
         ;;
     esac
-    exit "$status"
 }

@@ -6,7 +6,7 @@ operands_of() {
     case $1 in
     explain) echo words ;;
     help) echo commands ;;
-    install | join) echo folders ;;
+    ask | install | join | watch) echo folders ;;
     build) echo none ;;
     *) echo files ;;
     esac

@@ -1,45 +1,123 @@
 # shellcheck shell=bash
-# A live desk. Each seat has two named pipes: lines go to the desk by one, and answers come by the other.
+# ./mpwb desk FILE --at FOLDER. Each seat has named pipes: lines go to the desk by one, and answers come by another. The script stands between the
+# terminal and the program: it holds the lock of FOLDER with it, and an interrupt is the end of the program's input. FILE may be /dev/fd/3, so what is
+# opened here gets a number that nobody has.
 
-# the pipes of so many designers or viewers; the program tells of a number that is out of its range
+# Makes what a seat needs, for so many designers or viewers; the program tells of a number that is out of its range. Those who come to a seat read from
+# two pipes by turns: the second one is made anew, since a desk that was killed may have left it in the place of the first.
 make_pipes() {
-    local seat=$1 count=$2 most=$3 number end
+    local kind=$1 count=$2 most=$3 number name end
     if [[ ! $count =~ ^[0-9]{1,2}$ ]] || [ "$count" -gt "$most" ]; then return; fi
     for ((number = 1; number <= count; number++)); do
+        name=$kind-$number
         for end in in out; do
-            if [ ! -e "$seat-$number.$end" ]; then mkfifo "$seat-$number.$end" 2>/dev/null || return 0; fi
+            if [ ! -e "$desk_at/$name.$end" ]; then mkfifo "$desk_at/$name.$end" 2>/dev/null || return 0; fi
         done
+        make_empty "$desk_at/$name.lock"
+        { rm -f "$desk_at/.desk/$name.spare" && mkfifo "$desk_at/.desk/$name.spare"; } 2>/dev/null || true
     done
 }
 
-# makes the folder of a live desk and the pipes of its seats, where they aren't there
+make_empty() { if [ ! -e "$1" ]; then { : >>"$1"; } 2>/dev/null || true; fi; }
+
+# makes the files of a live desk in a folder, where they aren't there; where this fails, the program tells what it can't open
 make_seats() {
-    local folder designers viewers
-    folder=$(value_of --at "$@")
+    local designers viewers
     designers=$(value_of --designers "$@")
     viewers=$(value_of --viewers "$@")
-    if [ -z "$folder" ]; then return; fi
-    # (where this fails, the program tells what it can't open)
-    mkdir -p "$folder" 2>/dev/null || return 0
-    make_pipes "$folder/designer" "${designers:-2}" 8
-    make_pipes "$folder/viewer" "${viewers:-2}" 24
+    mkdir -p "$desk_at/.desk" 2>/dev/null || true
+    make_pipes designer "${designers:-2}" 8
+    make_pipes viewer "${viewers:-2}" 24
+    make_empty "$desk_at/edits"
 }
 
-# what is typed goes to the seat, and what the seat answers is shown, until the end of input or of the desk
-join_seat() {
-    local seat=$1/$2 end
-    typing=""
-    for end in in out; do
-        if [ ! -p "$seat.$end" ]; then
-            echo "mpwb: can't open $seat.$end" >&2
-            exit 3
-        fi
+# holds the lock of the folder, which the program holds too: so it is held as long as the program runs
+lock_folder() {
+    if flock -w "$seconds_for_a_lock" "$lock"; then return; fi
+    echo "mpwb: there is a desk at $desk_at" >&2
+    exit 3
+}
+
+seconds_for_a_lock=0.5 # whoever looks for a desk has the lock for a moment
+
+# Cuts off a last line of the edits that has no end: the desk was killed while it wrote it, so nobody was told that it is accepted.
+cut_edits() {
+    local edits=$desk_at/edits
+    if [ ! -f "$edits" ] || [ ! -s "$edits" ] || [ -z "$(tail -c 1 "$edits" | tr -d '\n')" ]; then return; fi
+    truncate -s "-$(tail -n 1 "$edits" | wc -c)" "$edits" 2>/dev/null || return 0
+    echo "mpwb: the last line of $edits has no end and is left out: nobody was told that it is accepted" >&2
+}
+
+# the program in the place of this process, which no interrupt of a terminal reaches
+become_program() {
+    trap '' INT TERM HUP QUIT
+    exec {given}<&-
+    if [ "$chosen" = "$program" ]; then set_up_built; else set_up_checked; fi
+    exec "${leash[@]}" "$chosen" "$@"
+}
+
+desk=""   # the process of the program
+feeder="" # the one that gives it the lines of standard input
+ended=""  # whether its input was ended by an interrupt
+woken=""  # whether an interrupt has come since the script began to wait
+
+# (a terminal that is closed may say so more than once)
+end_input() {
+    woken=yes
+    if [ -z "$ended" ]; then
+        ended=yes
+        echo "mpwb: the desk ends once all seats are left, and at once if it is interrupted again" >&2 2>/dev/null || true
+        stop_feeding
+    fi
+}
+
+stop_feeding() { if [ -n "$feeder" ]; then kill "$feeder" 2>/dev/null || true; fi; }
+
+interrupt() {
+    if [ -z "$ended" ] || [ -z "$desk" ]; then
+        end_input
+    else
+        kill -KILL "$desk" 2>/dev/null || true
+        wait "$desk" 2>/dev/null || true
+        exit 130
+    fi
+}
+
+# runs the desk up to its end, with the lines of standard input
+serve_desk() {
+    local status given lines
+    find_leash
+    trap end_input HUP
+    trap interrupt INT TERM
+    { exec {given}<&0; } 2>/dev/null || exec {given}</dev/null
+    exec {lines}> >(become_program "$@")
+    desk=$!
+    "${leash[@]}" cat <&"$given" >&"$lines" {lock}<&- &
+    feeder=$!
+    exec {given}<&- {lines}>&-
+    if [ -n "$ended" ]; then stop_feeding; fi
+    while :; do
+        woken="" status=0
+        wait "$desk" || status=$?
+        if [ -z "$woken" ]; then break; fi
     done
-    # (what runs beside the script isn't interrupted with it, and would go on to read what is typed)
-    exec 3<&0
-    trap 'kill "$typing" 2>/dev/null || true' EXIT
-    trap 'exit 130' INT TERM HUP
-    cat <&3 >"$seat.in" &
-    typing=$!
-    cat "$seat.out"
+    stop_feeding
+    if [ "$chosen" != "$program" ]; then tell_failed_check "$status"; fi
+    exit "$status"
+}
+
+is_live_desk() { [ "${1-}" = desk ] && [ -n "$(value_of --at "$@")" ] && ! is_given --help "$@" && ! is_given -h "$@"; }
+
+# a live desk at a folder
+start_desk() {
+    local desk_at lock
+    desk_at=$(value_of --at "$@")
+    mkdir -p "$desk_at" 2>/dev/null || true
+    if ! { exec {lock}<"$desk_at"; } 2>/dev/null; then run "$@"; fi
+    lock_folder
+    make_seats "$@"
+    cut_edits
+    choose_program
+    if [ "$chosen" = rt ]; then run_by_rt "$@"; fi
+    serve_desk "$@"
 }

@@ -4,11 +4,13 @@
 tell_words() {
     cat <<'EOF'
 
-The script ./mpwb has four more commands, and --help of each says more:
+The script ./mpwb has six more commands, and --help of each says more:
+  ask      Writes a line to a seat of a live desk and shows its answer
   build    Proves and builds the program
   install  Installs the program, the script, a man page and completions of shells
   join     Joins a terminal to a seat of a live desk
   page     Writes a page that shows the waves of a netlist
+  watch    Shows a live desk's netlist anew with each edit
 EOF
 }
 
@@ -40,12 +42,61 @@ Usage: ./mpwb join FOLDER SEAT
 FOLDER is that of a desk that was started by `./mpwb desk FILE --at FOLDER`. SEAT
 is designer-1, designer-2 .. or viewer-1, viewer-2 .. Each line that is typed goes
 to the seat, and what the seat answers is shown, as `./mpwb desk --help` says. The
-end of input (Ctrl-D) leaves the seat, and anybody can take it again.
+end of input (Ctrl-D) leaves the seat, and anybody can take it again. A seat is
+for one at a time. At a terminal its name stands before each line, once the line
+before it is answered.
 
 Exit status:
-  0  the seat was left, or the desk ended
-  2  the command line was refused
-  3  the seat has no pipes
+  0    the seat was left
+  2    the command line was refused
+  3    there is no desk or no such seat, the seat is taken, or the desk has left it
+  130  it was interrupted, which leaves the seat too
+EOF
+}
+
+tell_ask() {
+    cat <<'EOF'
+Writes a line to a seat of a live desk and shows its answer.
+
+Usage: ./mpwb ask FOLDER SEAT LINE
+
+FOLDER and SEAT are those of `./mpwb join`. LINE is a line as it is typed there, in
+one word or in several. Its answer is written to standard output, and the seat is
+left. So `./mpwb ask meeting viewer-1 text > now.net` writes the netlist as it is
+now, and `./mpwb ask meeting designer-1 delay c1 0 4` makes an edit.
+
+Exit status:
+  0    the line was answered
+  1    the answer is that the line was refused or isn't read
+  2    the command line was refused
+  3    there is no desk or no such seat, the seat is taken, or the desk has left it
+  130  it was interrupted
+EOF
+}
+
+tell_watch() {
+    cat <<'EOF'
+Shows a live desk's netlist anew with each edit.
+
+Usage: ./mpwb watch FOLDER SEAT [QUESTION ..]
+
+FOLDER is that of a desk that was started by `./mpwb desk FILE --at FOLDER`. SEAT
+is viewer-1, viewer-2 .. The answer to QUESTION is shown, a line as it is typed at
+the seat; a timing diagram as wide as the terminal, if none is given. It is shown
+anew when the version has changed, with the edits since then below it: at a
+terminal in place, else one after the other, each behind a line `version N`.
+Where edits come faster than they can be shown, some versions are passed over.
+Ctrl-C leaves the seat.
+
+Exit status:
+  0    it was ended by Ctrl-C
+  1    the netlist can't be shown
+  2    the command line was refused
+  3    there is no desk or no such seat, the seat is taken, the desk has left it, or
+       a write failed
+  4    memory ran out
+  70   there is no program, or it is at fault
+  130  it was ended otherwise
 EOF
 }
 

@@ -9,7 +9,7 @@ divider=---
 divided="unread 2 UnknownStatement"
 
 start_page() {
-    local file=${1--} name list=check
+    local file=${1--} name
     if [ $# -gt 1 ] || [[ $file == -?* ]]; then refuse "./mpwb page [FILE] > page.html"; fi
     read_crates
     begin_work
@@ -18,11 +18,8 @@ start_page() {
         file=$room/netlist name="standard input"
         if ! cat >"$file" 2>/dev/null; then fail_device read; fi
     fi
-    (run --help) >"$room/help" </dev/null || exit
-    is_told=yes
-    if ! grep -q '^  check ' "$room/help"; then list=report; fi
-    (printf '%s\n' text "$divider" waves "$divider" "$list" | run play "$file") >"$room/answers" || exit
-    write_page "$name" "$list" 2>/dev/null || fail_device write
+    (printf '%s\n' text "$divider" waves "$divider" check | run play "$file") >"$room/answers" || exit
+    write_page "$name" 2>/dev/null || fail_device write
 }
 
 fail_device() {
@@ -34,7 +31,7 @@ write_page() {
     local script
     printf '<!DOCTYPE html>\n<html lang="en">\n<meta charset="utf-8">\n<meta name="viewport" content="width=device-width">\n' &&
         printf '<title>%s</title>\n<style>\n' "$(sed 's/&/\&amp;/g; s/</\&lt;/g' <<<"$1")" &&
-        cat "$viewer/style.css" && echo '</style>' && cat "$viewer/page.html" && write_answers "$2" || return 1
+        cat "$viewer/style.css" && echo '</style>' && cat "$viewer/page.html" && write_answers || return 1
     for script in "${scripts[@]}"; do
         echo '<script>' && cat "$viewer/$script.js" && echo '</script>' || return 1
     done
@@ -42,8 +39,8 @@ write_page() {
 
 # the answers, each in an element of its own
 write_answers() {
-    awk -v divided="$divided" -v list="$1" '
-        function begin(id) { printf "<script type=\"text/plain\" id=\"%s-text\" title=\"%s\">", id, id == "places" ? list : id }
+    awk -v divided="$divided" '
+        function begin(id) { printf "<script type=\"text/plain\" id=\"%s-text\" title=\"%s\">", id, id == "places" ? "check" : id }
         BEGIN { split("netlist waves places", ids); begin(ids[++part]) }
         $0 == divided { print "</script>"; begin(ids[++part]); next }
         { print }

@@ -33,7 +33,7 @@ fit() {
     shift
     file=$(file_of show "$@")
     if [ -n "$file" ] && [ "$file" != - ] && [ ! -f "$file" ]; then run show "$@"; fi # (a pipe can't be read twice)
-    begin_work
+    if [ -z "$room" ]; then begin_work; fi
     if [ -z "$file" ] || [ "$file" = - ]; then
         input=$room/netlist file=$room/netlist
         cat >"$input" 2>/dev/null || fail_device read

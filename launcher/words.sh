@@ -5,6 +5,11 @@ takes_a_value() {
     case $1 in --help | --version | --ascii | --svg | --hex | -- | --*=*) return 1 ;; --*) return 0 ;; *) return 1 ;; esac
 }
 
+# how many values an option takes
+values_of() {
+    case $1 in --causes) echo 2 ;; *) if takes_a_value "$1"; then echo 1; else echo 0; fi ;; esac
+}
+
 # how many words stand before FILE
 words_before_file() {
     case $1 in why | path) echo 2 ;; waits) echo 1 ;; *) echo 0 ;; esac
@@ -32,13 +37,16 @@ value_of() {
 
 # FILE of a command that reads a netlist, nothing where it isn't given
 file_of() {
-    local word before="" others
+    local word values=0 others
     others=$(words_before_file "$1")
     for word in "${@:2}"; do
-        if [[ $word == - || $word != -* ]] && ! takes_a_value "$before"; then
+        if [[ $word != - && $word == -* ]]; then
+            values=$(values_of "$word")
+        elif [ "$values" -gt 0 ]; then
+            values=$((values - 1))
+        else
             if [ "$others" = 0 ]; then echo "$word"; fi
             others=$((others - 1))
         fi
-        before=$word
     done
 }

@@ -5,6 +5,10 @@ room=""
 gate=""  # the process of rt, while it runs
 taker="" # the one that takes the program which rt makes, while it waits
 
+leash=() # stands before a command that ends with whoever has started it, where the system can do that
+
+find_leash() { if setpriv --pdeathsig KILL true 2>/dev/null; then leash=(setpriv --pdeathsig KILL); fi; }
+
 begin_work() {
     room=$(mktemp -d)
     trap end_work EXIT

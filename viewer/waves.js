@@ -172,7 +172,7 @@ class Netlist {
   }
 }
 
-/** What a line of `check` or `report` speaks of: its time, and its wires by number. */
+/** What a line of `check` speaks of: its time, and its wires by number. */
 function readPlace(line, netlist) {
   const words = line.split(" ");
   const time = Number(/ at (\d+)$/.exec(line)?.[1] ?? (isDigit(line.charCodeAt(0)) ? words[0] : 0));

@@ -33,12 +33,13 @@ class Silent(Exception):
 class Channel:
     """A way to write lines, by the file descriptor `to`, and to read answers, by `back`. Each answer comes within `seconds`, if they are given.
 
-    Threads may share it: one line is answered after the other.
+    Threads may share it: one line is answered after the other. It keeps `lock` open as long as `back`, if it is given.
     """
 
-    def __init__(self, to: int, back: int, seconds: Optional[float] = None) -> None:
+    def __init__(self, to: int, back: int, seconds: Optional[float] = None, lock: Optional[int] = None) -> None:
         self._to: Optional[int] = to
         self._back: Optional[int] = back
+        self._kept = lock
         self._seconds = seconds
         self._poll = select.poll()
         self._poll.register(back, select.POLLIN)
@@ -124,6 +125,9 @@ class Channel:
         if self._back is not None:
             os.close(self._back)
             self._back = None
+        if self._kept is not None:
+            os.close(self._kept)
+            self._kept = None
         _open.discard(self)
 
     def __del__(self) -> None:

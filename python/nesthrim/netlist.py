@@ -196,10 +196,11 @@ class Netlist(Builder, Questions):
     def _draw(self, words: Sequence[str]) -> str:
         return self._run(["show", *words])
 
-    def show(self, start: int = 0, end: int = END, wires: Iterable[AnyWire] = (), columns: int = 72, ascii: bool = False) -> str:
+    def show(self, start: int = 0, end: int = END, wires: Iterable[AnyWire] = (), columns: int = 72, ascii: bool = False, hex: bool = False) -> str:
         """The timing diagram of a range, of these wires or of all, as text of at most `columns` columns."""
         chosen = [f"--wire={wire_name(wire)}" for wire in wires]
-        return self._draw([f"--from={start}", f"--to={end}", f"--columns={columns}", *chosen, *(["--ascii"] if ascii else [])])
+        forms = [*(["--ascii"] if ascii else []), *(["--hex"] if hex else [])]
+        return self._draw([f"--from={start}", f"--to={end}", f"--columns={columns}", *chosen, *forms])
 
     # ---- edits
 

@@ -65,11 +65,16 @@ class Program:
         except OSError as error:
             raise ProgramMissing(f"{self.path} can't be run: {error.strerror}; set MPWB to the path of the script ./mpwb") from error
 
-    def start_on(self, words: Sequence[str], text: str, **how: Any) -> subprocess.Popen[bytes]:
-        """Starts a run whose last word, FILE, is a file with this text."""
+    def start_on(self, words: Sequence[str], text: str, kept: Sequence[int] = (), **how: Any) -> subprocess.Popen[bytes]:
+        """Starts a run whose last word, FILE, is a file with this text. It has the file descriptors `kept` too."""
         with text_file(text) as given:
             number = given.fileno()
-            return self.start([*words, f"/dev/fd/{number}"], pass_fds=[number], **how)
+            return self.start([*words, f"/dev/fd/{number}"], pass_fds=[number, *kept], **how)
+
+    def is_script(self) -> bool:
+        """Whether this is the script, and not the compiled program."""
+        with open(self.path, "rb") as file:
+            return file.read(2) == b"#!"
 
     def run(self, words: Sequence[str], text: str = "", as_file: bool = False) -> Output:
         """Runs the program to its end, on a text as its standard input, or as FILE."""

@@ -3,10 +3,11 @@
 from __future__ import annotations
 
 import errno
+import fcntl
 import os
 import subprocess
 import time
-from typing import TYPE_CHECKING, Dict, List, Optional, Sequence, Union
+from typing import TYPE_CHECKING, Dict, List, Optional, Sequence, Tuple, Union
 
 from .channel import Channel, Ended, Silent
 from .errors import AnswerError, BrokenPipe, NesthrimError, NoSeat
@@ -19,24 +20,30 @@ if TYPE_CHECKING:
     from .netlist import Netlist
 
 
+# how long a seat may take to be free when somebody is gone
+_LONGEST_LEAVE = 2.0
+
+
 class Seat(Talk):
     """Somebody at a seat of a live desk, as "designer-1" or "viewer-2", that was started by `mpwb desk FILE --at FOLDER`.
 
-    A designer edits and asks; a viewer asks, and edits are refused (22 NotADesigner). `NoSeat` if nobody serves the seat within `seconds`,
-    or a line isn't answered within them. One seat is for one at a time: two who write at it may mix their lines.
+    A designer edits and asks; a viewer asks, and edits are refused (22 NotADesigner). `NoSeat` if the seat is taken, nobody serves it within
+    `seconds`, or a line isn't answered within them.
     """
 
     def __init__(self, folder: Path, name: str, seconds: float = 60.0, program: Optional[Program] = None) -> None:
         self.name = name
         self.program = program
         path = os.path.join(os.fspath(folder), name)
-        to = _opened_to_write(f"{path}.in", seconds)
+        lock = _locked(f"{path}.lock", name)
         try:
-            back = os.open(f"{path}.out", os.O_RDONLY | os.O_NONBLOCK)
-        except OSError as error:
-            os.close(to)
-            raise NoSeat(f"{path}.out can't be opened: {error.strerror}") from error
-        super().__init__(Channel(to, back, seconds))
+            _wait_until_free(path, name)
+            to, back = _sit_down(path, time.monotonic() + seconds)
+        except BaseException:
+            if lock is not None:
+                os.close(lock)
+            raise
+        super().__init__(Channel(to, back, seconds, lock))
         # (the desk knows that the seat is taken once it answers)
         self.version()
 
@@ -69,22 +76,78 @@ def _drawn(program: Program, words: Sequence[str], text: str) -> str:
     return output.written
 
 
-def _opened_to_write(path: str, seconds: float) -> int:
-    """The end of a pipe to write to, once somebody reads there."""
-    until = time.monotonic() + seconds
+def _locked(path: str, name: str) -> Optional[int]:
+    """The lock of a seat, which whoever sits there holds. None if the seat has no file for it."""
+    if not os.path.exists(path):
+        return None
+    lock = os.open(path, os.O_RDONLY)
+    try:
+        fcntl.flock(lock, fcntl.LOCK_EX | fcntl.LOCK_NB)
+    except BlockingIOError as error:
+        os.close(lock)
+        raise NoSeat(f"{name} is taken: somebody else sits there") from error
+    return lock
+
+
+def _wait_until_free(path: str, name: str) -> None:
+    """Waits until the desk has left a seat where somebody is gone. `NoSeat` if somebody sits there without its lock."""
+    until = time.monotonic() + _LONGEST_LEAVE
     while True:
         try:
-            end = os.open(path, os.O_WRONLY | os.O_NONBLOCK)
+            os.close(os.open(f"{path}.in", os.O_WRONLY | os.O_NONBLOCK))
+        except OSError:
+            return
+        if time.monotonic() > until:
+            raise NoSeat(f"{name} is taken: somebody else sits there")
+        time.sleep(0.01)
+
+
+def _opened(path: str, flags: int) -> int:
+    """An end of a pipe, which is opened without waiting for the other one."""
+    try:
+        return os.open(path, flags | os.O_NONBLOCK)
+    except FileNotFoundError as error:
+        raise NoSeat(f"there is no seat {path}: the folder of a desk has pipes for each, as designer-1.in and designer-1.out") from error
+    except OSError as error:
+        if error.errno == errno.ENXIO:
+            raise
+        raise NoSeat(f"{path} can't be opened: {error.strerror}") from error
+
+
+def _sit_down(path: str, until: float) -> Tuple[int, int]:
+    """The ends of a seat's pipes to write to and to read from. The desk opens them in this order: so it takes no line before it can be answered."""
+    while True:
+        back = _opened(f"{path}.out", os.O_RDONLY)
+        try:
+            to = _opened_to_write(path, back, until)
+        except BaseException:
+            os.close(back)
+            raise
+        if to is not None:
+            return to, back
+        os.close(back)
+
+
+def _opened_to_write(path: str, back: int, until: float) -> Optional[int]:
+    """The end of a pipe to write to, once somebody reads there. None if the desk has put another pipe into the place of the one to read from."""
+    while True:
+        try:
+            end = _opened(f"{path}.in", os.O_WRONLY)
             os.set_blocking(end, True)
-            return end
-        except FileNotFoundError as error:
-            raise NoSeat(f"there is no seat {path}: the folder of a desk has a pipe for each, as designer-1.in") from error
+            if _is_at(back, path):
+                return end
+            os.close(end)
+            return None
         except OSError as error:
-            if error.errno != errno.ENXIO:
-                raise NoSeat(f"{path} can't be opened: {error.strerror}") from error
             if time.monotonic() > until:
                 raise NoSeat(f"nobody serves {path}: start the desk by ./mpwb desk FILE --at FOLDER, and take a seat that is free") from error
+            if not _is_at(back, path):
+                return None
             time.sleep(0.002)
+
+
+def _is_at(back: int, path: str) -> bool:
+    return os.path.samestat(os.fstat(back), os.stat(f"{path}.out"))
 
 
 class Desk(Talk):
@@ -99,20 +162,48 @@ class Desk(Talk):
         self.names = [f"designer-{number + 1}" for number in range(designers)] + [f"viewer-{number + 1}" for number in range(viewers)]
         self._text = str(netlist)
         self._origin = (lambda line: None) if isinstance(netlist, str) else netlist.origin
-        self._make_pipes()
+        os.makedirs(self.folder, exist_ok=True)
+        locks = self._folder_locked()
+        if locks:
+            self._make_files()
         words = ["desk", f"--at={self.folder}", f"--designers={designers}", f"--viewers={viewers}"]
-        self._process = self.program.start_on(words, self._text, stdin=subprocess.PIPE)
+        self._process = self.program.start_on(words, self._text, locks, stdin=subprocess.PIPE)
+        for lock in locks:
+            os.close(lock)
         self._complaints = Complaints(self._process)
         super().__init__(Channel.of(self._process))
         self.version()
 
-    def _make_pipes(self) -> None:
-        os.makedirs(self.folder, exist_ok=True)
+    def _make_files(self) -> None:
         for name in self.names:
+            path = os.path.join(self.folder, name)
             for end in ("in", "out"):
-                path = os.path.join(self.folder, f"{name}.{end}")
-                if not os.path.exists(path):
-                    os.mkfifo(path)
+                if not os.path.exists(f"{path}.{end}"):
+                    os.mkfifo(f"{path}.{end}")
+            open(f"{path}.lock", "ab").close()
+        self._make_spare_pipes()
+
+    def _make_spare_pipes(self) -> None:
+        # (whoever comes to a seat reads from two pipes by turns, so that whoever leaves sees the end)
+        own = os.path.join(self.folder, ".desk")
+        os.makedirs(own, exist_ok=True)
+        for name in self.names:
+            path = os.path.join(own, f"{name}.spare")
+            if os.path.exists(path):
+                os.remove(path)
+            os.mkfifo(path)
+
+    def _folder_locked(self) -> List[int]:
+        """The lock of the folder, which a desk holds as long as it runs. None where the script holds it itself."""
+        if self.program.is_script():
+            return []
+        lock = os.open(self.folder, os.O_RDONLY)
+        try:
+            fcntl.flock(lock, fcntl.LOCK_EX | fcntl.LOCK_NB)
+        except BlockingIOError as error:
+            os.close(lock)
+            raise NoSeat(f"there is a desk at {self.folder}: take a seat of it, or choose another folder") from error
+        return [lock]
 
     def seat(self, name: str, seconds: float = 60.0) -> Seat:
         """Takes a seat, as "designer-1"."""

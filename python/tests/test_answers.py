@@ -110,6 +110,7 @@ class WhatIsRead(Case):
             self.assertEqual(file.read(), n.svg()._repr_svg_())
         self.assertEqual("10", xml.etree.ElementTree.fromstring(n.svg(columns=10, wires=["r"]).text).get("data-columns"))
         self.assertIn("_", n.show(ascii=True, columns=20, wires=["r", "data"]))
+        self.assertIn("0x8", n.show(hex=True, wires=["data"]))
         with tempfile.TemporaryDirectory() as folder:
             path = os.path.join(folder, "it")
             writers: List[Tuple[Callable[[str], Any], str]] = [(n.dump, raw(str(n), "dump")), (n.svg().save, str(n.svg()))]
@@ -190,7 +191,6 @@ class Checks(Case):
         self.assertEqual(4, read_measure("bundle b 2 setup 1 response 3 3 late 4\n", "measure").bundles["b"].late)
         self.assertEqual("bundle b 2 late 4", str(read_measure("bundle b 2 late 4\n", "measure").bundles["b"]))
 
-    @needs("check")
     def test_the_program_checks(self) -> None:
         check = Netlist.read(LATE).check()
         self.assertEqual((Late(22, "b", 4), Late(62, "b", 4)), check.late)
@@ -201,17 +201,14 @@ class Checks(Case):
         self.assertTrue(Netlist.read(example("oscillator.net")).check().ok)
         self.assertEqual(2, len(Netlist.read(example("late-data.net")).check().findings))
 
-    @needs("measure", "late")
     def test_the_program_measures_how_late_data_are(self) -> None:
         self.assertEqual(4, Netlist.read(LATE).measure().bundle("b").late)
         self.assertIsNone(Netlist.read(LATE.replace("d/12", "d/4")).measure().bundle("b").late)
 
-    @needs("check")
     def test_what_the_program_checks_is_read_whole(self) -> None:
         for text in [LATE, ALL_KINDS, *map(example, examples())]:
             self.assertEqual(raw(text, "check"), str(Netlist.read(text).check()))
 
-    @needs("play", "check")
     def test_the_program_checks_in_a_session(self) -> None:
         for text in [LATE, ALL_KINDS, *map(example, examples())]:
             n = Netlist.read(text)
@@ -230,14 +227,12 @@ class Checks(Case):
             self.assertEqual((3, "NoSuchWire", 4, "reqest"), (fault.code, fault.name, fault.line, fault.word))
             self.assertIn("request", fault.meaning)
 
-    @needs("verilog")
     def test_the_program_writes_verilog(self) -> None:
         n = Netlist.read(example("register-pipeline.net"))
         text = n.verilog()
         self.assertEqual(raw(str(n), "verilog"), text)
         self.assertIn("endmodule", text)
 
-    @needs("play", "verilog")
     def test_the_program_writes_verilog_in_a_session(self) -> None:
         n = Netlist.read(example("register-pipeline.net"))
         with Session(n) as session:

@@ -8,12 +8,11 @@ import subprocess
 import sys
 import tempfile
 import unittest
-from typing import Any, Callable, List, Optional, Tuple
+from typing import Any, Callable, List, Optional
 
 from nesthrim import AnswerError, BrokenPipe, Netlist, NoSeat, OutOfMemory, Program, ProgramFailed, ProgramMissing, Refused, Session
 from nesthrim import UnknownName, Unread, find_program
-from nesthrim.errors import Fault
-from tests.support import TOP, Case, commands, has
+from tests.support import TOP, Case, commands
 from tests.test_sessions import two_stages
 
 # a program that is another one: what it writes and says, and how it ends
@@ -171,16 +170,7 @@ class Exceptions(Case):
 
 class Commands(Case):
     def test_help_lists_the_commands(self) -> None:
-        self.assertLessEqual({"waves", "report", "dump", "show", "why", "path", "waits", "measure", "graph", "play", "desk"}, commands())
-
-    def test_a_question_that_the_program_does_not_have_yet(self) -> None:
-        asks: List[Tuple[str, Callable[[Netlist], Any]]] = [("check", Netlist.check), ("verilog", Netlist.verilog)]
-        for command, ask in asks:
-            if command not in commands():
-                self.assertEqual(2, self.fault(ProgramFailed, lambda: ask(two_stages())).status)
-            if not has("play", command):
-                with Session(two_stages()) as session:
-                    self.assertEqual(2, self.fault(Fault, lambda: session.ask(command)).code)
+        self.assertLessEqual({"waves", "report", "check", "dump", "show", "why", "path", "waits", "measure", "graph", "verilog", "play", "desk"}, commands())
 
 
 def _set(name: str, value: Optional[str]) -> None:

@@ -69,11 +69,19 @@ class Seats(Case):
         fault = self.fault(NoSeat, lambda: Seat(self.folder, "designer-1"))
         self.assertIn("there is no seat", str(fault))
         os.makedirs(self.folder)
-        os.mkfifo(os.path.join(self.folder, "designer-1.in"))
+        for end in ("in", "out"):
+            os.mkfifo(os.path.join(self.folder, f"designer-1.{end}"))
         begin = time.monotonic()
         fault = self.fault(NoSeat, lambda: Seat(self.folder, "designer-1", seconds=0.05))
         self.assertIn("start the desk by ./mpwb desk FILE --at FOLDER", str(fault))
         self.assertLess(time.monotonic() - begin, 10)
+
+    def test_a_seat_and_a_folder_are_one_s_own(self) -> None:
+        with Desk(two_stages(), self.folder) as desk:
+            with desk.seat("designer-1"):
+                self.assertIn("designer-1 is taken", str(self.fault(NoSeat, lambda: desk.seat("designer-1"))))
+            desk.seat("designer-1").close()
+            self.assertIn("there is a desk at", str(self.fault(NoSeat, lambda: Desk(two_stages(), self.folder))))
 
     def test_a_desk_that_goes_away(self) -> None:
         desk = Desk(two_stages(), self.folder)

@@ -7,11 +7,10 @@ import re
 import subprocess
 import sys
 import tempfile
-import unittest
 from typing import Iterator, List, Tuple
 
 from nesthrim import find_program
-from tests.support import TOP, Case, has
+from tests.support import TOP, Case
 
 # a block, and what it prints if a block of text follows
 _BLOCK = re.compile(r"^```python\n(.*?)^```\n(?:\n^```\n(.*?)^```\n)?", re.MULTILINE | re.DOTALL)
@@ -28,13 +27,10 @@ def blocks() -> Iterator[Tuple[str, str]]:
 class Tutorial(Case):
     def test_each_block_prints_what_stands_below_it(self) -> None:
         every = list(blocks())
-        known = [(code, printed) for code, printed in every if has("play", "check") or ".check()" not in code]
-        found = self.printed([code for code, _ in known])
-        self.assertEqual(len(known), len(found))
-        for (code, printed), text in zip(known, found):
+        found = self.printed([code for code, _ in every])
+        self.assertEqual(len(every), len(found))
+        for (code, printed), text in zip(every, found):
             self.assertEqual(printed, text, code)
-        if len(known) < len(every):
-            raise unittest.SkipTest(f"the program has no question check yet, which {len(every) - len(known)} block asks for; the others ran")
 
     def printed(self, codes: List[str]) -> List[str]:
         """What each block prints in a program of all of them."""

@@ -5,4 +5,5 @@ pub mod RunFaults
 pub mod Openings
 pub mod Runs
 pub mod OpenedInputs
+pub mod CheckRuns
 pub mod Clauses

@@ -3,3 +3,4 @@ pub mod Outputs
 pub mod AskedWires
 pub mod Pictures
 pub mod Chains
+pub mod CausePictures

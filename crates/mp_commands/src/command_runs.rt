@@ -1,5 +1,6 @@
 //! How a command is run: what it reads, with which options, and how it ends; and the command that writes a view.
 
+mod check_run;
 mod command;
 mod input;
 mod opening;
@@ -7,6 +8,7 @@ mod options;
 mod run_fault;
 mod viewed;
 
+pub use check_run::run_check;
 pub use command::{Command, run_command};
 pub use opening::{opened, read_opening};
 pub use options::Options;

@@ -24,7 +24,8 @@ pub use answers::{
     Snapshot, put_accepted, put_answer, put_coded, put_refused, put_too_long, put_unread,
 };
 pub use command_runs::{
-    Command, Options, RunFault, Viewed, exit_status, fault_line, opened, read_opening, run_command,
+    Command, Options, RunFault, Viewed, exit_status, fault_line, opened, read_opening, run_check,
+    run_command,
 };
 pub use desk::DeskCommand;
 pub use live::{Prompted, SeatScribe, fault_of_talk};
@@ -37,7 +38,7 @@ pub use script_opening::open_keeper;
 pub use script_session::ScriptSession;
 pub use sessions::Sessions;
 pub use views::{
-    AskedPicture, Charset, Drawing, DumpText, Evaluated, GraphText, MAX_COLUMNS, MeasureLines,
-    PathLines, PictureText, ReportLines, TimeRange, USUAL_COLUMNS, VerilogText, View, WaitLines,
-    WaveLines, WhyLines, put_wave_line, put_wave_lines,
+    AskedPicture, CausePicture, Charset, Drawing, DumpText, Evaluated, GraphText, MAX_COLUMNS,
+    MeasureLines, Numerals, PathLines, PictureText, ReportLines, TimeRange, USUAL_COLUMNS,
+    VerilogText, View, WaitLines, WaveLines, WhyLines, put_wave_line, put_wave_lines,
 };

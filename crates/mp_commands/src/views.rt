@@ -2,6 +2,8 @@
 
 mod asked_picture;
 mod asked_wires;
+mod cause_picture;
+mod check_lines;
 mod drawing;
 mod dump_text;
 mod evaluated;
@@ -17,12 +19,14 @@ mod wave_lines;
 mod why_lines;
 
 pub use asked_picture::{AskedPicture, MAX_COLUMNS, USUAL_COLUMNS};
+pub use cause_picture::CausePicture;
+pub use check_lines::CheckLines;
 pub use drawing::Drawing;
 pub use dump_text::DumpText;
 pub use evaluated::Evaluated;
 pub use graph_text::GraphText;
 pub use measure_lines::MeasureLines;
-pub use mp_picture::Charset;
+pub use mp_picture::{Charset, Numerals};
 pub use mp_questions::TimeRange;
 pub use path_lines::PathLines;
 pub use picture_text::PictureText;

@@ -7,3 +7,9 @@ pub mod FindingOrderLemmas
 pub mod ModuleEventLemmas
 pub mod DelayedInputLemmas
 pub mod WindowLemmas
+pub mod AlikeLemmas
+pub mod LateDataLemmas
+pub mod StillOutputLemmas
+pub mod CycleLemmas
+pub mod StillModuleLemmas
+pub mod ForEverLemmas

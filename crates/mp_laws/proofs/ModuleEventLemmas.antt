@@ -161,10 +161,10 @@ module _ (n : Circuit) (ok : IsCircuit n) (m : ℕ) (r : ModuleRecord) (at : mod
     unfolding any_part_of
     c_built = built_at kinds.C rendezvous_of
 
-    c_first : output n m 0 0 ≡ joined c (first_output (core.C c)) (x 0)
+    pub c_first : output n m 0 0 ≡ joined c (first_output (core.C c)) (x 0)
     c_first = ap (λ (s : Memory). output_of s 0) (first_state (core.C c) c_built)
 
-    c_next : (t : ℕ) → output n m 0 (suc t) ≡ joined c (output n m 0 t) (x (suc t))
+    pub c_next : (t : ℕ) → output n m 0 (suc t) ≡ joined c (output n m 0 t) (x (suc t))
     c_next t = ap (λ (s : Memory). output_of s 0) (next_state (core.C c) c_built t)
 
     c_inputs : (t : ℕ) → (state n m t).inputs ≡ input_levels (x t)
@@ -202,7 +202,7 @@ module _ (n : Circuit) (ok : IsCircuit n) (m : ℕ) (r : ModuleRecord) (at : mod
     calm_at bubble p t is none =
         ap (λ v. not (v == input n r p (suc t)) && not (bubbled bubble v == output n m 0 t)) (sym is) ∙ none
 
-    low_c : (p t : ℕ) → input n r p t < 2
+    pub low_c : (p t : ℕ) → input n r p t < 2
     low_c = low_inputs (narrow_at kinds.C rendezvous_of (λ w p. ap (λ test. cond test w 1) (le-ltb p 0 (omega arith))))
 
     joins : (t : ℕ) → t < n.horizon → FindsNothingAt n m t → CountsEvents n m r c.bubble_a 0 t × CountsEvents n m r c.bubble_b 1 t

@@ -6,3 +6,6 @@ pub mod FindingOrder
 pub mod ModuleEvents
 pub mod DelayedInputs
 pub mod Windows
+pub mod Stimuli
+pub mod LateData
+pub mod ForEver

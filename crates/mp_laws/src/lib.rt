@@ -1,10 +1,14 @@
-//! Laws of what the other crates define: of edits, of texts, of findings, of modules, of inputs and of windows. No program calls them.
+//! Laws of what the other crates define: of edits, of texts, of findings, of modules, of inputs, of windows, of stimuli, of late data and of
+//! deadlocks. No program calls them.
 #![tactic(auto)]
 
+pub mod deadlocks;
 pub mod edits;
 pub mod examples;
 pub mod findings;
 pub mod inputs;
+pub mod late;
 pub mod modules;
+pub mod stimuli;
 pub mod texts;
 pub mod windows;

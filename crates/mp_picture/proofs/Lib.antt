@@ -5,6 +5,7 @@ pub mod CellLemmas
 pub mod EventLemmas
 pub mod RowLemmas
 pub mod FoundLemmas
+pub mod LevelLemmas
 pub mod WaveLemmas
 pub mod MarginLemmas
 pub mod PutLemmas

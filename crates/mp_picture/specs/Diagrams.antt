@@ -13,6 +13,7 @@ use Rattle.mp_text.specs.Written.{wire_name}
 use Rattle.mp_picture.specs.declared.columns.Columns.{Columns}
 use Rattle.mp_picture.specs.declared.layout.DiagramLayout.{DiagramLayout}
 use Rattle.mp_picture.specs.declared.mark.Charset.{Charset}
+use Rattle.mp_picture.specs.declared.numerals.Numerals.{Numerals}
 use Rattle.mp_picture.specs.Cells.{cells}
 use Rattle.mp_picture.specs.Found.{place_name, place_row, place_rows, within}
 use Rattle.mp_picture.specs.Rows.{ruler, wire_row}
@@ -43,7 +44,7 @@ rows n layout wires found =
     ++ finding_lines n found))
 
 -- the diagram of some wires, with what the report finds in the range
-unfoldable pub diagram : Circuit → Columns → Charset → List WireId → List ℕ
-diagram n columns charset wires =
+unfoldable pub diagram : Circuit → Columns → Charset → Numerals → List WireId → List ℕ
+diagram n columns charset numerals wires =
     let found = within columns (findings n) in
-    rows n (record { columns = columns; charset = charset; margin = margin n wires (place_rows found) }) wires found
+    rows n (record { columns = columns; charset = charset; numerals = numerals; margin = margin n wires (place_rows found) }) wires found

@@ -4,6 +4,7 @@ pub mod ColumnRanges
 pub mod Cells
 pub mod CellLaws
 pub mod Marks
+pub mod Levels
 pub mod Rows
 pub mod Found
 pub mod Diagrams

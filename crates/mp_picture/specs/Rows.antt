@@ -10,7 +10,9 @@ use Rattle.mp_picture.specs.declared.columns.Columns.{Columns}
 use Rattle.mp_picture.specs.declared.layout.DiagramLayout.{DiagramLayout}
 use Rattle.mp_picture.specs.declared.mark.Charset.{Charset}
 use Rattle.mp_picture.specs.declared.mark.Mark.TheVariants.{Flat, Cross}
+use Rattle.mp_picture.specs.declared.numerals.Numerals.{Numerals}
 use Rattle.mp_picture.specs.Columns.{count, begin}
+use Rattle.mp_picture.specs.Levels.{level_text}
 use Rattle.mp_picture.specs.Marks.{bit_mark, mark_text}
 
 -- a text, filled with blanks to a width
@@ -57,35 +59,37 @@ has_none More = false
 abbrev pub is_still : Cell → Bool
 is_still cell = has_none cell.events
 
--- the digits of a level, where there are so many columns for them
-abbrev pub fitting : ℕ → ℕ → List ℕ
-fitting level room = if nat_le (length (decimal level)) room then decimal level else []
+-- the text of a level, where there are so many columns for it
+abbrev pub fitting : Numerals → ℕ → ℕ → List ℕ
+fitting numerals level room = if nat_le (length (level_text numerals level)) room then level_text numerals level else []
 
--- a digit, or the character of a flat column
-abbrev pub digit_or_flat : Charset → List ℕ → List ℕ
-digit_or_flat charset [] = mark_text charset Flat
-digit_or_flat charset (digit ∷ digits) = digit ∷ []
+-- a character of a level's text, or that of a flat column
+abbrev pub character_or_flat : Charset → List ℕ → List ℕ
+character_or_flat charset [] = mark_text charset Flat
+character_or_flat charset (character ∷ text) = character ∷ []
 
--- a column each, where digits may still stand: a cross with an event, behind which stands the level in the columns without one, where it fits
-abbrev pub wide_from : Charset → List ℕ → List Cell → List ℕ
-wide_from charset digits [] = []
-wide_from charset digits (cell ∷ cells) =
-    if is_still cell then digit_or_flat charset digits ++ wide_from charset (drop 1 digits) cells
-    else mark_text charset Cross ++ wide_from charset (fitting cell.level (prefix_len is_still cells)) cells
+-- a column each, where a level's text may still stand: a cross with an event, behind which stands the level in the columns without one, where it fits
+abbrev pub wide_from : DiagramLayout → List ℕ → List Cell → List ℕ
+wide_from layout text [] = []
+wide_from layout text (cell ∷ cells) =
+    if is_still cell then character_or_flat layout.charset text ++ wide_from layout (drop 1 text) cells
+    else mark_text layout.charset Cross ++ wide_from layout (fitting layout.numerals cell.level (prefix_len is_still cells)) cells
 
 -- the level of the first column stands from there on, where it fits
-abbrev pub wide_text : Charset → List Cell → List ℕ
-wide_text charset [] = []
-wide_text charset (cell ∷ cells) = wide_from charset (fitting cell.level (prefix_len is_still (cell ∷ cells))) (cell ∷ cells)
+abbrev pub wide_text : DiagramLayout → List Cell → List ℕ
+wide_text layout [] = []
+wide_text layout (cell ∷ cells) = wide_from layout (fitting layout.numerals cell.level (prefix_len is_still (cell ∷ cells))) (cell ∷ cells)
 
 -- so many columns without an event
-abbrev pub run_text : Charset → ℕ → ℕ → List ℕ
-run_text charset level room = fitting level room ++ repeat (room - length (fitting level room)) (mark_text charset Flat)
+abbrev pub run_text : DiagramLayout → ℕ → ℕ → List ℕ
+run_text layout level room =
+    let text = fitting layout.numerals level room in
+    text ++ repeat (room - length text) (mark_text layout.charset Flat)
 
 -- ---- a wire
 
 abbrev pub row_text : DiagramLayout → ℕ → List Cell → List ℕ
-row_text layout width cells = if width == 1 then narrow_text layout.charset layout.columns.units cells else wide_text layout.charset cells
+row_text layout width cells = if width == 1 then narrow_text layout.charset layout.columns.units cells else wide_text layout cells
 
 -- its name, filled to the width of the names, a character a column and a line feed
 abbrev pub wire_row : DiagramLayout → WireRecord → List Cell → List ℕ

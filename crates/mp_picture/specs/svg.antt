@@ -7,6 +7,7 @@ pub mod Styles
 pub mod Heads
 pub mod MarkRows
 pub mod FoundGroups
+pub mod Arrows
 pub mod Svg
 pub mod ColumnLaws
 pub mod RowLaws

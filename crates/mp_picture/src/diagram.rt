@@ -37,7 +37,7 @@ pub fn put_diagram<S: Sink>(
     requires waves { AreWavesOf picture.now.netlist.now picture.now.waves.now }
     requires findings { picture.now.findings.now ≡ findings picture.now.netlist.now }
     requires within { picture.now.columns.to ≤ picture.now.netlist.now.horizon }
-    ensures { Writes result out.old out.new (diagram picture.now.netlist.now picture.now.columns charset picture.now.wires.now) }
+    ensures { Writes result out.old out.new (diagram picture.now.netlist.now picture.now.columns charset picture.now.numerals picture.now.wires.now) }
 {
     let columns = picture.columns;
     let found = found_within(alloc, picture.findings, columns)?;
@@ -46,6 +46,7 @@ pub fn put_diagram<S: Sink>(
     let layout = DiagramLayout {
         columns,
         charset,
+        numerals: picture.numerals,
         margin,
     };
     let mut row = Vec::new(alloc);

@@ -1,5 +1,6 @@
-//! What cells say of a wire.
+//! What cells say of a wire, and levels in a row.
 ghost use Rattle.mp_picture.specs.CellLaws.{StaysWithout, ChangesAtOne, TellsEvents, TellsLevels};
+ghost use Rattle.mp_picture.specs.Levels.{LevelsApart};
 
 /// Where a cell has no event, the wire has the cell's level in each unit of its column.
 pub fn stays_without()
@@ -21,4 +22,9 @@ pub fn tells_events()
 /// The cells of a wire tell its level at the end of each column.
 pub fn tells_levels()
     ensures { TellsLevels }
+{}
+
+/// No byte of a level's text is one of a mark, so that neither is taken for the other.
+pub fn levels_apart()
+    ensures { LevelsApart }
 {}

@@ -1,11 +1,13 @@
 //! Where things stand in a picture.
 use crate::columns::Columns;
 use crate::mark::Charset;
+use crate::numerals::Numerals;
 
-/// The columns of a picture, the characters that it is drawn with, and the width of the names before its columns.
+/// The columns of a picture, the characters that it is drawn with, how its levels are written, and the width of the names before its columns.
 #[derive(Clone, Copy, Debug)]
 pub struct DiagramLayout {
     pub columns: Columns,
     pub charset: Charset,
+    pub numerals: Numerals,
     pub margin: usize,
 }

@@ -9,9 +9,9 @@ ghost use Rattle.mp_picture.specs.Rows.{is_still, narrow_text, wide_text, run_te
 
 use crate::cell::{Cell, Events, cells};
 use crate::layout::DiagramLayout;
+use crate::level_text::LevelText;
 use crate::mark::{Charset, Mark};
 use crate::repeated::{push_padded, push_repeated};
-use itoa::Buffer;
 use mp_model::Waves;
 use mp_netlist::{Netlist, WireId, WireRecord};
 use mp_wave::Wave;
@@ -62,7 +62,7 @@ fn push_cells(
     if width == 1 {
         push_narrow(row, layout.charset, layout.columns.units, cells)
     } else {
-        push_wide(row, layout.charset, cells)
+        push_wide(row, layout, cells)
     }
 }
 
@@ -82,19 +82,19 @@ fn push_narrow(
 }
 
 /// Puts a cross for each column of a wider wire with events, and the levels between them where they fit.
-fn push_wide(row: &mut Vec<u8>, charset: Charset, cells: &[Cell]) -> Result<(), AllocError>
-    ensures { OnOk result (row.new.items ≡ row.old.items ++ wide_text charset cells.now) }
+fn push_wide(row: &mut Vec<u8>, layout: DiagramLayout, cells: &[Cell]) -> Result<(), AllocError>
+    ensures { OnOk result (row.new.items ≡ row.old.items ++ wide_text layout cells.now) }
 {
     let Some(first) = cells.first() else {
         return Ok(());
     };
     let room = still_count(cells);
-    push_run(row, charset, first.level, room)?;
+    push_run(row, layout, first.level, room)?;
     let mut rest = cells.split_at(room).1;
     while let Some((cell, later)) = rest.split_first() {
         let room = still_count(later);
-        row.extend_from_slice(Mark::Cross.text(charset))?;
-        push_run(row, charset, cell.level, room)?;
+        row.extend_from_slice(Mark::Cross.text(layout.charset))?;
+        push_run(row, layout, cell.level, room)?;
         rest = later.split_at(room).1;
     }
     Ok(())
@@ -119,15 +119,20 @@ pub fn is_still(cell: Cell) -> bool
 }
 
 /// Puts so many columns without an event: the level, where it fits, and then flat ones.
-fn push_run(row: &mut Vec<u8>, charset: Charset, level: u64, room: usize) -> Result<(), AllocError>
-    ensures { OnOk result (row.new.items ≡ row.old.items ++ run_text charset level room) }
+fn push_run(
+    row: &mut Vec<u8>,
+    layout: DiagramLayout,
+    level: u64,
+    room: usize,
+) -> Result<(), AllocError>
+    ensures { OnOk result (row.new.items ≡ row.old.items ++ run_text layout level room) }
 {
-    let mut buffer = Buffer::new();
-    let digits = buffer.format(level).as_bytes();
-    let flat = Mark::Flat.text(charset);
-    if digits.len() > room {
+    let text = LevelText::new(layout.numerals, level);
+    let flat = Mark::Flat.text(layout.charset);
+    if text.len() > room {
         return push_repeated(row, flat, room);
     }
-    row.extend_from_slice(digits)?;
-    push_repeated(row, flat, room - digits.len())
+    row.extend_from_slice(text.prefix().as_bytes())?;
+    row.extend_from_slice(text.digits())?;
+    push_repeated(row, flat, room - text.len())
 }

@@ -1,5 +1,7 @@
 //! Timing diagrams as SVG.
 
+mod arrow;
+mod arrow_group;
 mod drawn;
 mod elements;
 mod found_groups;
@@ -15,6 +17,7 @@ mod svg_drawing;
 mod value_group;
 mod wire_group;
 
+pub use arrow::{Arrow, WirePoint};
 pub use lane::Lane;
 pub use svg::{MOST_COLUMNS, put_svg};
 pub use wire_group::put_wire_group;

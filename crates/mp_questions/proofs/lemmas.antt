@@ -1,2 +1,3 @@
 pub mod timing
 pub mod causes
+pub mod late

@@ -3,6 +3,7 @@ pub mod Causes
 pub mod KnownDrivers
 pub mod Chains
 pub mod Why
+pub mod Links
 pub mod Shares
 pub mod Noting
 pub mod Paths

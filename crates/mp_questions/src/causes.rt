@@ -1,6 +1,7 @@
 //! Causes of levels: which changes led to a wire's level, and which modules the time of that passed in.
 
 mod cause;
+mod cause_link;
 mod driving_port;
 mod input_event;
 pub mod laws;
@@ -13,6 +14,8 @@ mod tracer;
 mod why;
 mod wire_change;
 
+pub use cause_link::{CauseLink, links};
 pub use moment::Moment;
 pub use path::put_path;
 pub use why::put_why;
+pub use wire_change::WireChange;

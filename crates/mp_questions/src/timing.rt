@@ -13,12 +13,16 @@ mod lines;
 mod margins;
 mod marks;
 mod measure;
+mod missing;
 mod range;
 mod trail;
 mod wait_moment;
 mod waits;
 
+pub use delayed_input::DelayedInput;
 pub use extremes::Extremes;
 pub use measure::put_measure;
+pub use missing::missing_input;
 pub use range::TimeRange;
+pub use wait_moment::WaitMoment;
 pub use waits::put_waits;

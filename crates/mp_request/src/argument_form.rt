@@ -28,6 +28,8 @@ pub(crate) enum ArgumentKind {
     WordWith(&'static str),
     /// An option with a word.
     OptionalWord,
+    /// An option with the values of these names, which goes with another argument alone.
+    PairWith(&'static [&'static str], &'static str),
     /// An option with a time.
     Time,
     /// An option with a word, which may be given several times.
@@ -46,6 +48,7 @@ impl ArgumentForm {
             ArgumentKind::Number(default) => self.number(alloc, default),
             ArgumentKind::NumberWith(other) => self.count(alloc).requires_arg(other),
             ArgumentKind::WordWith(other) => self.valued(alloc).requires_arg(other),
+            ArgumentKind::PairWith(names, other) => self.pair(alloc, names).requires_arg(other),
             ArgumentKind::OptionalWord => Ok(self.valued(alloc)),
             ArgumentKind::Time => self.time(alloc),
             ArgumentKind::Words => self.words(alloc),
@@ -88,6 +91,10 @@ impl ArgumentForm {
 
     fn words<'a>(&self, alloc: Global) -> Result<Arg<'a>, AllocError> {
         Ok(self.valued(alloc).action(ArgAction::Append))
+    }
+
+    fn pair<'a>(&self, alloc: Global, names: &'static [&'static str]) -> Arg<'a> {
+        self.option(alloc).value_names(&*names).help(self.help)
     }
 
     fn flag<'a>(&self, alloc: Global) -> Result<Arg<'a>, AllocError> {

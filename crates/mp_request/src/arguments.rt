@@ -74,7 +74,7 @@ static RANGE: [ArgumentForm; 2] = [
     },
 ];
 
-static DRAWING: [ArgumentForm; 5] = [
+static DRAWING: [ArgumentForm; 7] = [
     ArgumentForm {
         name: "columns",
         value: "N",
@@ -94,6 +94,12 @@ static DRAWING: [ArgumentForm; 5] = [
         takes: ArgumentKind::Nothing,
     },
     ArgumentForm {
+        name: "hex",
+        value: "",
+        help: "Write levels in hex digits behind `0x`",
+        takes: ArgumentKind::Nothing,
+    },
+    ArgumentForm {
         name: "svg",
         value: "",
         help: "Write an SVG file, of at most 1200 columns",
@@ -104,6 +110,12 @@ static DRAWING: [ArgumentForm; 5] = [
         value: "TEXT",
         help: "What stands above the times of an SVG file; `time in units` where none is given",
         takes: ArgumentKind::OptionalWord,
+    },
+    ArgumentForm {
+        name: "causes",
+        value: "",
+        help: "Draw arrows from cause to effect that lead to the level of WIRE at TIME, in an SVG file",
+        takes: ArgumentKind::PairWith(&["WIRE", "TIME"], "svg"),
     },
 ];
 

@@ -12,6 +12,7 @@ Exit status:
   2  the command line was refused
   3  a read or a write failed, or a pipe of a live desk is wanting
   4  memory ran out, or a place at a desk was wanting
+  5  `check` found that something is wrong
 
 `mpwb explain WORD` tells what a code or a kind of module means, with an example.";
 
@@ -41,10 +42,13 @@ Exit status, and what standard error says:
   1  mpwb: no such wire: NAME              a wire that is asked for isn't there
   2  error: ..                             the command line was refused
   3  mpwb: can't open NAME                 a seat of a live desk has no pipe NAME
+  3  mpwb: can't read NAME: ..             the file isn't there, is a directory, or
+                                           may not be read
   3  mpwb: read failed                     the input can't be read
   3  mpwb: write failed                    the output can't be written
   4  mpwb: out of memory                   memory ran out
-  4  mpwb: no place                        a place at a desk was wanting";
+  4  mpwb: no place                        a place at a desk was wanting
+  5                                        `check` found that something is wrong";
 
 /// What `waves` does.
 pub(crate) const WAVES: &str = "Writes the wave of each wire of a netlist";
@@ -86,6 +90,23 @@ finding, by time, then the modules and then the bundles in the order in which
 they were added, then by the number of the code. A finding tells of something
 that a well-behaved circuit avoids, as two events that meet at a XOR, or data
 that change too short before a request.";
+
+/// What `check` does.
+pub(crate) const CHECK: &str = "Tells whether a netlist works: findings, late data, deadlocks";
+
+/// What `check` reads and writes.
+pub(crate) const CHECK_LONG: &str = "\
+Tells whether a netlist works.
+
+Reads a netlist, as `waves` does.
+
+Writes the lines of `report`; then a line `TIME bundle NAME late UNITS` for each
+change of a bundle's data that comes UNITS behind a request, though neither the
+request led to it nor anything that was set from outside since; then a line
+`TIME deadlock MODULE waits for WIRE, ..` for each cycle of modules that wait
+for each other's wires for ever; then `note wire NAME ..` for each wire that
+becomes another level than it is declared with, that nothing drives, or that has
+a stimulus that nothing reads. The exit status is 5 if a line is no note.";
 
 /// What `dump` does.
 pub(crate) const DUMP: &str = "Writes the waves of a netlist as a value change dump";
@@ -177,10 +198,11 @@ Reads a netlist, as `waves` does.
 Writes a line `wire NAME EVENTS FIRST LAST LEAST MOST` for each wire: how many
 changes it has in the range, the times of the first and the last of them, and
 the least and the greatest gap between two that follow each other. Then comes a
-line `bundle NAME REQUESTS setup S response LEAST MOST` for each bundle: how
-many requests it has, the least time from its last change of data to a request,
-and the least and the greatest time from a request to its acknowledge. What
-there is none of is left out.";
+line `bundle NAME REQUESTS setup S response LEAST MOST late L` for each bundle:
+how many requests it has, the least time from its last change of data to a
+request, the least and the greatest time from a request to its acknowledge, and
+the greatest number of units by which data that change in the range are late, as
+`check` tells. What there is none of is left out.";
 
 /// What `graph` does.
 pub(crate) const GRAPH: &str = "Writes a netlist as a graph in the language of Graphviz";
@@ -238,7 +260,7 @@ netlist and a line `---`, and counts as a part of it. Its lines are edits:
 
 and questions:
 
-  wave WIRE, waves, text, report, dump, work
+  wave WIRE, waves, text, report, check, dump, work
   show FROM TO [WIRE ..]                    the timing diagram of these wires
   why WIRE TIME [STEPS]                     1 to 1048576 steps, 20 if not given
   path WIRE TIME
@@ -294,8 +316,9 @@ pub(crate) const EXPLAIN_LONG: &str = "\
 Tells what a code or a kind of module means.
 
 Reads no netlist. WORD is the number or the name of a code, as 13 or
-AlreadyDriven, or a kind of module, as C. Without it a line is written for each
-code and each kind: what it is a code of, its number and its name.
+AlreadyDriven, what `check` tells, as late, or a kind of module, as C; capital and
+small letters are the same. Without it a line is written for each of these: what
+it belongs to, its number if it is a code, and its name.
 
 There are codes of a netlist's text and of a script's lines, of edits that are
 refused, and of findings. Writes when the code comes, an example with what the

@@ -1,10 +1,14 @@
-//! What the program is asked for: the words of its command line, read by `clap`.
+//! What the program is asked for: the words of its command line, read by `clap`, and the texts that explain its answers.
+//!
+//! The files at the top have the commands with their words, and the help. `explain` says what the codes that the program answers with and the kinds of
+//! event module mean. Begin with `request.rt`.
 #![tactic(auto)]
 
 mod argument_form;
 mod arguments;
 mod command_form;
 mod command_line;
+pub mod explain;
 mod help;
 mod parser;
 mod picture_words;
@@ -13,6 +17,7 @@ mod request;
 mod telling;
 
 pub use command_line::CommandLine;
+pub use explain::{CheckWord, Entry, SeatCode, Topic, guide, put_explanation, put_titles};
 pub use picture_words::PictureWords;
 pub use reading::{read_words, unknown_word};
 pub use request::{Command, Request};

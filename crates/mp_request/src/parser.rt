@@ -2,15 +2,15 @@
 use crate::arguments::Arguments;
 use crate::command_form::CommandForm;
 use crate::help::{
-    ABOUT, DESK, DESK_LONG, DUMP, DUMP_LONG, EXPLAIN, EXPLAIN_LONG, GRAPH, GRAPH_LONG, MEASURE,
-    MEASURE_LONG, PATH, PATH_LONG, PLAY, PLAY_LONG, REPORT, REPORT_LONG, SHOW, SHOW_LONG, STATUS,
-    VERILOG, VERILOG_LONG, WAITS, WAITS_LONG, WAVES, WAVES_LONG, WHY, WHY_LONG,
+    ABOUT, CHECK, CHECK_LONG, DESK, DESK_LONG, DUMP, DUMP_LONG, EXPLAIN, EXPLAIN_LONG, GRAPH,
+    GRAPH_LONG, MEASURE, MEASURE_LONG, PATH, PATH_LONG, PLAY, PLAY_LONG, REPORT, REPORT_LONG, SHOW,
+    SHOW_LONG, STATUS, VERILOG, VERILOG_LONG, WAITS, WAITS_LONG, WAVES, WAVES_LONG, WHY, WHY_LONG,
 };
 use clap::Command as Parser;
 use std::alloc::{AllocError, Global};
 
 /// The commands that read a netlist, in the order in which help lists them.
-static COMMANDS: [CommandForm; 12] = [
+static COMMANDS: [CommandForm; 13] = [
     CommandForm {
         name: "waves",
         about: WAVES,
@@ -21,6 +21,12 @@ static COMMANDS: [CommandForm; 12] = [
         name: "report",
         about: REPORT,
         long_about: REPORT_LONG,
+        arguments: &[Arguments::Input],
+    },
+    CommandForm {
+        name: "check",
+        about: CHECK,
+        long_about: CHECK_LONG,
         arguments: &[Arguments::Input],
     },
     CommandForm {

@@ -3,8 +3,10 @@
 /// The options of a picture, as they were given.
 #[derive(Debug, Drop)]
 pub struct PictureWords<'a> {
-    /// The names of the wires that are shown; none where all are.
+    /// The names of the wires that are shown; none where all are. Where causes are drawn, the name of the wire that they lead to stands before them.
     pub wires: Vec<&'a str>,
+    /// The time of the level of which the causes are drawn, if they are.
+    pub causes: Option<u64>,
     /// The first time that is shown, 0 where none is given.
     pub from: u64,
     /// The end of the times that are shown, 2^64 - 1 where none is given.
@@ -13,6 +15,8 @@ pub struct PictureWords<'a> {
     pub columns: u32,
     /// Whether ASCII alone is written.
     pub ascii: bool,
+    /// Whether levels are written in hex digits.
+    pub hex: bool,
     /// Whether an SVG file is written.
     pub svg: bool,
     /// What stands above the times of an SVG file, `time in units` where nothing is given.

@@ -85,10 +85,11 @@ fn command_of<'a>(
     alloc: Global,
     word: &str,
     found: &ArgMatches<'a>,
-) -> Result<Option<Command<'a>>, AllocError> {
+) -> Result<Option<Command<'a>>, Error> {
     Ok(Some(match word {
         "waves" => Command::Waves,
         "report" => Command::Report,
+        "check" => Command::Check,
         "dump" => Command::Dump,
         "show" => Command::Show(picture_words(alloc, found)?),
         "why" => Command::Why {
@@ -124,19 +125,45 @@ fn desk_command<'a>(found: &ArgMatches<'a>) -> Command<'a> {
     }
 }
 
-fn picture_words<'a>(
-    alloc: Global,
-    found: &ArgMatches<'a>,
-) -> Result<PictureWords<'a>, AllocError> {
+fn picture_words<'a>(alloc: Global, found: &ArgMatches<'a>) -> Result<PictureWords<'a>, Error> {
+    let mut wires = Vec::new(alloc);
+    let mut causes = None;
+    if let Some((wire, time)) = pair(found, "causes") {
+        wires.push(wire)?;
+        causes = Some(time_in(alloc, time)?);
+    }
+    wires.extend_from_slice(found.get_strs("wire").unwrap_or(&[]))?;
     Ok(PictureWords {
-        wires: Vec::from_slice(alloc, found.get_strs("wire").unwrap_or(&[]))?,
+        wires,
+        causes,
         from: from(found),
         to: to(found),
         columns: found.get_one::<u32>("columns").unwrap_or(72),
         ascii: found.get_flag("ascii"),
+        hex: found.get_flag("hex"),
         svg: found.get_flag("svg"),
         unit: found.get_str("unit").unwrap_or("time in units"),
     })
+}
+
+/// The two values of an option, if it is given.
+fn pair<'a>(found: &ArgMatches<'a>, option: &str) -> Option<(&'a str, &'a str)> {
+    let values = found.get_strs(option)?;
+    Some((*values.first()?, *values.get(1)?))
+}
+
+/// The time that a word is. The error says that it is none.
+fn time_in(alloc: Global, word: &str) -> Result<u64, Error> {
+    match word.parse::<u64>() {
+        Ok(time) => Ok(time),
+        Err(_) => Err(no_time(alloc, word)?),
+    }
+}
+
+/// What is told where the TIME of an option is none.
+fn no_time(alloc: Global, word: &str) -> Result<Error, AllocError> {
+    let message = format!(in alloc; "invalid value '{word}' for '--causes <WIRE> <TIME>'")?;
+    told_by(parser(alloc), ErrorKind::InvalidValue, message.as_str())
 }
 
 /// The name of the wire that a command is about.

@@ -9,6 +9,8 @@ pub enum Command<'a> {
     Waves,
     /// Write the report of a netlist's text.
     Report,
+    /// Tell whether a netlist's text works.
+    Check,
     /// Write the value change dump of a netlist's text.
     Dump,
     /// Write a timing diagram of a netlist's text.

@@ -9,6 +9,7 @@ use Rattle.mp_streams.specs.declared.write_error.WriteError.{WriteError}
 use Rattle.mp_text.specs.declared.question.Question.{Question}
 use Rattle.mp_text.specs.declared.script_line.Line.TheVariants.{Empty, Change, Ask}
 use Rattle.mp_text.specs.declared.lexing.line_error.LineError.{LineError}
+use Rattle.mp_text.specs.LineStarts.{HasForm}
 use Rattle.mp_text.specs.ScriptLines.{line_at}
 use Rattle.mp_version.specs.Stories.{Story}
 use Rattle.mp_desk.specs.Extending.{Extends}
@@ -125,8 +126,8 @@ module _ {S : Type 0} (w : Writing) (edits : Bool) (r : Result (Unit {0}) WriteE
       put,
     )
 
-    pub line_wanting : new ≡ old → Writes r a b (w.reply (replies.Refused OutOfMemory)) → PutsAnswer (IsStep w edits) r old new (Some line) a b
-    line_wanting same put = counted (Some line) (w.reply (replies.Refused OutOfMemory)) same (inr refl) put
+    pub line_wanting : HasForm line → new ≡ old → Writes r a b (w.reply (replies.Refused OutOfMemory)) → PutsAnswer (IsStep w edits) r old new (Some line) a b
+    line_wanting formed same put = counted (Some line) (w.reply (replies.Refused OutOfMemory)) same (inr (formed, refl)) put
 
     pub line_unread : (error : LineError) → line_at line ≡ Err error → new ≡ old → Writes r a b (w.reply (replies.Unread error)) → PutsAnswer (IsStep w edits) r old new (Some line) a b
     line_unread error is same put =

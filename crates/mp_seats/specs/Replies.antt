@@ -7,6 +7,7 @@ use Rattle.mp_text.specs.declared.lexing.line_error.LineError.{LineError}
 use Rattle.mp_text.specs.declared.question.Question.{Question}
 use Rattle.mp_text.specs.declared.script_line.Line.{Line}
 use Rattle.mp_text.specs.declared.script_line.Line.TheVariants.{Empty, Change, Ask}
+use Rattle.mp_text.specs.LineStarts.{HasForm}
 use Rattle.mp_text.specs.ScriptLines.{line_at}
 use Rattle.mp_version.specs.Stories.{Story, judged}
 use Rattle.mp_seats.specs.declared.reply.Reply.{Reply}
@@ -38,7 +39,8 @@ IsReadReply w edits story (Ok (Change edit)) text = IsEditReply w edits story ed
 IsReadReply w edits story (Ok (Ask question)) text = text ≡ w.answer story question
 IsReadReply w edits story (Err error) text = text ≡ w.reply (Unread error)
 
--- the reply after this story to a line, None where it is too long, unless it is an edit that is accepted; memory may be wanting for reading it
+-- the reply after this story to a line, None where it is too long, unless it is an edit that is accepted; memory may be wanting for reading a line whose
+-- bytes are allowed, whose first word is one that lines have, and that has as many words as it may
 abbrev pub IsReplyAt : Writing → Bool → Story → Option (List ℕ) → List ℕ → Type 0
 IsReplyAt w edits story None text = text ≡ w.reply TooLong
-IsReplyAt w edits story (Some line) text = IsReadReply w edits story (line_at line) text ⊎ (text ≡ w.reply (Refused OutOfMemory))
+IsReplyAt w edits story (Some line) text = IsReadReply w edits story (line_at line) text ⊎ (HasForm line × (text ≡ w.reply (Refused OutOfMemory)))

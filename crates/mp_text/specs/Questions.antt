@@ -1,6 +1,6 @@
 -- What a script asks for.
 use Rattle.std.specs.Prelude.{◌&&◌, ◌∷◌, if◌then◌else◌}
-use Rattle.mp_text.specs.Names.{bytes_eq, LineError, WordCount, BadNumber, ◌>>=◌, number_word, ℕ, List, [], Option, Some, None, Result, Ok, Err, nat_le, codes, QuestionWord, Wave, Waves, Text, Report, Dump, Work, Show, Why, Path, Waits, Measure, Graph, Verilog, Version, Edits}
+use Rattle.mp_text.specs.Names.{bytes_eq, LineError, WordCount, BadNumber, ◌>>=◌, number_word, ℕ, List, [], Option, Some, None, Result, Ok, Err, nat_le, codes, QuestionWord, Wave, Waves, Text, Report, Check, Dump, Work, Show, Why, Path, Waits, Measure, Graph, Verilog, Version, Edits}
 use Rattle.mp_text.specs.declared.question.Question.{Question}
 use Rattle.mp_text.specs.declared.question.Question.TheVariants as questions
 use Rattle.mp_text.specs.Limits.{max_steps, usual_steps}
@@ -25,6 +25,7 @@ question_word word =
     else (if bytes_eq word (codes "waves") then Some Waves
     else (if bytes_eq word (codes "text") then Some Text
     else (if bytes_eq word (codes "report") then Some Report
+    else (if bytes_eq word (codes "check") then Some Check
     else (if bytes_eq word (codes "dump") then Some Dump
     else (if bytes_eq word (codes "work") then Some Work
     else (if bytes_eq word (codes "show") then Some Show
@@ -36,7 +37,7 @@ question_word word =
     else (if bytes_eq word (codes "verilog") then Some Verilog
     else (if bytes_eq word (codes "version") then Some Version
     else (if bytes_eq word (codes "edits") then Some Edits
-    else None))))))))))))))
+    else None)))))))))))))))
 
 -- the question of that word and the words behind it
 abbrev pub stated_question : QuestionWord → List (List ℕ) → Result Question LineError
@@ -44,6 +45,7 @@ stated_question Wave (wire ∷ []) = Ok (questions.Wave wire)
 stated_question Waves [] = Ok questions.Waves
 stated_question Text [] = Ok questions.Text
 stated_question Report [] = Ok questions.Report
+stated_question Check [] = Ok questions.Check
 stated_question Dump [] = Ok questions.Dump
 stated_question Work [] = Ok questions.Work
 stated_question Show (from ∷ to ∷ wires) = do

@@ -13,6 +13,8 @@ pub enum Question {
     Text,
     /// What is found in the netlist.
     Report,
+    /// Whether the netlist works.
+    Check,
     /// The value change dump of the netlist.
     Dump,
     /// What was evaluated for the last edit.

@@ -11,6 +11,8 @@ pub enum QuestionWord {
     Text,
     /// `report`
     Report,
+    /// `check`
+    Check,
     /// `dump`
     Dump,
     /// `work`
@@ -48,6 +50,7 @@ impl QuestionWord {
             _ if word == b"waves".as_slice() => Some(QuestionWord::Waves),
             _ if word == b"text".as_slice() => Some(QuestionWord::Text),
             _ if word == b"report".as_slice() => Some(QuestionWord::Report),
+            _ if word == b"check".as_slice() => Some(QuestionWord::Check),
             _ if word == b"dump".as_slice() => Some(QuestionWord::Dump),
             _ if word == b"work".as_slice() => Some(QuestionWord::Work),
             _ if word == b"show".as_slice() => Some(QuestionWord::Show),

@@ -1,5 +1,5 @@
 //! The questions of a script's lines.
-ghost use Rattle.std.specs.Prelude.{◌≡◌};
+ghost use Rattle.std.specs.Prelude.{◌≡◌, []};
 ghost use Rattle.mp_text.specs.Clauses.{IfOk, IsAscii, OutOfMemory, Gives, texts, AreAscii, stated_question, steps_word, chain_question};
 
 use crate::lexing::{LineError, name_of, number_word};
@@ -25,12 +25,8 @@ pub fn stated_question(
     ensures { Gives OutOfMemory (λ question. question) result (stated_question word (texts words.now)) }
 {
     match (word, words) {
+        (_, []) => lone_question(word),
         (QuestionWord::Wave, [wire]) => Ok(Question::Wave(name_of(alloc, wire)?)),
-        (QuestionWord::Waves, []) => Ok(Question::Waves),
-        (QuestionWord::Text, []) => Ok(Question::Text),
-        (QuestionWord::Report, []) => Ok(Question::Report),
-        (QuestionWord::Dump, []) => Ok(Question::Dump),
-        (QuestionWord::Work, []) => Ok(Question::Work),
         (QuestionWord::Show, [from, to, wires @ ..]) => Ok(Question::Show {
             from: number_word(from)?,
             to: number_word(to)?,
@@ -54,13 +50,33 @@ pub fn stated_question(
             from: number_word(from)?,
             to: number_word(to)?,
         }),
-        (QuestionWord::Graph, []) => Ok(Question::Graph),
-        (QuestionWord::Verilog, []) => Ok(Question::Verilog),
-        (QuestionWord::Version, []) => Ok(Question::Version),
         (QuestionWord::Edits, [from]) => Ok(Question::Edits {
             from: number_word(from)?,
         }),
         _ => Err(LineError::WordCount),
+    }
+}
+
+/// The question of a first word with no words behind it.
+fn lone_question(word: QuestionWord) -> Result<Question, LineError>
+    ensures { result ≡ stated_question word [] }
+{
+    match word {
+        QuestionWord::Waves => Ok(Question::Waves),
+        QuestionWord::Text => Ok(Question::Text),
+        QuestionWord::Report => Ok(Question::Report),
+        QuestionWord::Check => Ok(Question::Check),
+        QuestionWord::Dump => Ok(Question::Dump),
+        QuestionWord::Work => Ok(Question::Work),
+        QuestionWord::Graph => Ok(Question::Graph),
+        QuestionWord::Verilog => Ok(Question::Verilog),
+        QuestionWord::Version => Ok(Question::Version),
+        QuestionWord::Wave | QuestionWord::Show | QuestionWord::Why | QuestionWord::Path => {
+            Err(LineError::WordCount)
+        }
+        QuestionWord::Waits | QuestionWord::Measure | QuestionWord::Edits => {
+            Err(LineError::WordCount)
+        }
     }
 }
 

@@ -1,8 +1,7 @@
 //! What the codes and the kinds of module mean.
 use crate::telling::fault_of_telling;
 use mp_commands::RunFault;
-use mp_explain::{guide, put_explanation, put_titles};
-use mp_request::{tell, unknown_word};
+use mp_request::{guide, put_explanation, put_titles, tell, unknown_word};
 use mp_streams::{Out, Sink, WriteError, WriteSink};
 use std::alloc::Global;
 use std::io;

@@ -1,31 +1,45 @@
 //! A desk that serves designers and viewers at named pipes.
-ghost use Rattle.std.specs.Prelude.{◌≡◌, ◌<◌, ◌≤◌, [], IfSome};
+ghost use Rattle.std.specs.Prelude.{◌≡◌, ◌<◌, ◌≤◌, IfSome};
 
+use crate::desk_files::{DeskFiles, PathNotice};
 use mp_commands::{
     Options, RunFault, SeatScribe, fault_of_meeting, fault_of_talk, put_met, read_opening,
 };
+use mp_journal::{Journal, Journaled, ReplayFault, make_again};
 use mp_netlist::Netlist;
 use mp_phase::{Crew, OpenGate};
 use mp_seats::{HostFault, Pipes, Places};
 use mp_session::Session;
-use mp_streams::{Out, ReadSource, Sink, Source, WriteSink};
+use mp_streams::{Out, ReadSource, Source, TakeError, WriteSink};
 use mp_text::LineReader;
+use mp_version::EditSession;
+use std::fs::File;
 use std::io;
 use std::rt::Runtime;
 use std::sync::Wait;
 use std::thread::Threads;
 
-/// The status of a run whose pipes can't be opened.
+/// The status of a run whose pipes or files can't be opened, read or written.
 const CANT_OPEN: u8 = 3;
 
 /// How many seats there may be for designers.
-const MAX_DESIGNERS: u32 = 8;
+const DESIGNER_SEATS: u32 = 8;
 
 /// How many seats there may be for viewers.
-const MAX_VIEWERS: u32 = 24;
+const VIEWER_SEATS: u32 = 24;
 
-/// Reads the netlist, serves those who come to the pipes of the folder, and answers the lines of standard input meanwhile. Then it writes what
-/// `desk` writes, and returns the status with which the program ends. Where a pipe isn't there it tells its path, and runs nothing.
+/// The folder of a live desk, and who evaluates there.
+#[derive(Clone, Copy)]
+struct LiveDesk<'a> {
+    files: &'a HostRuntime,
+    pipes: &'a Pipes<'a>,
+    paths: &'a DeskFiles,
+    crew: Crew,
+}
+
+/// Reads the netlist, makes the edits of the folder's journal again, serves those who come to the pipes of the folder, and answers the lines of
+/// standard input meanwhile. Then it writes what `desk` writes, and the netlist into the folder, and returns the status with which the program ends.
+/// Where a pipe isn't there it tells its path, and runs nothing.
 pub(crate) fn run_live_desk<R: Runtime + Threads + Wait + Sync + AllocGlobal, S: Source>(
     files: &HostRuntime,
     rt: &R,
@@ -36,72 +50,107 @@ pub(crate) fn run_live_desk<R: Runtime + Threads + Wait + Sync + AllocGlobal, S:
 ) -> Result<u8, RunFault> {
     let (netlist, crew) = read_opening(rt.alloc(), source, crew_of(options, designers))?;
     let places = Places::new(rt.alloc(), designers, options.viewers)?;
-    serve_at(files, rt, folder, &places, &netlist, crew)
-}
-
-/// Serves those who come to the pipes that these seats have in the folder, and returns the status with which the program ends.
-fn serve_at<R: Runtime + Threads + Wait + Sync + AllocGlobal>(
-    files: &HostRuntime,
-    rt: &R,
-    folder: &str,
-    places: &Places,
-    netlist: &Netlist,
-    crew: Crew,
-) -> Result<u8, RunFault> {
-    let pipes = Pipes::new(files, folder, places)?;
-    if is_told_missing(rt, &pipes) {
-        return Ok(CANT_OPEN);
-    }
-    serve(rt, &pipes, netlist, crew)
-}
-
-/// Whether a pipe isn't there. Then its path is told.
-fn is_told_missing<R: Eprint>(rt: &R, pipes: &Pipes<'_>) -> bool {
-    match pipes.missing() {
-        Some(path) => {
-            let _ = eprintln!(rt; "mpwb: can't open {path}");
-            true
-        }
-        None => false,
-    }
-}
-
-/// Serves those who come to the pipes, and answers the lines of standard input meanwhile. Then it writes what `desk` writes, and returns the
-/// status with which the program ends.
-fn serve<R: Runtime + Threads + Wait + Sync + AllocGlobal>(
-    rt: &R,
-    pipes: &Pipes<'_>,
-    netlist: &Netlist,
-    crew: Crew,
-) -> Result<u8, RunFault> {
-    let mut lines = LineReader::new(rt.alloc(), ReadSource::new(rt.reader()))?;
-    let mut out = Out::new(rt.alloc(), WriteSink::new(io::writer(rt)))?;
-    serve_lines(rt, pipes, netlist, crew, &mut lines, &mut out)?;
-    Ok(0)
-}
-
-/// The same, where the lines are these, and all is written there.
-fn serve_lines<R: Threads + Wait + Sync + AllocGlobal, I: Source, T: Sink>(
-    rt: &R,
-    pipes: &Pipes<'_>,
-    netlist: &Netlist,
-    crew: Crew,
-    lines: &mut LineReader<I>,
-    out: &mut Out<T>,
-) -> Result<(), RunFault>
-    requires { out.old.held ≡ [] }
-{
-    let scribe = SeatScribe {
-        alloc: rt.alloc(),
+    let pipes = Pipes::new(files, folder, &places)?;
+    let paths = DeskFiles::new(rt.alloc(), folder)?;
+    let desk = LiveDesk {
+        files,
+        pipes: &pipes,
+        paths: &paths,
         crew,
     };
-    let session = Session::open(rt, rt.alloc(), netlist, crew, OpenGate)?;
-    let met = match pipes.host(rt, session, scribe, lines, out) {
+    if let Some(path) = pipes.missing() {
+        return Ok(cant_open(rt, path));
+    }
+    if let Some(path) = pipes.link() {
+        return Ok(cant_open(rt, path));
+    }
+    let status = open_desk(rt, &desk, &netlist);
+    pipes.unlink();
+    status
+}
+
+/// Tells that a file can't be opened, and returns the status of such a run.
+fn cant_open<R: Eprint>(rt: &R, path: &str) -> u8 {
+    let _ = eprintln!(rt; "mpwb: can't open {path}");
+    CANT_OPEN
+}
+
+/// Makes the edits of the journal again, and serves the desk behind them. Where that can't be done it tells why, and runs nothing.
+fn open_desk<R: Runtime + Threads + Wait + Sync + AllocGlobal>(
+    rt: &R,
+    desk: &LiveDesk<'_>,
+    netlist: &Netlist,
+) -> Result<u8, RunFault> {
+    let path = desk.paths.edits.as_str();
+    let edits = match desk.paths.read_edits(desk.files, rt.alloc()) {
+        Ok(edits) => edits,
+        Err(TakeError::OutOfMemory) => return Err(RunFault::OutOfMemory),
+        Err(TakeError::Failed) => return Ok(cant_open(rt, path)),
+    };
+    let mut session = Session::open(rt, rt.alloc(), netlist, desk.crew, OpenGate)?;
+    match make_again(rt, rt.alloc(), &mut session, edits.as_slice()) {
+        Ok(()) => {}
+        Err(ReplayFault::OutOfMemory) => return Err(RunFault::OutOfMemory),
+        Err(fault) => {
+            let _ = eprintln!(rt; "mpwb: {path}: {fault}");
+            return Ok(CANT_OPEN);
+        }
+    }
+    let Some(file) = desk.paths.open_edits(desk.files) else {
+        return Ok(cant_open(rt, path));
+    };
+    let number = session.version().number();
+    if number > 0 {
+        let _ = eprintln!(rt; "mpwb: {number} edits of {path} are made again");
+    }
+    keep_desk(rt, desk, session, file)
+}
+
+/// Serves the desk with this journal, and writes its netlist at the end.
+fn keep_desk<R: Runtime + Threads + Wait + Sync + AllocGlobal>(
+    rt: &R,
+    desk: &LiveDesk<'_>,
+    session: Session<OpenGate>,
+    file: File,
+) -> Result<u8, RunFault> {
+    let notice = PathNotice {
+        files: desk.files,
+        path: desk.paths.edits.as_str(),
+    };
+    let journal = Journal::new(rt.alloc(), WriteSink::new(file), notice)?;
+    let session = Journaled::new(session, journal);
+    let scribe = SeatScribe {
+        alloc: rt.alloc(),
+        crew: desk.crew,
+    };
+    let mut lines = LineReader::new(rt.alloc(), ReadSource::new(rt.reader()))?;
+    let mut out = Out::new(rt.alloc(), WriteSink::new(io::writer(rt)))?;
+    let met = match desk.pipes.host(rt, session, scribe, &mut lines, &mut out) {
         Ok(met) => met,
         Err(fault) => return Err(fault_of_host(fault)),
     };
-    put_met(out, &met, crew)?;
-    Ok(out.flush()?)
+    let is_written = is_netlist_written(rt, desk, met.session.version().now());
+    put_met(&mut out, &met, desk.crew)?;
+    out.flush()?;
+    if is_written && met.session.journal().is_whole() {
+        Ok(0)
+    } else {
+        Ok(CANT_OPEN)
+    }
+}
+
+/// Whether the netlist could be written into the folder. Where not, that is told.
+fn is_netlist_written<R: Eprint + AllocGlobal>(
+    rt: &R,
+    desk: &LiveDesk<'_>,
+    netlist: &Netlist,
+) -> bool {
+    let is_written = desk.paths.write_netlist(desk.files, rt.alloc(), netlist);
+    if !is_written {
+        let path = desk.paths.netlist.as_str();
+        let _ = eprintln!(rt; "mpwb: can't write {path}");
+    }
+    is_written
 }
 
 /// The crew of the options, where there are 1 to 8 designers and at most 24 viewers.
@@ -109,7 +158,7 @@ fn crew_of(options: &Options, designers: u32) -> Option<Crew>
     ensures designers { IfSome result (λ crew. (0 < designers) × (designers ≤ 8)) }
     ensures viewers { IfSome result (λ crew. options.now.viewers ≤ 24) }
 {
-    if designers == 0 || designers > MAX_DESIGNERS || options.viewers > MAX_VIEWERS {
+    if designers == 0 || designers > DESIGNER_SEATS || options.viewers > VIEWER_SEATS {
         return None;
     }
     options.crew()

@@ -1,7 +1,9 @@
 //! The workbench for micropipelines.
 #![tactic(auto)]
 
+mod desk_files;
 mod explained;
+mod input_file;
 mod live_desk;
 mod live_play;
 mod open_sessions;
@@ -9,18 +11,18 @@ mod running;
 mod telling;
 
 use crate::explained::explain;
+use crate::input_file::{FileFault, open_file};
 use crate::live_desk::run_live_desk;
 use crate::live_play::run_live_play;
 use crate::running::run_on;
-use crate::telling::{fault_of_telling, tell_fault};
+use crate::telling::{fault_of_telling, tell_fault, tell_unread};
 use mp_commands::{Options, RunFault, exit_status};
 use mp_request::{Command, CommandLine, Request, read_words, tell};
 use mp_streams::{ReadSource, Source};
 use std::env;
-use std::fs::File;
 use std::io::{ErrorKind, IsTerminal};
 use std::process::ExitCode;
-use std::rt::{Files, Runtime};
+use std::rt::Runtime;
 use std::sync::Wait;
 use std::thread::Threads;
 
@@ -68,14 +70,33 @@ fn answer_words<R: Runtime + Threads + Wait + Sync + AllocGlobal>(
     }
 }
 
-/// Runs the command, and tells the fault where it ends with one.
+/// Opens the input and runs the command, tells the fault where there is one, and returns the status with which the program ends.
 fn run_told<R: Runtime + Threads + Wait + Sync + AllocGlobal>(
     files: &HostRuntime,
     rt: &R,
     request: &Request<'_>,
     is_typed: bool,
 ) -> u8 {
-    match run(files, rt, request, is_typed) {
+    let Some(path) = request.file else {
+        return ended(rt, request, run_input(rt, request));
+    };
+    match open_file(rt, path) {
+        Ok(file) => {
+            let mut source = ReadSource::new(file);
+            let run = run_file(files, rt, &mut source, request, is_typed);
+            ended(rt, request, run)
+        }
+        Err(FileFault::Known(cause)) => {
+            tell_unread(rt, path, cause);
+            exit_status(&RunFault::ReadFailed)
+        }
+        Err(FileFault::Run(fault)) => ended(rt, request, Err(fault)),
+    }
+}
+
+/// The status with which the program ends after a run, whose fault is told where it has one.
+fn ended<R: Eprint + AllocGlobal>(rt: &R, request: &Request<'_>, run: Result<u8, RunFault>) -> u8 {
+    match run {
         Ok(status) => status,
         Err(fault) => {
             tell_fault(rt, &fault, request.wires());
@@ -84,25 +105,13 @@ fn run_told<R: Runtime + Threads + Wait + Sync + AllocGlobal>(
     }
 }
 
-/// Opens the input and runs the command on it, and returns the status with which the program ends. `ReadFailed` comes where the file can't be
-/// opened.
-fn run<R: Runtime + Threads + Wait + Sync + AllocGlobal>(
-    files: &HostRuntime,
+/// Runs the command on standard input, and returns the status with which the program ends.
+fn run_input<R: Runtime + Threads + Wait + Sync + AllocGlobal>(
     rt: &R,
     request: &Request<'_>,
-    is_typed: bool,
 ) -> Result<u8, RunFault> {
-    match request.file {
-        Some(path) => {
-            let mut file = ReadSource::new(open_file(rt, path)?);
-            run_file(files, rt, &mut file, request, is_typed)
-        }
-        None => {
-            let mut input = ReadSource::new(rt.reader());
-            run_on(rt, &mut input, request, &options_of(request))?;
-            Ok(0)
-        }
-    }
+    let mut input = ReadSource::new(rt.reader());
+    run_on(rt, &mut input, request, &options_of(request))
 }
 
 /// Runs the command on a file, and returns the status with which the program ends.
@@ -114,21 +123,15 @@ fn run_file<R: Runtime + Threads + Wait + Sync + AllocGlobal, S: Source>(
     is_typed: bool,
 ) -> Result<u8, RunFault> {
     match request.command {
-        Command::Play => run_live_play(rt, file, &options_of(request), is_typed)?,
-        Command::LiveDesk { folder, designers } => {
-            return run_live_desk(files, rt, file, &options_of(request), folder, designers);
+        Command::Play => {
+            run_live_play(rt, file, &options_of(request), is_typed)?;
+            Ok(0)
         }
-        _ => run_on(rt, file, request, &options_of(request))?,
+        Command::LiveDesk { folder, designers } => {
+            run_live_desk(files, rt, file, &options_of(request), folder, designers)
+        }
+        _ => run_on(rt, file, request, &options_of(request)),
     }
-    Ok(0)
-}
-
-/// The file, to be read. `ReadFailed` comes where it can't be opened.
-fn open_file<R: Files>(rt: &R, path: &str) -> Result<R::File, RunFault> {
-    File::open(rt, path).map_err(|error| match error.kind() {
-        ErrorKind::OutOfMemory => RunFault::OutOfMemory,
-        _ => RunFault::ReadFailed,
-    })
 }
 
 /// The numbers of the request.

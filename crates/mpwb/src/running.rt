@@ -3,9 +3,9 @@ ghost use Rattle.std.specs.Prelude.{◌≡◌, []};
 
 use crate::open_sessions::OpenSessions;
 use mp_commands::{
-    AskedPicture, Charset, DeskCommand, Drawing, DumpText, GraphText, MeasureLines, Options,
-    PathLines, PictureText, Play, ReportLines, RunFault, TimeRange, VerilogText, View, Viewed,
-    WaitLines, WaveLines, WhyLines, run_command,
+    AskedPicture, CausePicture, Charset, DeskCommand, Drawing, DumpText, GraphText, MeasureLines,
+    Numerals, Options, PathLines, PictureText, Play, ReportLines, RunFault, TimeRange, VerilogText,
+    View, Viewed, WaitLines, WaveLines, WhyLines, run_check, run_command,
 };
 use mp_netlist::Name;
 use mp_request::{Command, PictureWords, Request};
@@ -15,23 +15,25 @@ use std::io;
 use std::sync::Wait;
 use std::thread::Threads;
 
-/// Runs the command on the source.
+/// The status with which the program ends where a netlist was checked and something is wrong.
+const WRONG: u8 = 5;
+
+/// Runs the command on the source, and returns the status with which the program ends.
 pub(crate) fn run_on<R: Print + Threads + Wait + Sync + AllocGlobal, S: Source>(
     rt: &R,
     source: &mut S,
     request: &Request<'_>,
     options: &Options,
-) -> Result<(), RunFault> {
+) -> Result<u8, RunFault> {
     let names = names_of(rt.alloc(), request.wires())?;
     let mut out = Out::new(rt.alloc(), WriteSink::new(io::writer(rt)))?;
-    run_named(
-        rt,
-        source,
-        &mut out,
-        &request.command,
-        names.as_slice(),
-        options,
-    )
+    if let Command::Check = &request.command {
+        let is_wrong = run_check(rt, rt.alloc(), source, &mut out, options)?;
+        return Ok(if is_wrong { WRONG } else { 0 });
+    }
+    let names = names.as_slice();
+    run_named(rt, source, &mut out, &request.command, names, options)?;
+    Ok(0)
 }
 
 /// Runs the command on the source, where the wires of which the command speaks have these names.
@@ -51,7 +53,10 @@ fn run_named<R: Threads + Wait + Sync + AllocGlobal, S: Source, T: Sink>(
         Command::Dump => run_view(rt, source, out, options, Some(DumpText)),
         Command::Graph => run_view(rt, source, out, options, Some(GraphText)),
         Command::Verilog => run_view(rt, source, out, options, Some(VerilogText)),
-        Command::Show(words) => run_view(rt, source, out, options, picture(names, words)),
+        Command::Show(words) => match words.causes {
+            None => run_view(rt, source, out, options, picture(names, words)),
+            Some(time) => run_view(rt, source, out, options, cause_picture(names, words, time)),
+        },
         Command::Waits { time } => {
             run_view(rt, source, out, options, Some(WaitLines { time: *time }))
         }
@@ -81,8 +86,8 @@ fn run_named<R: Threads + Wait + Sync + AllocGlobal, S: Source, T: Sink>(
                 &DeskCommand { sessions },
             )
         }
-        // its netlist is in a file, since its standard input has lines
-        Command::LiveDesk { .. } => Err(RunFault::ReadFailed),
+        // its netlist is in a file, since its standard input has lines; and a check has a status of its own
+        Command::LiveDesk { .. } | Command::Check => Err(RunFault::ReadFailed),
     }
 }
 
@@ -129,5 +134,33 @@ fn picture<'a>(names: &'a [Name], words: &PictureWords<'a>) -> Option<PictureTex
         (false, true) => Drawing::Text(Charset::Ascii),
         (false, false) => Drawing::Text(Charset::Unicode),
     };
-    Some(PictureText { asked, drawing })
+    Some(PictureText {
+        asked,
+        drawing,
+        numerals: numerals_of(words),
+    })
+}
+
+/// The picture that the words ask for with the causes of the level that the first of these wires has at a time, where its number of columns is
+/// one. The other wires are shown.
+fn cause_picture<'a>(
+    names: &'a [Name],
+    words: &PictureWords<'a>,
+    time: u64,
+) -> Option<CausePicture<'a>> {
+    let asked = AskedPicture::new(names, words.from, words.to, words.columns)?;
+    Some(CausePicture {
+        asked,
+        time,
+        title: words.unit,
+        numerals: numerals_of(words),
+    })
+}
+
+fn numerals_of(words: &PictureWords<'_>) -> Numerals {
+    if words.hex {
+        Numerals::Hex
+    } else {
+        Numerals::Decimal
+    }
 }

@@ -1,4 +1,5 @@
 //! What is told on standard error.
+use crate::input_file::{FileCause, unread_line};
 use mp_commands::{RunFault, fault_line};
 use mp_request::TellError;
 use std::str;
@@ -17,5 +18,12 @@ pub(crate) fn tell_fault<R: Eprint + AllocGlobal>(rt: &R, fault: &RunFault, wire
         if let Ok(text) = str::from_utf8(line.as_slice()) {
             let _ = rt.eprintln(text);
         }
+    }
+}
+
+/// Writes why the file of this name can't be read, where the memory for it can be had.
+pub(crate) fn tell_unread<R: Eprint + AllocGlobal>(rt: &R, name: &str, cause: FileCause) {
+    if let Ok(line) = unread_line(rt.alloc(), name, cause) {
+        let _ = rt.eprintln(line.as_str());
     }
 }

@@ -10,7 +10,7 @@ from ..errors import Fault
 from .reading import NAME, match
 
 _WORK = re.compile(rf"({NAME}) (\d+) (\d+)")
-_EDIT = re.compile(r"(\d+) (.+)")
+_EDIT = re.compile(r"(\d+) (.+?)(?: # (designer-\d+))?")
 _VERSION = re.compile(r"version (\d+)\n")
 
 
@@ -28,10 +28,11 @@ class Work:
 
 @dataclass(frozen=True)
 class MadeEdit:
-    """An accepted edit: its number, from 1, and the line of a script that makes it."""
+    """An accepted edit: its number, from 1, and the line of a script that makes it; at a live desk also the designer who made it, as "designer-1"."""
 
     number: int
     line: str
+    who: Optional[str] = None
 
     def __str__(self) -> str:
         return f"{self.number} {self.line}"
@@ -57,7 +58,7 @@ def read_work(text: str, question: str) -> Tuple[Work, ...]:
 def read_edits(text: str, question: str) -> Tuple[MadeEdit, ...]:
     """What is answered to `edits`."""
     found = [match(_EDIT, line, question) for line in text.splitlines()]
-    return tuple(MadeEdit(int(each[1]), each[2]) for each in found)
+    return tuple(MadeEdit(int(each[1]), each[2], each[3]) for each in found)
 
 
 def read_version(text: str, question: str) -> int:

@@ -2,3 +2,4 @@ pub mod Names
 pub mod InputLemmas
 pub mod RunLemmas
 pub mod ViewLemmas
+pub mod CheckLemmas

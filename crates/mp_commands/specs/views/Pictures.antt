@@ -1,8 +1,9 @@
 -- The pictures that commands write and questions ask for.
-use Rattle.std.specs.Prelude.{ℕ, List, min}
+use Rattle.std.specs.Prelude.{ℕ, List, [], min}
 use Rattle.mp_records.specs.declared.ids.WireId.{WireId}
 use Rattle.mp_netlist.specs.Circuit.{Circuit}
 use Rattle.mp_picture.specs.declared.columns.Columns.{Columns}
+use Rattle.mp_picture.specs.declared.numerals.Numerals.{Numerals}
 use Rattle.mp_picture.specs.ColumnRanges.{columns_in}
 use Rattle.mp_picture.specs.Diagrams.{diagram}
 use Rattle.mp_picture.specs.svg.Svg.{most_columns, svg}
@@ -15,11 +16,11 @@ abbrev pub columns_drawn : Drawing → ℕ → ℕ
 columns_drawn (Text charset) asked = asked
 columns_drawn (Svg title) asked = min asked most_columns
 
--- wires over columns, drawn so
-abbrev pub drawn : Circuit → Columns → List WireId → Drawing → List ℕ
-drawn n columns wires (Text charset) = diagram n columns charset wires
-drawn n columns wires (Svg title) = svg n columns wires title.now
+-- wires over columns, drawn so, with levels in these numerals
+abbrev pub drawn : Circuit → Columns → List WireId → Drawing → Numerals → List ℕ
+drawn n columns wires (Text charset) numerals = diagram n columns charset numerals wires
+drawn n columns wires (Svg title) numerals = svg n columns numerals wires title.now []
 
 -- the picture of the wires of these names, or of all, from one time on to before another, in at most so many columns
-abbrev pub picture_text : Circuit → List (List ℕ) → ℕ → ℕ → ℕ → Drawing → List ℕ
-picture_text n names from to asked drawing = drawn n (columns_in n.horizon from to (columns_drawn drawing asked)) (wires_of n names) drawing
+abbrev pub picture_text : Circuit → List (List ℕ) → ℕ → ℕ → ℕ → Drawing → Numerals → List ℕ
+picture_text n names from to asked drawing numerals = drawn n (columns_in n.horizon from to (columns_drawn drawing asked)) (wires_of n names) drawing numerals

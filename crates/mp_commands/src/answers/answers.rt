@@ -1,7 +1,7 @@
 //! The answers to questions.
 ghost use Rattle.std.specs.Prelude.{◌≡◌};
 ghost use Rattle.std.specs.Thread.{IsSync};
-ghost use Rattle.mp_commands.specs.answers.Names.{wire_named, Writes, Unicode, missing_at, usual_columns};
+ghost use Rattle.mp_commands.specs.answers.Names.{wire_named, Writes, Unicode, Decimal, missing_at, usual_columns};
 ghost use Rattle.mp_streams.specs.WriteErrors.{Writes as WritesAll};
 ghost use Rattle.mp_commands.specs.declared.views.drawing.Drawing.TheVariants.{Text};
 ghost use Rattle.mp_commands.specs.answers.Answers.{asked_text, wire_text, version_text, edits_text, answer_text};
@@ -11,11 +11,11 @@ use crate::answers::short_replies::{put_refused, put_unread};
 use crate::answers::snapshot::Snapshot;
 use crate::answers::work_lines::put_work_lines;
 use crate::views::{
-    AskedPicture, Drawing, DumpText, GraphText, MeasureLines, PathLines, PictureText, ReportLines,
-    USUAL_COLUMNS, VerilogText, View, WaitLines, WaveLines, WhyLines, put_wave_line,
+    AskedPicture, CheckLines, Drawing, DumpText, GraphText, MeasureLines, PathLines, PictureText,
+    ReportLines, USUAL_COLUMNS, VerilogText, View, WaitLines, WaveLines, WhyLines, put_wave_line,
 };
 use mp_netlist::{EditError, Name};
-use mp_picture::Charset;
+use mp_picture::{Charset, Numerals};
 use mp_questions::TimeRange;
 use mp_streams::{Failed, Out, Sink, Text, WriteError};
 use mp_text::{LineError, Question, WireNames, put_netlist};
@@ -38,6 +38,7 @@ pub fn put_answer<R: Threads + Sync, T: Sink>(
         Question::Waves => put_view(rt, alloc, out, of, &WaveLines),
         Question::Text => Ok(put_netlist(out, of.netlist())?),
         Question::Report => put_view(rt, alloc, out, of, &ReportLines),
+        Question::Check => put_view(rt, alloc, out, of, &CheckLines),
         Question::Dump => put_view(rt, alloc, out, of, &DumpText),
         Question::Work => put_work_lines(out, of.netlist(), of.work),
         Question::Graph => put_view(rt, alloc, out, of, &GraphText),
@@ -68,7 +69,7 @@ pub fn put_answer<R: Threads + Sync, T: Sink>(
 fn shown(from: u64, to: u64, wires: &WireNames) -> PictureText<'_>
     ensures wires { result.asked.wires.now ≡ wires.now }
     ensures range { (result.asked.from ≡ from) × (result.asked.to ≡ to) }
-    ensures usual { (result.asked.columns ≡ usual_columns) × (result.drawing ≡ Text Unicode) }
+    ensures usual { (result.asked.columns ≡ usual_columns) × (result.drawing ≡ Text Unicode) × (result.numerals ≡ Decimal) }
 {
     PictureText {
         asked: AskedPicture {
@@ -78,6 +79,7 @@ fn shown(from: u64, to: u64, wires: &WireNames) -> PictureText<'_>
             columns: USUAL_COLUMNS,
         },
         drawing: Drawing::Text(Charset::Unicode),
+        numerals: Numerals::Decimal,
     }
 }
 

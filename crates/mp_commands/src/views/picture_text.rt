@@ -9,21 +9,22 @@ use crate::views::drawing::Drawing;
 use crate::views::evaluated::Evaluated;
 use crate::views::view::View;
 use mp_netlist::Netlist;
-use mp_picture::{Columns, Picture, put_diagram, put_svg};
+use mp_picture::{Columns, Numerals, Picture, put_diagram, put_svg};
 use mp_report::report;
 use mp_streams::{Out, Sink, WriteError};
 use std::alloc::Global;
 use std::thread::Threads;
 
-/// A picture that is asked for, drawn in some way.
+/// A picture that is asked for, drawn in some way, with levels in these numerals.
 #[derive(Clone, Copy)]
 pub struct PictureText<'a> {
     pub asked: AskedPicture<'a>,
     pub drawing: Drawing<'a>,
+    pub numerals: Numerals,
 }
 
 impl<'a> View for PictureText<'a> {
-    ghost text = { λ view n. picture_text n view.asked.wires.now view.asked.from view.asked.to view.asked.columns view.drawing };
+    ghost text = { λ view n. picture_text n view.asked.wires.now view.asked.from view.asked.to view.asked.columns view.drawing view.numerals };
 
     ghost wires = { λ view. view.asked.wires.now };
 
@@ -46,16 +47,21 @@ impl<'a> View for PictureText<'a> {
             findings: findings.as_slice(),
             wires: wires.as_slice(),
             columns: columns_of(of.netlist, &self.asked, self.drawing),
+            numerals: self.numerals,
         };
         match self.drawing {
             Drawing::Text(charset) => put_diagram(alloc, out, &picture, charset),
-            Drawing::Svg(title) => put_svg(alloc, out, &picture, title),
+            Drawing::Svg(title) => put_svg(alloc, out, &picture, title, &[]),
         }
     }
 }
 
 /// The columns of a picture that is asked for of a netlist, drawn in some way.
-fn columns_of(netlist: &Netlist, asked: &AskedPicture<'_>, drawing: Drawing<'_>) -> Columns
+pub(crate) fn columns_of(
+    netlist: &Netlist,
+    asked: &AskedPicture<'_>,
+    drawing: Drawing<'_>,
+) -> Columns
     ensures value { result ≡ columns_in netlist.now.horizon asked.now.from asked.now.to (columns_drawn drawing.entry asked.now.columns) }
     ensures within { result.to ≤ netlist.now.horizon }
 {

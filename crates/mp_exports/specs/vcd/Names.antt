@@ -15,5 +15,5 @@ pub use Rattle.mp_exports.specs.declared.vcd.change_queue.QueuedChange.{QueuedCh
 pub use Rattle.mp_exports.specs.declared.vcd.dump_batch.DumpBatch.{DumpBatch}
 pub use Rattle.mp_exports.specs.declared.vcd.time_chunk.TimeChunk.{TimeChunk}
 pub use Rattle.mp_exports.specs.declared.vcd.room.Room.{Room}
-pub use Rattle.mp_exports.specs.declared.vcd.preamble.Part.{Part}
-pub use Rattle.mp_exports.specs.declared.vcd.preamble.Part.TheVariants.{Declarations, FirstLevels}
+pub use Rattle.mp_exports.specs.declared.vcd.preamble.PreamblePart.{PreamblePart}
+pub use Rattle.mp_exports.specs.declared.vcd.preamble.PreamblePart.TheVariants.{Declarations, FirstLevels}

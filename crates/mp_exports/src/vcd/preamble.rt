@@ -15,7 +15,7 @@ const BLOCK_END: &str = "$end\n";
 
 /// What is told of each wire before its changes.
 #[derive(Clone, Copy)]
-pub(crate) enum Part {
+pub(crate) enum PreamblePart {
     Declarations,
     FirstLevels,
 }
@@ -32,12 +32,12 @@ pub fn put_preamble<S: Sink>(
     let declarations = WireLines {
         netlist,
         waves,
-        part: Part::Declarations,
+        part: PreamblePart::Declarations,
     };
     let levels = WireLines {
         netlist,
         waves,
-        part: Part::FirstLevels,
+        part: PreamblePart::FirstLevels,
     };
     (OPENING, (declarations, (BLOCK_START, (levels, BLOCK_END)))).put_to(out)
 }
@@ -47,7 +47,7 @@ pub fn put_preamble<S: Sink>(
 struct WireLines<'a> {
     netlist: &'a Netlist,
     waves: &'a Waves,
-    part: Part,
+    part: PreamblePart,
     ghost of_netlist: { AreWavesOf netlist.now waves.now },
 }
 
@@ -75,8 +75,8 @@ impl<'a> WireLines<'a> {
             return Ok(());
         };
         match self.part {
-            Part::Declarations => put_declaration(out, id, wire),
-            Part::FirstLevels => out.put_piece(&ValueLine {
+            PreamblePart::Declarations => put_declaration(out, id, wire),
+            PreamblePart::FirstLevels => out.put_piece(&ValueLine {
                 width: wire.width,
                 wire: id.0,
                 level: wave.initial(),

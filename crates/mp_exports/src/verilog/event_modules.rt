@@ -199,12 +199,7 @@ endmodule
 "
 }
 
-#[tactic(auto, unfolding(crate::specs::verilog::EventModules::arbiter_text))]
-/// The module of a ARBITER.
-pub(crate) fn arbiter_text() -> &'static str
-    ensures { result.now ≡ arbiter_text }
-{
-    "
+const ARBITER: &str = "
 // ARBITER: port 1, 2 or none (0) owns, and 1, 2 or none waits. The events of a unit, in this order:
 //   event of           | if                       | then
 //   the owner's d1, d2 |                          | it owns no more; who waits owns, and its g1 or g2 changes
@@ -247,5 +242,12 @@ module mp_arbiter #(parameter g1_delay = 1, g1_initial = 0, g2_delay = 1, g2_ini
     end
   end
 endmodule
-"
+";
+
+#[tactic(auto, unfolding(crate::specs::verilog::EventModules::arbiter_text))]
+/// The module of a ARBITER.
+pub(crate) fn arbiter_text() -> &'static str
+    ensures { result.now ≡ arbiter_text }
+{
+    ARBITER
 }

@@ -6,7 +6,7 @@ ghost use Rattle.mp_exports.specs.verilog.Instances.{bundle_line};
 use crate::verilog::declarations::Wire;
 use crate::verilog::kinds::module_word;
 use crate::verilog::module_items::{
-    Copies, Delays, Given, InputItems, OutputItems, ParamItems, Part,
+    Copies, Given, InputItems, InstancedModule, OutputDelays, OutputItems, ParamItems,
 };
 use crate::verilog::names::Identifier;
 use crate::verilog::numbered::{Each, Numbered};
@@ -17,7 +17,7 @@ use mp_streams::{Failed, Out, Sink, Text};
 /// The width of a module whose kind has ports of any width.
 #[derive(Clone, Copy)]
 struct WidthItem<'a> {
-    part: Part<'a>,
+    part: InstancedModule<'a>,
 }
 
 impl<'a> Text for WidthItem<'a> {
@@ -39,7 +39,7 @@ impl<'a> Text for WidthItem<'a> {
 /// What an instance of a module is called.
 #[derive(Clone, Copy)]
 struct InstanceName<'a> {
-    part: Part<'a>,
+    part: InstancedModule<'a>,
 }
 
 impl<'a> Text for InstanceName<'a> {
@@ -59,7 +59,7 @@ impl<'a> Text for InstanceName<'a> {
 /// Delays, initial levels, parameters and the width of a module.
 #[derive(Clone, Copy)]
 struct Values<'a> {
-    part: Part<'a>,
+    part: InstancedModule<'a>,
 }
 
 impl<'a> Text for Values<'a> {
@@ -70,7 +70,7 @@ impl<'a> Text for Values<'a> {
     fn put_to<S: Sink>(&self, out: &mut Out<S>) -> Result<(), Failed> {
         let part = self.part;
         let delays = Each {
-            items: Delays { part },
+            items: OutputDelays { part },
             count: output_count(part.found.kind),
         };
         let params = Each {
@@ -84,7 +84,7 @@ impl<'a> Text for Values<'a> {
 /// What the ports of a module read and drive.
 #[derive(Clone, Copy)]
 struct PortItems<'a> {
-    part: Part<'a>,
+    part: InstancedModule<'a>,
 }
 
 impl<'a> Text for PortItems<'a> {
@@ -109,7 +109,7 @@ impl<'a> Text for PortItems<'a> {
 /// The copies that the inputs of a module read.
 #[derive(Clone, Copy)]
 struct CopyLines<'a> {
-    part: Part<'a>,
+    part: InstancedModule<'a>,
 }
 
 impl<'a> Text for CopyLines<'a> {
@@ -144,7 +144,7 @@ impl<'a> Numbered for Instances<'a> {
         let Some(found) = netlist.module(ModuleId(number)) else {
             return Ok(());
         };
-        let part = Part { netlist, found };
+        let part = InstancedModule { netlist, found };
         let kind = module_word(found.kind);
         let ports = (InstanceName { part }, " (", PortItems { part }, ");\n");
         let values = (" #(", Values { part }, ") ", ports);

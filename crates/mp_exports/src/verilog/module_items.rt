@@ -35,9 +35,9 @@ fn comma(number: u32) -> &'static str
     if number == 0 { "" } else { ", " }
 }
 
-/// A module of a netlist.
+/// A module of a netlist, which is written as an instance.
 #[derive(Clone, Copy)]
-pub(crate) struct Part<'a> {
+pub(crate) struct InstancedModule<'a> {
     pub(crate) netlist: &'a Netlist,
     pub(crate) found: &'a ModuleRecord,
 }
@@ -63,7 +63,7 @@ impl<'a> Text for CopyName<'a> {
 /// The copies that inputs with a delay read, a line each.
 #[derive(Clone, Copy)]
 pub(crate) struct Copies<'a> {
-    pub(crate) part: Part<'a>,
+    pub(crate) part: InstancedModule<'a>,
 }
 
 impl<'a> Numbered for Copies<'a> {
@@ -92,7 +92,7 @@ impl<'a> Numbered for Copies<'a> {
 /// What the input ports read.
 #[derive(Clone, Copy)]
 pub(crate) struct InputItems<'a> {
-    pub(crate) part: Part<'a>,
+    pub(crate) part: InstancedModule<'a>,
 }
 
 impl<'a> Numbered for InputItems<'a> {
@@ -141,7 +141,7 @@ impl<'a> Text for Driven<'a> {
 /// What the output ports drive.
 #[derive(Clone, Copy)]
 pub(crate) struct OutputItems<'a> {
-    pub(crate) part: Part<'a>,
+    pub(crate) part: InstancedModule<'a>,
 }
 
 impl<'a> Numbered for OutputItems<'a> {
@@ -190,11 +190,11 @@ impl<'a> Text for First<'a> {
 
 /// The delays of the output ports, and the initial levels of what they drive.
 #[derive(Clone, Copy)]
-pub(crate) struct Delays<'a> {
-    pub(crate) part: Part<'a>,
+pub(crate) struct OutputDelays<'a> {
+    pub(crate) part: InstancedModule<'a>,
 }
 
-impl<'a> Numbered for Delays<'a> {
+impl<'a> Numbered for OutputDelays<'a> {
     ghost use Rattle.mp_exports.specs.verilog.Instances.{delay_item};
 
     ghost item = { λ delays p. delay_item delays.part.netlist.now delays.part.found.now p };
@@ -218,7 +218,7 @@ impl<'a> Numbered for Delays<'a> {
 /// The parameters of the kind.
 #[derive(Clone, Copy)]
 pub(crate) struct ParamItems<'a> {
-    pub(crate) part: Part<'a>,
+    pub(crate) part: InstancedModule<'a>,
 }
 
 impl<'a> Numbered for ParamItems<'a> {

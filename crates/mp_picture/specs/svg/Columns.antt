@@ -5,6 +5,7 @@ use Rattle.std.specs.Fmt.{decimal}
 use Rattle.mp_picture.specs.declared.cell.Cell.{Cell}
 use Rattle.mp_picture.specs.declared.cell.Events.{Events}
 use Rattle.mp_picture.specs.declared.cell.Events.TheVariants.{None, One, More}
+use Rattle.mp_picture.specs.Levels.{level_text}
 use Rattle.mp_picture.specs.Rows.{is_still}
 use Rattle.mp_picture.specs.declared.svg.lane.Lane.{Lane}
 use Rattle.mp_picture.specs.declared.svg.svg_drawing.SvgDrawing.{SvgDrawing}
@@ -69,21 +70,21 @@ abbrev pub word_path : Lane → ℕ → Bool → Bool → List ℕ
 word_path lane j still next =
     if lane.units == 1 then word_line lane j (top lane) still next ++ word_line lane j (bottom lane) still next else wide_path lane j still
 
--- a level from a point on, where it fits into so many columns
-abbrev pub fitting_text : ℕ → ℕ → ℕ → ℕ → List ℕ
-fitting_text x y room level = if nat_le (length (decimal level)) room then text_from x y (decimal level) else []
+-- a text from a point on, where it fits into so many columns
+abbrev pub fitting_text : ℕ → ℕ → ℕ → List ℕ → List ℕ
+fitting_text x y room text = if nat_le (length text) room then text_from x y text else []
 
 abbrev pub value_start : ℕ → ℕ → List ℕ
 value_start j level =
     codes "<g" ++ (attribute (codes "class") (codes "value") ++ (number (codes "data-column") j ++ (number (codes "data-level") level ++ codes ">")))
 
--- the value of a column: a frame over it and the columns without an event behind it, and the level from a point on
+-- the value of a column: a frame over it and the columns without an event behind it, and the level from a point on. What programs read has it in decimal.
 abbrev pub value_group : Lane → ℕ → ℕ → ℕ → ℕ → ℕ → List ℕ
 value_group lane j x room later level =
     value_start j level
-    ++ (title (decimal level)
+    ++ (title (level_text lane.numerals level)
     ++ (rectangle (codes "<rect") (x_of lane j) (top lane) (8 * (later + 1))
-    ++ (fitting_text x (base lane) room level ++ codes "</g>")))
+    ++ (fitting_text x (base lane) room (level_text lane.numerals level) ++ codes "</g>")))
 
 -- how many columns behind one have no event, up to the next that has
 abbrev pub still_behind : List Cell → ℕ → ℕ

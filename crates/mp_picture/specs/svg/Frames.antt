@@ -7,7 +7,7 @@ use Rattle.mp_picture.specs.declared.svg.lane.Lane.{Lane}
 
 -- a row by number
 abbrev pub lane : Frame → ℕ → Lane
-lane frame row = record { left = frame.left; row = row; units = frame.columns.units }
+lane frame row = record { left = frame.left; row = row; units = frame.columns.units; numerals = frame.numerals }
 
 -- where a column begins
 abbrev pub column_x : Frame → ℕ → ℕ

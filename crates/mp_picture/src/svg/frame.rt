@@ -1,13 +1,14 @@
 //! Where the columns of an SVG stand.
 use crate::svg::lane::Lane;
-use crate::{Columns, last_tick, tick_step};
+use crate::{Columns, Numerals, last_tick, tick_step};
 use itoa::Buffer;
 
-/// The columns of an SVG, from a point on.
+/// The columns of an SVG, from a point on, and how its levels are written.
 #[derive(Clone, Copy, Debug)]
 pub(crate) struct Frame {
     pub(crate) left: u32,
     pub(crate) columns: Columns,
+    pub(crate) numerals: Numerals,
 }
 
 impl Frame {
@@ -31,6 +32,7 @@ impl Frame {
             left: self.left,
             row,
             units: self.columns.units,
+            numerals: self.numerals,
         }
     }
 

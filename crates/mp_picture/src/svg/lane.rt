@@ -1,11 +1,14 @@
 //! Where the row of a wire stands in an SVG.
+use crate::Numerals;
 
-/// The row of a wire in an SVG, by number from 0, with its columns from a point on, which have so many units each.
+/// The row of a wire in an SVG, by number from 0, with its columns from a point on, which have so many units each, and with levels in these
+/// numerals.
 #[derive(Clone, Copy, Debug)]
 pub struct Lane {
     pub left: u32,
     pub row: u32,
     pub units: u32,
+    pub numerals: Numerals,
 }
 
 impl Lane {

@@ -52,7 +52,7 @@ impl<'a> Text for Lead<'a> {
 }
 
 /// The row of a wire among some: how many stand before it.
-fn wire_among(wires: &[WireId], wire: WireId) -> u32
+pub(crate) fn wire_among(wires: &[WireId], wire: WireId) -> u32
     requires { length wires.now < 2 ^ 32 }
     ensures { result ≡ wire_among wires.now wire }
 {
@@ -124,7 +124,7 @@ fn put_lead<S: Sink>(
 }
 
 /// Where the line of a mark in a column begins: at the column's begin where it has one unit, and else in its middle.
-fn lead_x(frame: Frame, column: u32) -> u64
+pub(crate) fn lead_x(frame: Frame, column: u32) -> u64
     ensures value { result ≡ lead_x frame column }
     ensures low { result < 2 ^ 63 }
 {

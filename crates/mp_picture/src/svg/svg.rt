@@ -7,6 +7,8 @@ ghost use Rattle.mp_model.specs.declared.finding.Finding.{Finding as Found};
 ghost use Rattle.mp_picture.specs.Found.{is_within};
 ghost use Rattle.mp_picture.specs.svg.Svg.{svg, sheet, sheet_width, wire_row, wire_rows};
 
+use crate::svg::arrow::Arrow;
+use crate::svg::arrow_group::put_arrow_group;
 use crate::svg::found_groups::{put_findings, put_mark_rows, words_end};
 use crate::svg::frame::Frame;
 use crate::svg::head::{put_head, title_end};
@@ -29,10 +31,12 @@ struct Sheet<'a> {
     title: &'a str,
     rows: &'a [MarkRow],
     found: &'a [Finding],
+    arrows: &'a [Arrow],
 }
 
 /// Writes the SVG of a picture: a title above the times, a row for each wire, a row for each code of which the report finds something at
-/// a module or a bundle in the range, with the code's word, and a mark for each of these findings, with a line to the wires of its place.
+/// a module or a bundle in the range, with the code's word, a mark for each of these findings, with a line to the wires of its place, and those
+/// of the arrows of which both ends are in the picture.
 /// Control characters of the title are blanks.
 ///
 /// `WriteFailed` comes with a fault of the sink: then some of what was held and of the SVG, from the front, is with the sink, and nothing
@@ -43,11 +47,12 @@ pub fn put_svg<S: Sink>(
     out: &mut Out<S>,
     picture: &Picture,
     title: &str,
+    arrows: &[Arrow],
 ) -> Result<(), WriteError>
     requires waves { AreWavesOf picture.now.netlist.now picture.now.waves.now }
     requires findings { picture.now.findings.now ≡ findings picture.now.netlist.now }
     requires within { picture.now.columns.to ≤ picture.now.netlist.now.horizon }
-    ensures { Writes result out.old out.new (svg picture.now.netlist.now picture.now.columns picture.now.wires.now title.now) }
+    ensures { Writes result out.old out.new (svg picture.now.netlist.now picture.now.columns picture.now.numerals picture.now.wires.now title.now arrows.now) }
 {
     let columns = picture.columns;
     let found_list = found_within(alloc, picture.findings, columns)?;
@@ -58,6 +63,7 @@ pub fn put_svg<S: Sink>(
     let frame = Frame {
         left: 8 * margin.min(34) as u32,
         columns,
+        numerals: picture.numerals,
     };
     let row_list = mark_rows(alloc, columns, places, found)?;
     let rows = row_list.as_slice();
@@ -69,6 +75,7 @@ pub fn put_svg<S: Sink>(
         title,
         rows,
         found,
+        arrows,
     };
     put_sheet(alloc, out, picture, sheet)
 }
@@ -101,7 +108,7 @@ fn put_sheet<S: Sink>(
     requires horizon { parts.frame.columns.to ≤ picture.now.netlist.now.horizon }
     requires few { length picture.now.wires.now + length parts.rows.now < 2 ^ 32 }
     requires within { All (λ (f : Found). IsTrue (is_within parts.frame.columns f)) parts.found.now }
-    ensures { Writes result out.old out.new (sheet picture.now.netlist.now parts.entry.frame parts.entry.title.now picture.now.wires.now parts.entry.rows.now parts.entry.found.now) }
+    ensures { Writes result out.old out.new (sheet picture.now.netlist.now parts.entry.frame parts.entry.title.now picture.now.wires.now parts.entry.rows.now parts.entry.found.now parts.entry.arrows.now) }
 {
     let (netlist, wires) = (picture.netlist, picture.wires);
     let Sheet {
@@ -109,6 +116,7 @@ fn put_sheet<S: Sink>(
         title,
         rows,
         found,
+        arrows,
     } = parts;
     let first = wires.len() as u32;
     put_head(
@@ -122,6 +130,7 @@ fn put_sheet<S: Sink>(
     put_wires(alloc, out, picture, frame)?;
     put_mark_rows(out, netlist, frame, first, rows)?;
     put_findings(out, netlist, frame, first, rows, found)?;
+    put_arrow_group(out, frame, wires, arrows)?;
     out.put_text("</svg>\n")?;
     Ok(())
 }

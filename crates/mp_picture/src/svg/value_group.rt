@@ -1,7 +1,7 @@
 //! The values of a wider wire.
+use crate::level_text::LevelText;
 use crate::svg::elements::{Label, Rectangle};
 use crate::svg::lane::Lane;
-use itoa::Buffer;
 use mp_streams::{Failed, Out, Sink, Text};
 
 /// A level from a point on, where it fits into so many columns.
@@ -10,22 +10,25 @@ struct Fitting {
     x: u64,
     y: u64,
     room: u64,
-    level: u64,
+    text: LevelText,
 }
 
 impl Text for Fitting {
+    ghost use Rattle.mp_picture.specs.Levels.{shown};
     ghost use Rattle.mp_picture.specs.svg.Columns.{fitting_text};
 
-    ghost text = { λ value. fitting_text value.x value.y value.room value.level };
+    ghost text = { λ value. fitting_text value.x value.y value.room (shown value.text) };
 
     fn put_to<S: Sink>(&self, out: &mut Out<S>) -> Result<(), Failed> {
-        let mut buffer = Buffer::new();
-        let text = buffer.format(self.level);
-        if text.len() as u64 > self.room {
+        if self.text.len() as u64 > self.room {
             return Ok(());
         }
-        let (x, y) = (self.x, self.y);
-        Label { x, y, text }.put_to(out)
+        Label {
+            x: self.x,
+            y: self.y,
+            text: &self.text,
+        }
+        .put_to(out)
     }
 }
 
@@ -49,7 +52,8 @@ impl Text for ValueGroup {
     fn put_to<S: Sink>(&self, out: &mut Out<S>) -> Result<(), Failed> {
         let column = (" data-column=\"", self.column, "\"");
         let level = (" data-level=\"", self.level, "\"");
-        let title = ("<title>", self.level, "</title>");
+        let text = LevelText::new(self.lane.numerals, self.level);
+        let title = ("<title>", &text, "</title>");
         let frame = Rectangle {
             start: "<rect",
             x: self.lane.begin(self.column),
@@ -60,7 +64,7 @@ impl Text for ValueGroup {
             x: self.x,
             y: self.lane.base(),
             room: self.room,
-            level: self.level,
+            text,
         };
         let start = ("<g class=\"value\"", column, level, ">");
         (start, title, frame, (value, "</g>")).put_to(out)

@@ -10,6 +10,9 @@ use Rattle.mp_questions.specs.declared.timing.extremes.Extremes.{Extremes}
 use Rattle.mp_questions.specs.timing.Ranges.{read_time, read_end}
 use Rattle.mp_questions.specs.timing.Events.{event_times, last_event, first_event}
 use Rattle.mp_questions.specs.timing.Extremes.{extremes}
+use Rattle.mp_questions.specs.declared.late.late.Late.{Late}
+use Rattle.mp_questions.specs.late.Searching.{late_over}
+use Rattle.mp_questions.specs.late.Lists.{units_within}
 
 -- ---- what is measured
 
@@ -38,6 +41,10 @@ setups payload requests = extremes (filter_map (stood_for payload) requests)
 abbrev pub responses : (ℕ → ℕ) → ℕ → List ℕ → Option Extremes
 responses acknowledge horizon requests = extremes (filter_map (answered_after acknowledge horizon) requests)
 
+-- by how much data of a bundle are late that change from one time on to before another, of all that is late at it
+abbrev pub lateness : ℕ → ℕ → List Late → Option Extremes
+lateness from to late = extremes (filter_map (units_within from to) late)
+
 -- ---- how it is written
 
 abbrev pub last_from : ℕ → List ℕ → ℕ
@@ -63,6 +70,11 @@ abbrev pub least_text : List ℕ → Option Extremes → List ℕ
 least_text word None = []
 least_text word (Some e) = word ++ (codes " " ++ decimal e.least)
 
+-- the greatest alone
+abbrev pub most_text : List ℕ → Option Extremes → List ℕ
+most_text word None = []
+most_text word (Some e) = word ++ (codes " " ++ decimal e.most)
+
 -- a kind of thing, its name and a count, and figures behind them
 abbrev pub figures_line : List ℕ → List ℕ → ℕ → List ℕ → List ℕ
 figures_line kind name count figures = kind ++ (name ++ (codes " " ++ (decimal count ++ (figures ++ codes "\n"))))
@@ -74,14 +86,14 @@ wire_figures times = ends_text times ++ extremes_text [] (extremes (gaps times))
 abbrev pub wire_line : List ℕ → List ℕ → List ℕ
 wire_line name times = figures_line (codes "wire ") name (length times) (wire_figures times)
 
-abbrev pub bundle_figures : Circuit → BundleRecord → List ℕ → List ℕ
-bundle_figures n b requests =
+abbrev pub bundle_figures : Circuit → BundleRecord → List ℕ → Option Extremes → List ℕ
+bundle_figures n b requests late =
     least_text (codes " setup") (setups (level n b.payload.0) requests)
-    ++ extremes_text (codes " response") (responses (level n b.acknowledge.0) n.horizon requests)
+    ++ (extremes_text (codes " response") (responses (level n b.acknowledge.0) n.horizon requests) ++ most_text (codes " late") late)
 
--- the line of a bundle with requests at these times
-abbrev pub bundle_line : Circuit → BundleRecord → List ℕ → List ℕ
-bundle_line n b requests = figures_line (codes "bundle ") b.name (length requests) (bundle_figures n b requests)
+-- the line of a bundle with requests at these times, where its data are so late
+abbrev pub bundle_line : Circuit → BundleRecord → List ℕ → Option Extremes → List ℕ
+bundle_line n b requests late = figures_line (codes "bundle ") b.name (length requests) (bundle_figures n b requests late)
 
 -- ---- of a netlist
 
@@ -90,15 +102,16 @@ abbrev pub slot_line : Circuit → ℕ → ℕ → ℕ → Option WireRecord →
 slot_line n from to w None = []
 slot_line n from to w (Some r) = wire_line r.name (event_times (level n w) from to)
 
-abbrev pub bundle_slot_line : Circuit → ℕ → ℕ → Option BundleRecord → List ℕ
-bundle_slot_line n from to None = []
-bundle_slot_line n from to (Some b) = bundle_line n b (event_times (level n b.request.0) from to)
+abbrev pub bundle_slot_line : Circuit → ℕ → ℕ → ℕ → Option BundleRecord → List ℕ
+bundle_slot_line n from to k None = []
+bundle_slot_line n from to k (Some b) =
+    bundle_line n b (event_times (level n b.request.0) from to) (lateness from to (late_over n (record { 0 = k })))
 
 abbrev pub wire_measure : Circuit → ℕ → ℕ → ℕ → List ℕ
 wire_measure n from to w = slot_line n from to w (wire_at n w)
 
 abbrev pub bundle_measure : Circuit → ℕ → ℕ → ℕ → List ℕ
-bundle_measure n from to b = bundle_slot_line n from to (bundle_at n b)
+bundle_measure n from to b = bundle_slot_line n from to b (bundle_at n b)
 
 -- a line for each wire and for each bundle by number
 abbrev pub measured : Circuit → ℕ → ℕ → List ℕ

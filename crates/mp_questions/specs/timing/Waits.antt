@@ -1,5 +1,5 @@
 -- Which modules and bundles of a netlist wait at a time, for what and since when, as text.
-use Rattle.std.specs.Prelude.{ℕ, ◌==◌, List, [], ◌++◌, length, codes, Option, Some, None, slice_index, if◌then◌else◌}
+use Rattle.std.specs.Prelude.{ℕ, ◌-◌, ◌==◌, List, [], ◌++◌, length, codes, Option, Some, None, slice_index, if◌then◌else◌}
 use Rattle.std.specs.List.{flat_map, range_with_len}
 use Rattle.std.specs.Fmt.{decimal}
 use Rattle.mp_modules.specs.declared.kind.Kind.{Kind}
@@ -55,14 +55,20 @@ input_line n r does p t = since_line r.name does (wire_name n (input_at r p).wir
 
 -- ---- C: the input that has come differs from the output, and waits for the other one, which agrees with it
 
-abbrev pub rendezvous_wait : Circuit → ℕ → ModuleRecord → ℕ → List ℕ
-rendezvous_wait n m r t =
+-- the input that hasn't come, where the other one has
+abbrev pub missing_input : Circuit → ℕ → ModuleRecord → ℕ → Option ℕ
+missing_input n m r t =
     let c = rendezvous r.params in
     let a = bubbled c.bubble_a (heard n r 0 t) in
     let b = bubbled c.bubble_b (heard n r 1 t) in
-    if a == b then []
-    else (if a == given n m 0 t then input_line n r (codes " C waits for ") 0 (since (heard n r 1) t)
-    else input_line n r (codes " C waits for ") 1 (since (heard n r 0) t))
+    if a == b then None else (if a == given n m 0 t then Some 0 else Some 1)
+
+abbrev pub missing_line : Circuit → ModuleRecord → ℕ → Option ℕ → List ℕ
+missing_line n r t None = []
+missing_line n r t (Some p) = input_line n r (codes " C waits for ") p (since (heard n r (1 - p)) t)
+
+abbrev pub rendezvous_wait : Circuit → ℕ → ModuleRecord → ℕ → List ℕ
+rendezvous_wait n m r t = missing_line n r t (missing_input n m r t)
 
 -- ---- CALL: while a client is served it waits for done, since the request went on
 

@@ -1,16 +1,13 @@
 //! Which bundles wait at a time.
-ghost use Rattle.std.specs.Prelude.{◌≡◌, length, IsSome};
+ghost use Rattle.std.specs.Prelude.{length};
 ghost use Rattle.std.specs.List.{flat_map, range_with_len};
 ghost use Rattle.mp_streams.specs.Outgoing.{Writes};
-ghost use Rattle.mp_netlist.specs.Circuit.{IsBundle, wire_at};
-ghost use Rattle.mp_model.specs.Waves.{level};
-ghost use Rattle.mp_questions.specs.timing.Hearing.{Hears};
+ghost use Rattle.mp_netlist.specs.Circuit.{IsBundle};
 ghost use Rattle.mp_questions.specs.timing.Waits.{bundle_wait, busy_wait};
 
-use crate::timing::delayed_input::DelayedInput;
 use crate::timing::lines::{put_since, wire_name};
 use crate::timing::wait_moment::WaitMoment;
-use mp_netlist::{BundleId, BundleRecord, WireId};
+use mp_netlist::{BundleId, BundleRecord};
 use mp_streams::{Failed, Out, Sink};
 
 /// Writes the lines of the bundles.
@@ -42,8 +39,8 @@ fn put_busy<S: Sink>(
     requires { IsBundle at.now.netlist.now bundle.now }
     ensures { Writes result out.old out.new (busy_wait at.now.netlist.now bundle.now at.now.time) }
 {
-    let request = prompt(at, bundle.request);
-    let acknowledge = prompt(at, bundle.acknowledge);
+    let request = at.prompt(bundle.request);
+    let acknowledge = at.prompt(bundle.acknowledge);
     if request.level_at(at.time) == acknowledge.level_at(at.time) {
         return Ok(());
     }
@@ -56,15 +53,4 @@ fn put_busy<S: Sink>(
         &what,
         request.since(at.time),
     )
-}
-
-/// What is heard of a wire that stands without a delay.
-fn prompt<'a>(at: &WaitMoment<'a>, wire: WireId) -> DelayedInput<'a>
-    requires { IsSome (wire_at at.now.netlist.now wire.0) }
-    ensures { Hears (level at.now.netlist.now wire.0) at.now.netlist.now.horizon result }
-{
-    DelayedInput {
-        wave: at.wave_of(wire),
-        delay: 0,
-    }
 }

@@ -7,9 +7,10 @@ use mp_wave::Wave;
 
 /// The wave of a wire, so many units later.
 #[derive(Clone, Copy)]
-pub(crate) struct DelayedInput<'a> {
-    pub(crate) wave: &'a Wave,
-    pub(crate) delay: u32,
+pub struct DelayedInput<'a> {
+    pub wave: &'a Wave,
+    /// In units.
+    pub delay: u32,
 }
 
 impl<'a> DelayedInput<'a> {
@@ -18,14 +19,14 @@ impl<'a> DelayedInput<'a> {
     ghost use Rattle.mp_questions.specs.timing.Hearing.{Hears};
 
     /// The level at a time.
-    pub(crate) fn level_at(self, time: u32) -> u64
+    pub fn level_at(self, time: u32) -> u64
         ensures { (f : ℕ → ℕ) (end : ℕ) → Hears f end self.entry → time < end → result ≡ f time }
     {
         self.wave.level_at(time.saturating_sub(self.delay))
     }
 
     /// The time of the last event up to a time, or 0 where there was none.
-    pub(crate) fn since(self, time: u32) -> u32
+    pub fn since(self, time: u32) -> u32
         requires { time < 2 ^ 31 }
         ensures value { (f : ℕ → ℕ) (end : ℕ) → Hears f end self.entry → time < end → result ≡ since f time }
         ensures within { result ≤ time }

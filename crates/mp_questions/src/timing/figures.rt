@@ -68,6 +68,26 @@ impl<'a> Text for Least<'a> {
     }
 }
 
+/// The greatest of some numbers behind a word, and nothing where there are none.
+#[derive(Clone, Copy)]
+pub(crate) struct Most<'a> {
+    pub(crate) word: &'a str,
+    pub(crate) found: Option<Extremes>,
+}
+
+impl<'a> Text for Most<'a> {
+    ghost use Rattle.mp_questions.specs.timing.Measures.{most_text};
+
+    ghost text = { λ figure. most_text figure.word.now figure.found };
+
+    fn put_to<S: Sink>(&self, out: &mut Out<S>) -> Result<(), Failed> {
+        match self.found {
+            Some(found) => (self.word, " ", found.most).put_to(out),
+            None => Ok(()),
+        }
+    }
+}
+
 /// Writes the line of a wire or a bundle: its name, a count, and figures.
 pub(crate) fn put_figures<S: Sink, T: Text>(
     out: &mut Out<S>,

@@ -6,10 +6,13 @@ ghost use Rattle.mp_model.specs.Waves.{AreWavesOf, level, wave};
 ghost use Rattle.mp_wave.specs.WaveChanges.{changes_in};
 ghost use Rattle.mp_questions.specs.timing.Events.{times_of};
 ghost use Rattle.mp_questions.specs.timing.Extremes.{extremes};
-ghost use Rattle.mp_questions.specs.timing.Measures.{gaps, setups, responses};
+ghost use Rattle.mp_questions.specs.late.Lists.{units_within};
+ghost use Rattle.mp_questions.specs.timing.Measures.{gaps, lateness, responses, setups};
 ghost use Rattle.mp_questions.specs.timing.Trails.{IsTrail};
 
+use crate::late::Late;
 use crate::timing::extremes::{Extremes, widened, widened_by};
+use crate::timing::range::Units;
 use crate::timing::trail::Trail;
 use mp_model::Waves;
 use mp_netlist::{Netlist, WireId};
@@ -80,6 +83,26 @@ pub(crate) fn responses(
         found = widened_by(found, units_until(trail.next(), time));
     }
     found
+}
+
+/// The extremes of by how much data are late that change in a range of times, of all that is late at their bundle.
+pub(crate) fn lateness(late: &[Late], units: Units) -> Option<Extremes>
+    ensures { result ≡ lateness units.from units.to late.now }
+{
+    let mut found = None;
+    for one in late {
+        found = widened_by(found, units_within(one, units));
+    }
+    found
+}
+
+fn units_within(late: &Late, units: Units) -> Option<u32>
+    ensures { result ≡ units_within units.from units.to late.now }
+{
+    if units.from <= late.time && late.time < units.to {
+        return Some(late.units);
+    }
+    None
 }
 
 /// The events of a wire that stands, from time 0 on.

@@ -3,16 +3,18 @@ ghost use Rattle.std.specs.Prelude.{◌<◌, ◌≤◌};
 ghost use Rattle.mp_netlist.specs.Limits.{max_horizon};
 ghost use Rattle.mp_model.specs.Waves.{AreWavesOf};
 
+use crate::timing::delayed_input::DelayedInput;
 use mp_model::Waves;
-use mp_netlist::{Netlist, WireId};
+use mp_netlist::{Input, Netlist, WireId};
 use mp_wave::Wave;
 
 /// A netlist with its waves, at a time below its horizon.
 #[derive(Clone, Copy)]
-pub(crate) struct WaitMoment<'a> {
-    pub(crate) netlist: &'a Netlist,
-    pub(crate) waves: &'a Waves,
-    pub(crate) time: u32,
+pub struct WaitMoment<'a> {
+    pub netlist: &'a Netlist,
+    pub waves: &'a Waves,
+    /// In units from 0.
+    pub time: u32,
     ghost are_waves: { AreWavesOf netlist.now waves.now },
     ghost within: { time < netlist.now.horizon },
     ghost short: { netlist.now.horizon ≤ max_horizon },
@@ -21,16 +23,41 @@ pub(crate) struct WaitMoment<'a> {
 impl<'a> WaitMoment<'a> {
     ghost use Rattle.std.specs.Prelude.{◌≡◌, IsSome};
     ghost use Rattle.mp_netlist.specs.Circuit.{wire_at};
-    ghost use Rattle.mp_model.specs.Waves.{wave};
+    ghost use Rattle.mp_model.specs.Levels.{input_by};
+    ghost use Rattle.mp_model.specs.Waves.{level, wave};
+    ghost use Rattle.mp_questions.specs.timing.Hearing.{Hears};
 
     /// The wave of a wire that stands.
-    pub(crate) fn wave_of(&self, wire: WireId) -> &'a Wave
+    pub fn wave_of(&self, wire: WireId) -> &'a Wave
         requires { IsSome (wire_at self.now.netlist.now wire.0) }
         ensures { result.now ≡ wave self.now.netlist.now wire.0 }
     {
         match self.waves.of(wire) {
             Some(wave) => wave,
             None => unreachable!(),
+        }
+    }
+
+    /// What an input that reads a wire that stands hears.
+    pub fn heard(&self, input: Input) -> DelayedInput<'a>
+        requires { IsSome (wire_at self.now.netlist.now input.wire.0) }
+        ensures { Hears (input_by self.now.netlist.now (level self.now.netlist.now) input) self.now.netlist.now.horizon result }
+    {
+        let _horizon = self.netlist.horizon();
+        DelayedInput {
+            wave: self.wave_of(input.wire),
+            delay: input.delay,
+        }
+    }
+
+    /// What is heard of a wire that stands without a delay.
+    pub fn prompt(&self, wire: WireId) -> DelayedInput<'a>
+        requires { IsSome (wire_at self.now.netlist.now wire.0) }
+        ensures { Hears (level self.now.netlist.now wire.0) self.now.netlist.now.horizon result }
+    {
+        DelayedInput {
+            wave: self.wave_of(wire),
+            delay: 0,
         }
     }
 }

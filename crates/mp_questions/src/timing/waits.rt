@@ -2,7 +2,6 @@
 ghost use Rattle.std.specs.Prelude.{ℕ, suc, slice_index, ◌≡◌, ◌<◌, length, Some, [], codes, if◌then◌else◌};
 ghost use Rattle.std.specs.List.{flat_map, range_with_len};
 ghost use Rattle.mp_streams.specs.Outgoing.{Writes};
-ghost use Rattle.mp_modules.specs.CElement.{bubbled};
 ghost use Rattle.mp_modules.specs.declared.kind.Kind.TheVariants as kinds;
 ghost use Rattle.mp_netlist.specs.Circuit.{IsModule, module_at};
 ghost use Rattle.mp_model.specs.Waves.{AreWavesOf, state};
@@ -15,10 +14,11 @@ use crate::timing::client_watch::{ClientWatch, follow};
 use crate::timing::delayed_input::{level_at, since};
 use crate::timing::input_ports::InputPorts;
 use crate::timing::lines::{put_input, put_since};
+use crate::timing::missing::missing_input;
 use crate::timing::range::read_time;
 use crate::timing::wait_moment::WaitMoment;
 use mp_model::Waves;
-use mp_modules::{Client, Kind, Rendezvous};
+use mp_modules::{Client, Kind};
 use mp_netlist::{ModuleId, ModuleRecord, Netlist};
 use mp_streams::{Failed, Out, Sink};
 
@@ -101,41 +101,14 @@ fn put_rendezvous<S: Sink>(
 {
     let _horizon = at.netlist.horizon();
     let ears = InputPorts::of(at, found);
-    let bubbles = Rendezvous::from_params(found.params.as_slice());
-    let a = bubbled(bubbles.bubble_a, level_at(ears.first, at.time));
-    let b = bubbled(bubbles.bubble_b, level_at(ears.second, at.time));
-    if a == b {
+    let Some(port) = missing_input(at, found) else {
         return Ok(());
-    }
-    let since_apart = apart_since(ears.first, ears.second, at.time);
-    let output = joined_before(ears, bubbles, since_apart);
+    };
     let does = " C waits for ";
-    if a == output {
+    if port == 0 {
         return put_input(out, at.netlist, found, does, 0, since(ears.second, at.time));
     }
     put_input(out, at.netlist, found, does, 1, since(ears.first, at.time))
-}
-
-/// The output of a C whose inputs differ since a time: the level of both before that, or its first output where that is 0.
-fn joined_before(ears: InputPorts<'_>, bubbles: Rendezvous, since: u32) -> u64
-    ensures first { since ≡ 0 → result ≡ (if bubbles.initial then 1 else 0) }
-    ensures later { (f : ℕ → ℕ) (end e : ℕ) → HearsPort f end ears.entry.first → since ≡ suc e → e < end → result ≡ bubbled bubbles.bubble_a (f e) }
-{
-    if since == 0 {
-        return u64::from(bubbles.initial);
-    }
-    bubbled(bubbles.bubble_a, level_at(ears.first, since - 1))
-}
-
-/// The level behind a bubble, where there is one.
-fn bubbled(bubble: bool, level: u64) -> u64
-    ensures { result ≡ bubbled bubble level }
-{
-    if bubble {
-        1u64.saturating_sub(level)
-    } else {
-        level
-    }
 }
 
 /// Writes that a CALL waits for the done event of the client that it serves.

@@ -1,5 +1,6 @@
 -- What meetings and seats have in common.
-use Rattle.std.specs.Prelude.{◌≡◌, ℕ, ◌+◌, ◌≤◌, true, false, List, [], ◌∷◌, length, map, Some, Result, Ok}
+use Rattle.std.specs.Prelude.{◌≡◌, ℕ, ◌+◌, true, false, List, [], ◌∷◌, map, All, Some, Result, Ok}
+use Rattle.mp_netlist.specs.Circuit.{Circuit}
 use Rattle.mp_text.specs.declared.lexing.line_error.LineError.{LineError}
 use Rattle.mp_text.specs.declared.question.Question.{Question}
 use Rattle.mp_text.specs.declared.script_line.Line.{Line}
@@ -8,7 +9,7 @@ use Rattle.mp_text.specs.ScriptLines.{line_at}
 use Rattle.mp_version.specs.Stories.{Story, opening}
 use Rattle.mp_desk.specs.declared.meeting.tally.Tally.{Tally}
 use Rattle.mp_desk.specs.meeting.Fates.{Fate, Accepted, Refused}
-use Rattle.mp_desk.specs.meeting.Meetings.{IsWorked}
+use Rattle.mp_desk.specs.meeting.Meetings.{IsWorked, IsMeeting}
 use Rattle.mp_seats.specs.Marks.{Mark, AcceptedAt, AnsweredAt, up_to}
 use Rattle.mp_seats.specs.Replies.{Writing}
 use Rattle.mp_seats.specs.Seats.{IsSeat}
@@ -35,8 +36,14 @@ BlocksAreSeats =
     × (seat : IsSeat w true (just_come number (opening now.base)) (map (λ line. Some line) lines) (record { seen = now; accepted = tally.accepted; number = number; signed = signed }) text)
     × (seat.marks ≡ marks_of 0 lines worked.fates)
 
--- what a viewer of a meeting saw is answered as at a viewer's seat to a line that asks for it, with the viewer's number
+-- what a viewer saw is answered as at a viewer's seat to a line that asks for it, with the viewer's number
+abbrev pub IsSeenAtSeat : Writing → Story → ℕ → Type 0
+IsSeenAtSeat w now number =
+    (line : List ℕ) (question : Question) → line_at line ≡ Ok (Ask question)
+    → (seat : IsSeat w false (just_looking (opening now.base)) (Some line ∷ []) (just_looking now) (w.answer (up_to now number) question)) × (seat.marks ≡ AnsweredAt number ∷ [])
+
+-- so it is with each viewer of a meeting
 abbrev pub NumbersAreSeats : Type 0
 NumbersAreSeats =
-    (w : Writing) (now : Story) (number : ℕ) (line : List ℕ) (question : Question) → number ≤ length now.edits → line_at line ≡ Ok (Ask question)
-    → (seat : IsSeat w false (just_looking (opening now.base)) (Some line ∷ []) (just_looking now) (w.answer (up_to now number) question)) × (seat.marks ≡ AnsweredAt number ∷ [])
+    (w : Writing) (base : Circuit) (blocks : List (List (List ℕ))) (now : Story) (tallies : List Tally) (numbers : List ℕ)
+    → IsMeeting base blocks now tallies numbers → All (IsSeenAtSeat w now) numbers

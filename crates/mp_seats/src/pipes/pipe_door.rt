@@ -3,26 +3,61 @@
 use crate::hosting::{Door, Ended, Places, SeatPlace};
 use crate::pipes::pipe_paths::PipePaths;
 use mp_streams::{ReadSource, WriteSink};
+use std::fs;
 use std::fs::{File, OpenOptions};
 
-/// The named pipes of a seat as its door.
+/// The named pipes of a seat as its door. Those who come read from one of two pipes, if there are two: each time somebody leaves, the other one takes
+/// the place of the output before this one is closed. So whoever leaves sees the end of the pipe, even if somebody else comes at once.
 #[derive(Drop)]
 pub(crate) struct PipeDoor<'a> {
     pub files: &'a HostRuntime,
     pub paths: &'a PipePaths,
     pub seat: &'a SeatPlace,
     pub places: &'a Places,
+    /// Whether there are two pipes to read from.
+    pub has_spare: bool,
+    /// Whether the second of them is in the place of the output.
+    pub is_spare: bool,
 }
 
 impl PipeDoor<'_> {
-    /// Both pipes, once somebody has opened their other ends. None where one can't be opened.
+    /// Both pipes: the output once somebody reads there, and then the input once somebody writes there. None where one can't be opened, and where the
+    /// desk ends meanwhile.
     fn open_pipes(&self) -> Option<(File, File)> {
-        let input = File::open(self.files, self.paths.input.as_str()).ok()?;
         let output = OpenOptions::new()
             .write(true)
-            .open(self.files, self.paths.output.as_str())
+            .open(self.files, self.output(self.is_spare))
             .ok()?;
+        if self.places.have_ended() {
+            return None;
+        }
+        let input = File::open(self.files, self.paths.own_input.as_str()).ok()?;
         Some((input, output))
+    }
+
+    /// The desk's own path of the first or of the second pipe to read from.
+    fn output(&self, is_spare: bool) -> &str {
+        if is_spare {
+            self.paths.spare.as_str()
+        } else {
+            self.paths.own_output.as_str()
+        }
+    }
+
+    /// Puts the other pipe in the place of the output. Where that can't be done this one stays.
+    fn change_output(&mut self) {
+        if !self.has_spare {
+            return;
+        }
+        let next = self.paths.next.as_str();
+        let _ = fs::remove_file(self.files, next);
+        let other = !self.is_spare;
+        if fs::hard_link(self.files, self.output(other), next).is_err() {
+            return;
+        }
+        if fs::rename(self.files, next, self.paths.output.as_str()).is_ok() {
+            self.is_spare = other;
+        }
     }
 }
 
@@ -55,6 +90,7 @@ impl Door for PipeDoor<'_> {
     }
 
     fn close(&mut self, output: Self::Output) {
+        self.change_output();
         drop(output);
     }
 
@@ -64,6 +100,7 @@ impl Door for PipeDoor<'_> {
 
     fn leave(&mut self, _ended: Ended, output: Self::Output) {
         // the output is closed before the seat is free: a seat that is told to be free was left by the desk too
+        self.change_output();
         drop(output);
         self.seat.set_taken(false);
     }

@@ -13,16 +13,18 @@ pub(crate) struct PipeExit<'a> {
 }
 
 impl PipeExit<'_> {
-    /// Lets those go who came when no seat could be taken any more, and wait at outputs to which nobody writes.
+    /// Lets those go who came when no seat could be taken any more, and wait at pipes to which nobody writes or from which nobody reads.
     pub(crate) fn let_go(&self) {
-        self.end_outputs(self.pipes.designers.as_slice());
-        self.end_outputs(self.pipes.viewers.as_slice());
+        self.end_pipes(self.pipes.designers.as_slice());
+        self.end_pipes(self.pipes.viewers.as_slice());
     }
 
-    /// Opens the outputs for both ends and closes them again: whoever waits there to read sees the end.
-    fn end_outputs(&self, paths: &[PipePaths]) {
+    /// Opens the pipes for both ends and closes them again: whoever waits there to read sees the end.
+    fn end_pipes(&self, paths: &[PipePaths]) {
         for pair in paths {
-            drop(self.open_both(pair.output.as_str()));
+            for path in [&pair.own_output, &pair.spare, &pair.own_input] {
+                drop(self.open_both(path.as_str()));
+            }
         }
     }
 
@@ -30,8 +32,9 @@ impl PipeExit<'_> {
     fn open_free(&self, held: &mut Vec<File>, paths: &[PipePaths], seats: &[SeatPlace]) {
         for (paths, seat) in paths.iter().zip(seats) {
             if !seat.is_taken() {
-                keep(held, self.open_both(paths.input.as_str()));
-                keep(held, self.open_to_read(paths.output.as_str()));
+                keep(held, self.open_both(paths.own_input.as_str()));
+                keep(held, self.open_to_read(paths.own_output.as_str()));
+                keep(held, self.open_to_read(paths.spare.as_str()));
             }
         }
     }

@@ -12,15 +12,19 @@ use mp_streams::{Out, Sink, Source};
 use mp_text::LineReader;
 use mp_version::EditSession;
 use std::alloc::{AllocError, Global};
+use std::fs;
 use std::sync::Wait;
 use std::thread::Threads;
 
 /// The named pipes of all seats of a desk, in one folder: in `designer-1.in` is written what the first designer asks, and in `designer-1.out`
-/// what is answered; so for each designer, and for each viewer from `viewer-1.in` on.
+/// what is answered; so for each designer, and for each viewer from `viewer-1.in` on. The desk opens links of its own to them, in the folder `.desk`
+/// there. If there is a pipe `.desk/designer-1.spare` too, those who come to the first designer's seat read from the two by turns.
 #[derive(Drop)]
 pub struct Pipes<'a> {
     pub(crate) files: &'a HostRuntime,
     pub(crate) places: &'a Places,
+    /// The folder of what is the desk's own.
+    pub(crate) own: String,
     pub(crate) designers: Vec<PipePaths>,
     pub(crate) viewers: Vec<PipePaths>,
 }
@@ -32,11 +36,13 @@ impl<'a> Pipes<'a> {
         folder: &str,
         places: &'a Places,
     ) -> Result<Pipes<'a>, AllocError> {
-        let designers = paths_of(files.alloc(), folder, places.designers())?;
-        let viewers = paths_of(files.alloc(), folder, places.viewers())?;
+        let own = format!(in files.alloc(); "{folder}/.desk")?;
+        let designers = paths_of(files.alloc(), folder, own.as_str(), places.designers())?;
+        let viewers = paths_of(files.alloc(), folder, own.as_str(), places.viewers())?;
         Ok(Pipes {
             files,
             places,
+            own,
             designers,
             viewers,
         })
@@ -48,6 +54,23 @@ impl<'a> Pipes<'a> {
             Some(path) => Some(path),
             None => first_missing(self.files, self.viewers.as_slice()),
         }
+    }
+
+    /// Makes the desk's own links to the pipes, in place of those that another desk left there. The first path that can't be made is returned.
+    pub fn link(&self) -> Option<&str> {
+        // (it may be there: then its links are made)
+        let _ = fs::create_dir(self.files, self.own.as_str());
+        match first_unlinked(self.files, self.designers.as_slice()) {
+            Some(path) => Some(path),
+            None => first_unlinked(self.files, self.viewers.as_slice()),
+        }
+    }
+
+    /// Tells on standard error which pipes were removed or replaced, and removes the desk's own links.
+    pub fn unlink(&self) {
+        unlink_all(self.files, self.designers.as_slice());
+        unlink_all(self.files, self.viewers.as_slice());
+        let _ = fs::remove_dir(self.files, self.own.as_str());
     }
 
     /// Serves those who come to the pipes on a session, and answers the lines of whoever runs the desk meanwhile, as `host` does. The scribe
@@ -109,6 +132,8 @@ impl<'a> Pipes<'a> {
                 paths,
                 seat,
                 places: self.places,
+                has_spare: paths.has_spare(self.files),
+                is_spare: false,
             })?;
         }
         Ok(doors)
@@ -119,11 +144,12 @@ impl<'a> Pipes<'a> {
 fn paths_of(
     alloc: Global,
     folder: &str,
+    own: &str,
     seats: &[SeatPlace],
 ) -> Result<Vec<PipePaths>, AllocError> {
     let mut paths = Vec::with_capacity(alloc, seats.len())?;
     for seat in seats {
-        paths.push(PipePaths::new(alloc, folder, seat.name())?)?;
+        paths.push(PipePaths::new(alloc, folder, own, seat.name())?)?;
     }
     Ok(paths)
 }
@@ -136,4 +162,24 @@ fn first_missing<'a>(files: &HostRuntime, paths: &'a [PipePaths]) -> Option<&'a 
         }
     }
     None
+}
+
+/// Makes the desk's own links to some pipes. The first that can't be made is returned.
+fn first_unlinked<'a>(files: &HostRuntime, paths: &'a [PipePaths]) -> Option<&'a str> {
+    for pair in paths {
+        if let Some(path) = pair.link(files) {
+            return Some(path);
+        }
+    }
+    None
+}
+
+/// Tells which of some pipes are gone, and removes the desk's own links to them.
+fn unlink_all(files: &HostRuntime, paths: &[PipePaths]) {
+    for pair in paths {
+        if let Some(path) = pair.gone(files) {
+            let _ = eprintln!(files; "mpwb: {path} is gone");
+        }
+        pair.unlink(files);
+    }
 }

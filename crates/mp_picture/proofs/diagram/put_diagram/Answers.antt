@@ -11,15 +11,16 @@ use Rattle.mp_streams.specs.declared.write_error.WriteError.TheVariants.{WriteFa
 use Rattle.mp_picture.specs.declared.columns.Columns.{Columns}
 use Rattle.mp_picture.specs.declared.layout.DiagramLayout.{DiagramLayout}
 use Rattle.mp_picture.specs.declared.mark.Charset.{Charset}
+use Rattle.mp_picture.specs.declared.numerals.Numerals.{Numerals}
 use Rattle.mp_picture.specs.Diagrams.{diagram, margin, wire_line}
 use Rattle.mp_picture.specs.Found.{place_row, place_rows, within}
 use Rattle.mp_picture.specs.Rows.{ruler}
 use Rattle.mp_picture.proofs.PutLemmas.{puts_ok}
 use Rattle.mp_picture.proofs.diagram.put_diagram.Goals as goal
 
-module _ (n : Circuit) (columns : Columns) (charset : Charset) (wires : List WireId) (found : List Finding) (places : List Place) (m : ℕ) where
+module _ (n : Circuit) (columns : Columns) (charset : Charset) (numerals : Numerals) (wires : List WireId) (found : List Finding) (places : List Place) (m : ℕ) where
   abbrev layout : DiagramLayout
-  layout = record { columns = columns; charset = charset; margin = m }
+  layout = record { columns = columns; charset = charset; numerals = numerals; margin = m }
 
   abbrev from_places : List ℕ
   from_places = flat_map (λ (place : Place). place_row n layout place found) places ++ finding_lines n found
@@ -27,7 +28,7 @@ module _ (n : Circuit) (columns : Columns) (charset : Charset) (wires : List Wir
   abbrev from_wires : List ℕ
   from_wires = flat_map (wire_line n layout) wires ++ from_places
 
-  diagram_is : found ≡ within columns (findings n) → places ≡ place_rows found → m ≡ margin n wires places → diagram n columns charset wires ≡ ruler layout ++ from_wires
+  diagram_is : found ≡ within columns (findings n) → places ≡ place_rows found → m ≡ margin n wires places → diagram n columns charset numerals wires ≡ ruler layout ++ from_wires
   unfolding diagram
   diagram_is is_found is_places is_margin = rw (is_margin, is_places, is_found) refl
 
@@ -42,39 +43,42 @@ returns-in_err-put_ruler g c =
     let n = c.args.picture.now.netlist.now in
     let cs = c.args.picture.now.columns in
     let ch = c.args.charset in
+    let nu = c.args.picture.now.numerals in
     let ws = c.args.picture.now.wires.now in
     let fs = c.in_ok-found.found.items in
     let ps = c.in_ok-places.places.items in
     let m = c.margin_of-margin.result in
-    let is = diagram_is n cs ch ws fs ps m (c.in_ok-found.ensures.found ∙ ap (within cs) c.requires.findings) (c.in_ok-places.ensures ∙ ap place_rows c.as_slice.ensures.value)
+    let is = diagram_is n cs ch nu ws fs ps m (c.in_ok-found.ensures.found ∙ ap (within cs) c.requires.findings) (c.in_ok-places.ensures ∙ ap place_rows c.as_slice.ensures.value)
     (c.margin_of-margin.ensures ∙ ap (margin n ws) c.as_slice-2.ensures.value) in
-    rw is (puts_as _ c.in_err-put_ruler.field-0.0 c.from_residual-in_err-put_ruler.ensures.1 refl (puts_sooner (from_wires n cs ch ws fs ps m) c.in_err-put_ruler.ensures))
+    rw is (puts_as _ c.in_err-put_ruler.field-0.0 c.from_residual-in_err-put_ruler.ensures.1 refl (puts_sooner (from_wires n cs ch nu ws fs ps m) c.in_err-put_ruler.ensures))
 
 pub returns-in_err-put_wires : goal.returns-in_err-put_wires
 returns-in_err-put_wires g c =
     let n = c.args.picture.now.netlist.now in
     let cs = c.args.picture.now.columns in
     let ch = c.args.charset in
+    let nu = c.args.picture.now.numerals in
     let ws = c.args.picture.now.wires.now in
     let fs = c.in_ok-found.found.items in
     let ps = c.in_ok-places.places.items in
     let m = c.margin_of-margin.result in
-    let is = diagram_is n cs ch ws fs ps m (c.in_ok-found.ensures.found ∙ ap (within cs) c.requires.findings) (c.in_ok-places.ensures ∙ ap place_rows c.as_slice.ensures.value)
+    let is = diagram_is n cs ch nu ws fs ps m (c.in_ok-found.ensures.found ∙ ap (within cs) c.requires.findings) (c.in_ok-places.ensures ∙ ap place_rows c.as_slice.ensures.value)
     (c.margin_of-margin.ensures ∙ ap (margin n ws) c.as_slice-2.ensures.value) in
     rw is
     (puts_then c.in_ok-put_ruler.ensures
-    (puts_as _ c.in_err-put_wires.field-0.0 c.from_residual-in_err-put_wires.ensures.1 refl (puts_sooner (from_places n cs ch ws fs ps m) c.in_err-put_wires.ensures)))
+    (puts_as _ c.in_err-put_wires.field-0.0 c.from_residual-in_err-put_wires.ensures.1 refl (puts_sooner (from_places n cs ch nu ws fs ps m) c.in_err-put_wires.ensures)))
 
 pub returns-in_err-put_places : goal.returns-in_err-put_places
 returns-in_err-put_places g c =
     let n = c.args.picture.now.netlist.now in
     let cs = c.args.picture.now.columns in
     let ch = c.args.charset in
+    let nu = c.args.picture.now.numerals in
     let ws = c.args.picture.now.wires.now in
     let fs = c.in_ok-found.found.items in
     let ps = c.in_ok-places.places.items in
     let m = c.margin_of-margin.result in
-    let is = diagram_is n cs ch ws fs ps m (c.in_ok-found.ensures.found ∙ ap (within cs) c.requires.findings) (c.in_ok-places.ensures ∙ ap place_rows c.as_slice.ensures.value)
+    let is = diagram_is n cs ch nu ws fs ps m (c.in_ok-found.ensures.found ∙ ap (within cs) c.requires.findings) (c.in_ok-places.ensures ∙ ap place_rows c.as_slice.ensures.value)
     (c.margin_of-margin.ensures ∙ ap (margin n ws) c.as_slice-2.ensures.value) in
     let rows = rw (c.as_slice-3.ensures.value, c.as_slice-4.ensures.value) at c.in_err-put_places.ensures in
     rw is
@@ -86,11 +90,12 @@ returns-in_err-put_report g c =
     let n = c.args.picture.now.netlist.now in
     let cs = c.args.picture.now.columns in
     let ch = c.args.charset in
+    let nu = c.args.picture.now.numerals in
     let ws = c.args.picture.now.wires.now in
     let fs = c.in_ok-found.found.items in
     let ps = c.in_ok-places.places.items in
     let m = c.margin_of-margin.result in
-    let is = diagram_is n cs ch ws fs ps m (c.in_ok-found.ensures.found ∙ ap (within cs) c.requires.findings) (c.in_ok-places.ensures ∙ ap place_rows c.as_slice.ensures.value)
+    let is = diagram_is n cs ch nu ws fs ps m (c.in_ok-found.ensures.found ∙ ap (within cs) c.requires.findings) (c.in_ok-places.ensures ∙ ap place_rows c.as_slice.ensures.value)
     (c.margin_of-margin.ensures ∙ ap (margin n ws) c.as_slice-2.ensures.value) in
     let rows = rw (c.as_slice-3.ensures.value, c.as_slice-4.ensures.value) at c.in_ok-put_places.ensures in
     let lines = rw c.as_slice-5.ensures.value at c.in_err-put_report.ensures in
@@ -101,11 +106,12 @@ returns g c =
     let n = c.args.picture.now.netlist.now in
     let cs = c.args.picture.now.columns in
     let ch = c.args.charset in
+    let nu = c.args.picture.now.numerals in
     let ws = c.args.picture.now.wires.now in
     let fs = c.in_ok-found.found.items in
     let ps = c.in_ok-places.places.items in
     let m = c.margin_of-margin.result in
-    let is = diagram_is n cs ch ws fs ps m (c.in_ok-found.ensures.found ∙ ap (within cs) c.requires.findings) (c.in_ok-places.ensures ∙ ap place_rows c.as_slice.ensures.value)
+    let is = diagram_is n cs ch nu ws fs ps m (c.in_ok-found.ensures.found ∙ ap (within cs) c.requires.findings) (c.in_ok-places.ensures ∙ ap place_rows c.as_slice.ensures.value)
     (c.margin_of-margin.ensures ∙ ap (margin n ws) c.as_slice-2.ensures.value) in
     let rows = rw (c.as_slice-3.ensures.value, c.as_slice-4.ensures.value) at c.in_ok-put_places.ensures in
     let lines = rw c.as_slice-5.ensures.value at c.in_ok-put_report.ensures in

@@ -9,6 +9,7 @@ use Rattle.mp_picture.specs.declared.cell.Cell.{Cell}
 use Rattle.mp_picture.specs.declared.cell.Events.TheVariants.{None}
 use Rattle.mp_picture.specs.Columns.{count as columns}
 use Rattle.mp_picture.specs.Cells.{cells}
+use Rattle.mp_picture.specs.Levels.{level_text}
 use Rattle.mp_picture.specs.Rows.{is_still}
 use Rattle.mp_picture.specs.declared.svg.lane.Lane.{Lane}
 use Rattle.mp_picture.specs.svg.Lanes.{x_of, top, bottom, middle, base}
@@ -129,7 +130,7 @@ module _ (lane : Lane) where
 
   -- what stands behind that begin
   abbrev group_rest : ℕ → ℕ → ℕ → ℕ → ℕ → List ℕ
-  group_rest j x room later level = title (decimal level) ++ (rectangle (codes "<rect") (x_of lane j) (top lane) (8 * (later + 1)) ++ (fitting_text x (base lane) room level ++ codes "</g>"))
+  group_rest j x room later level = title (level_text lane.numerals level) ++ (rectangle (codes "<rect") (x_of lane j) (top lane) (8 * (later + 1)) ++ (fitting_text x (base lane) room (level_text lane.numerals level) ++ codes "</g>"))
 
   same_group : (j x room later v w : ℕ) (xs ys : List ℕ) → v < 2 ^ 64 → w < 2 ^ 64 → value_group lane j x room later v ++ xs ≡ value_group lane j x room later w ++ ys → (v ≡ w) × (xs ≡ ys)
   same_group j x room later v w xs ys low short same =

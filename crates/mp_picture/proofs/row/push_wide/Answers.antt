@@ -8,8 +8,8 @@ loop-cell-init c =
     let cells = c.args.cells.now in
     let k = c.still_count-room.result in
     record {
-      whole = joined c.args.charset c.push_run.new.row.items c.args.row.now.items _ c.split_at.result.1.now (drop k cells) _ c.in_ok-push_run.ensures c.split_at.ensures.back
-          (wide_first c.args.charset cells c.in-Some.first.now k item.3.0 item.1 c.still_count-room.ensures.value);
+      whole = joined c.args.layout c.push_run.new.row.items c.args.row.now.items _ c.split_at.result.1.now (drop k cells) _ c.in_ok-push_run.ensures c.split_at.ensures.back
+          (wide_first c.args.layout cells c.in-Some.first.now k item.3.0 item.1 c.still_count-room.ensures.value);
       stopped = stops_at cells c.split_at.result.1.now k c.split_at.ensures.back c.still_count-room.ensures.value;
     }
 
@@ -20,11 +20,11 @@ loop-cell-preserved c =
     let k = c.still_count-room-in-Some-split_first.result in
     let rest = c.split_at-in-Some-split_first.result.1.now in
     record {
-      whole = wide_step c.args.charset c.loop-cell.row.items c.extend_from_slice.new.self.items c.push_run-in-Some-split_first.new.row.items c.text.result.now _ c.loop-cell.rest.now cell later rest k
+      whole = wide_step c.args.layout c.loop-cell.row.items c.extend_from_slice.new.self.items c.push_run-in-Some-split_first.new.row.items c.text.result.now _ c.loop-cell.rest.now cell later rest k
           c.in_ok-extend_from_slice.ensures.items c.text.ensures c.in_ok-push_run-2.ensures c.in-Some-split_first.ensures.cases.0 c.split_at-in-Some-split_first.ensures.back
           c.still_count-room-in-Some-split_first.ensures.value c.loop-cell.invariant.stopped c.loop-cell.invariant.whole;
       stopped = stops_at later rest k c.split_at-in-Some-split_first.ensures.back c.still_count-room-in-Some-split_first.ensures.value;
     }
 
 pub returns : goal.returns
-returns c = wide_over c.args.charset c.loop-cell.row.items _ c.loop-cell.rest.now c.in_default-split_first.ensures.cases c.loop-cell.invariant.whole
+returns c = wide_over c.args.layout c.loop-cell.row.items _ c.loop-cell.rest.now c.in_default-split_first.ensures.cases c.loop-cell.invariant.whole

@@ -34,3 +34,12 @@ hears_wire n w h is prompt = record {
       let same : t - h.delay ≡ t = omega (arith, prompt) in
       ap (λ (v : Waveform). level_of v (t - h.delay)) is ∙ levels_of_wave (level n w) (n.horizon - 1) (t - h.delay) (omega (arith, below)) ∙ ap (level n w) same;
 }
+
+-- an input hears its wire
+pub hears_at : (n : Circuit) → IsCircuit n → (i : Input) (h : DelayedInput) → h.wave.now ≡ wave n i.wire.0 → h.delay ≡ i.delay → Hears (input_by n (level n) i) n.horizon h
+hears_at n ok i h is late = record {
+  form = subst IsWaveform (sym is) (form_of_wave (level n i.wire.0) (n.horizon - 1));
+  levels = λ t below.
+      ap (λ (w : Waveform). level_of w (t - h.delay)) is ∙ levels_of_wave (level n i.wire.0) (n.horizon - 1) (t - h.delay) (omega (arith, below)) ∙ ap (λ d. level n i.wire.0 (t - d)) late
+      ∙ sym (input_is n ok i t);
+}

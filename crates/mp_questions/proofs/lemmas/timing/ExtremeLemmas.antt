@@ -4,6 +4,9 @@ use Rattle.std.specs.List.{filter_map, cons_option}
 use Rattle.mp_questions.specs.declared.timing.extremes.Extremes.{Extremes}
 use Rattle.mp_questions.specs.timing.Extremes.{extremes, widened, widened_by}
 use Rattle.mp_questions.specs.timing.Events.{times_of}
+use Rattle.mp_questions.specs.timing.Measures.{lateness}
+use Rattle.mp_questions.specs.late.Lists.{units_within}
+use Rattle.mp_questions.specs.declared.late.late.Late.{Late}
 
 -- further numbers
 abbrev pub widened_all : Option Extremes → List ℕ → Option Extremes
@@ -32,3 +35,15 @@ each_widened g found (c ∷ changes) = each_widened g (widened_by found (g c.0))
 
 pub each_extreme : (g : ℕ → Option ℕ) (changes : List (ℕ × ℕ)) → widened_by_each g None changes ≡ extremes (filter_map g (times_of changes))
 each_extreme g changes = each_widened g None changes ∙ extremes_are (filter_map g (times_of changes))
+
+-- numbers of what is late at the times of a range
+module _ (from to : ℕ) where
+  abbrev pub widened_late : Option Extremes → List Late → Option Extremes
+  widened_late found late = fold (λ (e : Option Extremes) (l : Late). widened_by e (units_within from to l)) found late
+
+  late_widened : (found : Option Extremes) (late : List Late) → widened_late found late ≡ widened_all found (filter_map (units_within from to) late)
+  late_widened found [] = refl
+  late_widened found (l ∷ late) = late_widened (widened_by found (units_within from to l)) late ∙ one_more found (units_within from to l) (filter_map (units_within from to) late)
+
+  pub late_extreme : (late : List Late) → widened_late None late ≡ lateness from to late
+  late_extreme late = late_widened None late ∙ extremes_are (filter_map (units_within from to) late)

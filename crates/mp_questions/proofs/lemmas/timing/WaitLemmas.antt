@@ -1,5 +1,5 @@
 -- The lines of modules and bundles that wait, by what becomes of them.
-use Rattle.std.proofs.Common.{◌≡◌, ◌≢◌, ℕ, false, cond, ◌==◌, List, [], ◌++◌, codes, decimal, refl, sym, ap, ◌∙◌}
+use Rattle.std.proofs.Common.{◌≡◌, ◌≢◌, ℕ, ◌<◌, false, cond, ◌==◌, List, [], ◌++◌, codes, decimal, Some, None, refl, sym, ap, ◌∙◌, arith}
 use Rattle.mp_modules.specs.CElement.{bubbled}
 use Rattle.mp_modules.specs.declared.memory.Client.{Client}
 use Rattle.mp_modules.specs.declared.memory.Client.TheVariants.{Nobody, First, Second}
@@ -11,7 +11,7 @@ use Rattle.mp_netlist.specs.Circuit.{Circuit}
 use Rattle.mp_model.specs.Waves.{level, state}
 use Rattle.mp_text.specs.Written.{wire_name}
 use Rattle.mp_questions.specs.timing.Events.{since}
-use Rattle.mp_questions.specs.timing.Waits.{heard, given, since_line, input_line, rendezvous_wait, call_wait, owner_wait, kept_request, register_wait, busy_wait, held}
+use Rattle.mp_questions.specs.timing.Waits.{heard, given, since_line, input_line, missing_input, missing_line, rendezvous_wait, call_wait, owner_wait, kept_request, register_wait, busy_wait, held}
 use Rattle.mp_questions.specs.timing.Hearing.{IsWatch}
 use Rattle.mp_questions.specs.declared.timing.client_watch.ClientWatch.{ClientWatch}
 use Rattle.mp_questions.proofs.lemmas.timing.EventLemmas.{same_true, same_false}
@@ -26,19 +26,28 @@ module _ (n : Circuit) (m : ℕ) (r : ModuleRecord) (t : ℕ) where
   second = bubbled (rendezvous r.params).bubble_b (heard n r 1 t)
 
   module _ (a b : ℕ) (is_a : a ≡ first) (is_b : b ≡ second) where
-    pub agreed : a ≡ b → [] ≡ rendezvous_wait n m r t
+    pub agreed : a ≡ b → None ≡ missing_input n m r t
     agreed same = rw (same_true first second (sym is_a ∙ same ∙ is_b)) refl
 
-    module _ (differ : a ≢ b) (q : ℕ) (is_q : q ≡ given n m 0 t) (since_other : ℕ) where
+    module _ (differ : a ≢ b) (q : ℕ) (is_q : q ≡ given n m 0 t) where
       apart : (first == second) ≡ false
       apart = same_false first second (λ same. differ (is_a ∙ same ∙ sym is_b))
 
-      pub first_missing : a ≡ q → since_other ≡ since (heard n r 1) t → input_line n r (codes " C waits for ") 0 since_other ≡ rendezvous_wait n m r t
-      first_missing same is = rw (apart, same_true first (given n m 0 t) (sym is_a ∙ same ∙ is_q)) (ap (input_line n r (codes " C waits for ") 0) is)
+      pub first_missing : a ≡ q → Some 0 ≡ missing_input n m r t
+      first_missing same = rw (apart, same_true first (given n m 0 t) (sym is_a ∙ same ∙ is_q)) refl
 
-      pub second_missing : a ≢ q → since_other ≡ since (heard n r 0) t → input_line n r (codes " C waits for ") 1 since_other ≡ rendezvous_wait n m r t
-      second_missing other is =
-          rw (apart, same_false first (given n m 0 t) (λ same. other (is_a ∙ same ∙ sym is_q))) (ap (input_line n r (codes " C waits for ") 1) is)
+      pub second_missing : a ≢ q → Some 1 ≡ missing_input n m r t
+      second_missing other = rw (apart, same_false first (given n m 0 t) (λ same. other (is_a ∙ same ∙ sym is_q))) refl
+
+  -- a C waits for the input that hasn't come
+  pub first_line : (port since_other : ℕ) → Some port ≡ missing_input n m r t → port ≡ 0 → since_other ≡ since (heard n r 1) t → input_line n r (codes " C waits for ") 0 since_other ≡ rendezvous_wait n m r t
+  first_line port since_other missing same is =
+      ap (input_line n r (codes " C waits for ") 0) is ∙ ap (λ (p : ℕ). missing_line n r t (Some p)) (sym same) ∙ ap (missing_line n r t) missing
+
+  pub second_line : (port since_other : ℕ) → Some port ≡ missing_input n m r t → port ≢ 0 → port < 2 → since_other ≡ since (heard n r 0) t → input_line n r (codes " C waits for ") 1 since_other ≡ rendezvous_wait n m r t
+  second_line port since_other missing other low is =
+      let same : port ≡ 1 = omega (arith, low, other) in
+      ap (input_line n r (codes " C waits for ") 1) is ∙ ap (λ (p : ℕ). missing_line n r t (Some p)) (sym same) ∙ ap (missing_line n r t) missing
 
   -- ---- CALL and ARBITER
 

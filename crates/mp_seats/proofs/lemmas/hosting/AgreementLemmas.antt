@@ -1,5 +1,5 @@
 -- Blocks of a meeting as lines of a seat.
-use Rattle.std.proofs.Common.{◌≡◌, ℕ, ◌+◌, ◌≤◌, zero, suc, true, false, List, [], ◌∷◌, ◌++◌, length, map, take, Option, Some, Result, Ok, Err, slice_get, refl, sym, ap, subst, ◌∙◌, inl, arith}
+use Rattle.std.proofs.Common.{◌≡◌, ℕ, ◌+◌, ◌≤◌, zero, suc, true, false, List, [], ◌∷◌, ◌++◌, length, map, take, Option, Some, Result, Ok, Err, slice_get, slice_index_or, refl, sym, ap, subst, ◌∙◌, inl, arith}
 use Rattle.std.proofs.lemmas.List.{append-nil}
 use mathlib.Core.List.{IsPrefix}
 use Rattle.mp_text.specs.declared.lexing.line_error.LineError.{LineError}
@@ -14,7 +14,7 @@ use Rattle.mp_seats.specs.declared.reply.Reply.TheVariants as replies
 use Rattle.mp_seats.specs.Marks.{Mark, AnsweredAt, up_to, Rise, accepted_of, places_of, AreSigned}
 use Rattle.mp_seats.specs.Replies.{Writing, IsReadReply}
 use Rattle.mp_seats.specs.Seats.{AreReplies}
-use Rattle.mp_seats.specs.hosting.Agreement.{with_mark, marks_of, BlocksAreSeats, NumbersAreSeats}
+use Rattle.mp_seats.specs.hosting.Agreement.{with_mark, marks_of, BlocksAreSeats, IsSeenAtSeat, NumbersAreSeats}
 
 -- ---- stories that go on
 
@@ -158,15 +158,17 @@ blocks_are_seats w number now numbers lines tally worked =
       refl,
     )
 
-pub numbers_are_seats : NumbersAreSeats
-numbers_are_seats w now number line question within asks = (
+seen_at_seat : (w : Writing) (now : Story) (number : ℕ) → number ≤ length now.edits → IsSeenAtSeat w now number
+seen_at_seat w now number within line question asks = (
   record {
     marks = AnsweredAt number ∷ [];
     extends = record { same_base = refl; begins = (now.edits, refl) };
     replies = λ later more. (
       w.answer (up_to now number) question,
       [],
-      inl (subst (λ read. IsReadReply w false (up_to later number) read (w.answer (up_to now number) question)) (sym asks) (ap (λ (s : Story). w.answer s question) (sym (same_up_to now later number more within)))),
+      inl
+          (subst (λ read. IsReadReply w false (up_to later number) read (w.answer (up_to now number) question)) (sym asks)
+          (ap (λ (s : Story). w.answer s question) (sym (same_up_to now later number more within)))),
       refl,
       sym (append-nil (w.answer (up_to now number) question)),
     );
@@ -178,3 +180,6 @@ numbers_are_seats w now number line question within asks = (
   },
   refl,
 )
+
+pub numbers_are_seats : NumbersAreSeats
+numbers_are_seats w base blocks now tallies numbers met k d low = seen_at_seat w now (slice_index_or numbers k d) (met.within k d low)

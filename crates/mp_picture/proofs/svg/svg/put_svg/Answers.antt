@@ -7,32 +7,34 @@ use Rattle.mp_model.specs.Findings.{findings}
 use Rattle.mp_streams.proofs.OutLemmas.{puts_unmade}
 use Rattle.mp_streams.specs.declared.write_error.WriteError.TheVariants.{OutOfMemory}
 use Rattle.mp_picture.specs.declared.columns.Columns.{Columns}
+use Rattle.mp_picture.specs.declared.numerals.Numerals.{Numerals}
 use Rattle.mp_picture.specs.Diagrams.{margin}
 use Rattle.mp_picture.specs.Found.{place_rows, within}
+use Rattle.mp_picture.specs.declared.svg.arrow.Arrow.{Arrow}
 use Rattle.mp_picture.specs.declared.svg.mark_rows.MarkRow.{MarkRow}
 use Rattle.mp_picture.specs.svg.MarkRows.{mark_rows}
 use Rattle.mp_picture.specs.svg.Svg.{left, sheet, svg}
 use Rattle.mp_picture.proofs.svg.svg.put_svg.Goals as goal
 
-module _ (n : Circuit) (columns : Columns) (wires : List WireId) (title : List ℕ) where
+module _ (n : Circuit) (columns : Columns) (numerals : Numerals) (wires : List WireId) (title : List ℕ) (arrows : List Arrow) where
   -- the SVG by what was found, and where
   made : List Finding → List Place → List MarkRow → ℕ → List ℕ
-  made found places rows m = sheet n (record { left = left m; columns = columns }) title wires rows found
+  made found places rows m = sheet n (record { left = left m; columns = columns; numerals = numerals }) title wires rows found arrows
 
-  whole : svg n columns wires title
+  whole : svg n columns numerals wires title arrows
       ≡ made (within columns (findings n)) (place_rows (within columns (findings n))) (mark_rows columns (place_rows (within columns (findings n))) (within columns (findings n)))
       (margin n wires (place_rows (within columns (findings n))))
   unfolding svg made
   whole = refl
 
   parts : (found : List Finding) (places : List Place) (rows : List MarkRow) (m : ℕ)
-      → made found places rows m ≡ sheet n (record { left = left m; columns = columns }) title wires rows found
+      → made found places rows m ≡ sheet n (record { left = left m; columns = columns; numerals = numerals }) title wires rows found arrows
   unfolding made
   parts found places rows m = refl
 
   svg_is : (found : List Finding) (places : List Place) (rows : List MarkRow) (m : ℕ)
       → found ≡ within columns (findings n) → places ≡ place_rows found → rows ≡ mark_rows columns places found → m ≡ margin n wires places
-      → svg n columns wires title ≡ sheet n (record { left = left m; columns = columns }) title wires rows found
+      → svg n columns numerals wires title arrows ≡ sheet n (record { left = left m; columns = columns; numerals = numerals }) title wires rows found arrows
   svg_is found places rows m is_found is_places is_rows is_margin =
       whole
       ∙ sym
@@ -58,12 +60,13 @@ pub returns : goal.returns
 returns g c =
     let n = c.args.picture.now.netlist.now in
     let cs = c.args.picture.now.columns in
+    let nu = c.args.picture.now.numerals in
     let ws = c.args.picture.now.wires.now in
     let fs = c.as_slice-found.result.now in
     let ps = c.as_slice-places.result.now in
     let rs = c.as_slice-rows.result.now in
     let m = c.margin_of-margin.result in
-    let is = svg_is n cs ws c.args.title.now fs ps rs m
+    let is = svg_is n cs nu ws c.args.title.now c.args.arrows.now fs ps rs m
     (c.as_slice-found.ensures.value ∙ c.in_ok-found_list.ensures.found ∙ ap (within cs) c.requires.findings)
     (c.as_slice-places.ensures.value ∙ c.in_ok-place_list.ensures)
     (c.as_slice-rows.ensures.value ∙ c.in_ok-row_list.ensures)

@@ -1,6 +1,8 @@
-use Rattle.std.proofs.Common.{◌≡◌, ◌<◌, length, arith}
+use Rattle.std.proofs.Common.{◌≡◌, ◌<◌, length, Vec, Global, ap, ◌∙◌, arith}
 use Rattle.mp_streams.proofs.OutLemmas.{puts_none, writes_failed}
 use Rattle.mp_questions.specs.timing.Measures.{bundle_measure}
+use Rattle.mp_questions.specs.declared.late.late.Late.{Late}
+use Rattle.mp_questions.proofs.lemmas.late.ListLemmas.{list_at, list_count}
 use Rattle.mp_questions.proofs.lemmas.timing.PutLemmas.{numbers_next, numbers_stopped, numbers_over}
 use Rattle.mp_questions.proofs.timing.measure.put_bundles.Goals as goal
 
@@ -27,3 +29,18 @@ returns g c =
     let k = c.loop-number.number in
     let over : k ≡ length n.bundles = omega (arith, c.bundle_slots-number-end.ensures.value) in
     numbers_over (bundle_measure n c.args.units.from c.args.units.to) (length n.bundles) k over c.loop-number.invariant
+
+pub bounds-late-number : goal.bounds-late-number
+bounds-late-number g c =
+    let n = c.args.netlist.now in
+    let within : c.loop-number.number < length n.bundles = omega (arith, c.loop-number-test.true, c.bundle_slots-number-end.ensures.value) in
+    omega (arith, within, list_count n c.args.late.now c.requires.late)
+
+pub put_slot-requires-clause-late : goal.put_slot-requires-clause-late
+put_slot-requires-clause-late g c =
+    let n = c.args.netlist.now in
+    let k = c.loop-number.number in
+    let within : k < length n.bundles = omega (arith, c.loop-number-test.true, c.bundle_slots-number-end.ensures.value) in
+    c.as_slice-late.ensures.value
+    ∙ ap (λ (list : Vec Late Global). list.items) c.index-late-number.is
+    ∙ list_at n c.args.late.now c.requires.late k c.index-late-number.result within

@@ -1,0 +1,73 @@
+//! What is found where a netlist is checked.
+ghost use Rattle.std.specs.Prelude.{IfOk};
+ghost use Rattle.mp_model.specs.Waves.{AreWavesOf};
+ghost use Rattle.mp_check.specs.Checks.{IsCheckOf};
+
+use crate::deadlocks::{Deadlock, deadlocks};
+use crate::read_wires::read_wires;
+use crate::run_end::RunEnd;
+use mp_depend::drivers_of;
+use mp_model::{Finding, Waves};
+use mp_netlist::{Driver, Netlist};
+use mp_questions::{Driven, Late, all_late};
+use mp_report::report;
+use std::alloc::{AllocError, Global};
+use std::thread::Threads;
+
+/// What is found where a netlist is checked, and what its notes are written by.
+#[derive(Drop)]
+pub struct Checked {
+    pub(crate) findings: Vec<Finding>,
+    pub(crate) late: Vec<Late>,
+    pub(crate) deadlocks: Vec<Deadlock>,
+    /// What drives each wire, by number.
+    pub(crate) drivers: Vec<Driver>,
+    /// Whether an input or a bundle names each wire, by number.
+    pub(crate) read: Vec<bool>,
+}
+
+impl Checked {
+    ghost use Rattle.std.specs.Prelude.{◌≡◌};
+    ghost use Rattle.mp_netlist.specs.Circuit.{Circuit};
+    ghost use Rattle.mp_check.specs.CheckLines.{is_wrong};
+    ghost use Rattle.mp_check.specs.Checks.{IsCheckOf};
+
+    /// Whether anything is wrong: something is found, data are late, or there is a deadlock.
+    pub fn is_wrong(&self) -> bool
+        ensures { (n : Circuit) → IsCheckOf n self.now → result ≡ is_wrong n }
+    {
+        !(self.findings.is_empty() && self.late.is_empty() && self.deadlocks.is_empty())
+    }
+}
+
+/// Checks a netlist, given its waves. At most so many threads do it, the calling one included; one alone starts none. The error comes where
+/// memory is wanting.
+pub fn check<R: Threads + Sync>(
+    rt: &R,
+    alloc: Global,
+    netlist: &Netlist,
+    waves: &Waves,
+    workers: usize,
+) -> Result<Checked, AllocError>
+    requires { AreWavesOf netlist.now waves.now }
+    ensures { IfOk result (IsCheckOf netlist.now) }
+{
+    let findings = report(rt, alloc, netlist, waves, workers)?;
+    let drivers = drivers_of(alloc, netlist)?;
+    let driven = Driven {
+        netlist,
+        waves,
+        drivers: drivers.as_slice(),
+    };
+    let late = all_late(rt, alloc, driven, workers)?;
+    let end = RunEnd::new(netlist, waves, drivers.as_slice());
+    let deadlocks = deadlocks(alloc, &end)?;
+    let read = read_wires(alloc, netlist)?;
+    Ok(Checked {
+        findings,
+        late,
+        deadlocks,
+        drivers,
+        read,
+    })
+}

@@ -1,0 +1,97 @@
+//! Ports that wait for each other for ever.
+ghost use Rattle.std.specs.Prelude.{◌≡◌, ◌≤◌, IfOk, All, map};
+ghost use Rattle.std.specs.List.{range_with_len};
+ghost use Rattle.mp_check.specs.Waiting.{port_slots};
+ghost use Rattle.mp_check.specs.Deadlocks.{deadlock_from, deadlocks, next_port};
+
+use crate::rounds::round_beginnings;
+use crate::run_end::RunEnd;
+use crate::wait::Wait;
+use crate::waiting::{port_slots, wait_of};
+use std::alloc::{AllocError, Global};
+use std::marker::Model;
+
+/// A cycle of ports each of which waits for the wire of the next, the last one for that of the first, which is the least port of them.
+#[derive(Drop)]
+pub struct Deadlock {
+    waits: Vec<Wait>,
+}
+
+impl Model for Deadlock {
+    ghost use Rattle.std.specs.Prelude.{List};
+    ghost use Rattle.mp_check.specs.declared.wait.Wait.{Wait};
+
+    ghost Value = { List Wait };
+
+    ghost view = { λ deadlock. deadlock.waits.items };
+}
+
+impl Deadlock {
+    ghost use Rattle.std.specs.Prelude.{◌≡◌};
+
+    /// What its ports wait for, from the least one on.
+    pub fn waits(&self) -> &[Wait]
+        ensures { result.now ≡ self.now }
+    {
+        self.waits.as_slice()
+    }
+}
+
+/// All deadlocks, by their first ports.
+pub(crate) fn deadlocks(alloc: Global, end: &RunEnd<'_>) -> Result<Vec<Deadlock>, AllocError>
+    ensures { IfOk result (λ found. found.items ≡ deadlocks end.now.at.netlist.now) }
+{
+    // Its contract tells that the netlist is well formed.
+    let _horizon = end.at.netlist.horizon();
+    let next = next_ports(alloc, end)?;
+    let firsts = round_beginnings(alloc, next.as_slice())?;
+    let mut found = Vec::new(alloc);
+    for &first in &firsts {
+        found.push(deadlock_from(alloc, end, first)?)?;
+    }
+    Ok(found)
+}
+
+/// For each port by number the next one, whose wire it waits for; how many numbers there are where it waits for none.
+#[tactic(auto, using(crate::proofs::WayLemmas::number_steps))]
+fn next_ports(alloc: Global, end: &RunEnd<'_>) -> Result<Vec<u32>, AllocError>
+    ensures each { IfOk result (λ next. next.items ≡ map (next_port end.now.at.netlist.now) (range_with_len 0 (port_slots end.now.at.netlist.now))) }
+    ensures within { IfOk result (λ next. All (λ k. k ≤ port_slots end.now.at.netlist.now) next.items) }
+{
+    let count = port_slots(end);
+    let mut next = Vec::with_capacity(alloc, count as usize)?;
+    for number in 0..count {
+        next.push(next_port(end, number))?;
+    }
+    Ok(next)
+}
+
+/// The port whose wire a port waits for; how many numbers there are where it waits for none.
+fn next_port(end: &RunEnd<'_>, number: u32) -> u32
+    ensures value { result ≡ next_port end.now.at.netlist.now number }
+    ensures within { result ≤ port_slots end.now.at.netlist.now }
+{
+    match wait_of(end, number) {
+        Some(wait) => wait.next,
+        None => port_slots(end),
+    }
+}
+
+/// What the ports wait for that come round to a first one.
+fn deadlock_from(alloc: Global, end: &RunEnd<'_>, first: u32) -> Result<Deadlock, AllocError>
+    ensures { IfOk result (λ deadlock. deadlock ≡ deadlock_from end.now.at.netlist.now first) }
+{
+    let mut waits = Vec::new(alloc);
+    let mut next = wait_of(end, first);
+    for _ in 0..port_slots(end) {
+        let Some(wait) = next else {
+            return Ok(Deadlock { waits });
+        };
+        waits.push(wait)?;
+        if wait.next == first {
+            return Ok(Deadlock { waits });
+        }
+        next = wait_of(end, wait.next);
+    }
+    Ok(Deadlock { waits })
+}

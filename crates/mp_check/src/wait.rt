@@ -1,0 +1,12 @@
+//! What a port waits for.
+use mp_netlist::{ModuleId, WireId};
+
+/// A module a port of which can't change its wire before another port changes the wire that it waits for.
+#[derive(Clone, Copy, Debug, PartialEq, Eq)]
+pub struct Wait {
+    pub waiter: ModuleId,
+    /// The wire that it waits for.
+    pub wire: WireId,
+    /// The number of the port that drives that wire: three for each module before, and the port's own.
+    pub next: u32,
+}

@@ -1,0 +1,68 @@
+//! The command that tells whether a netlist works.
+ghost use Rattle.std.specs.Prelude.{◌≡◌};
+ghost use Rattle.mp_commands.specs.command_runs.Clauses.{[], IfErr, IfOk, IsSync, TakesInput, counted_reads, has_valid_crew};
+ghost use Rattle.mp_commands.specs.command_runs.CheckRuns.{ChecksInput, ChecksNetlist, StopsInput, StopsNetlist};
+
+use crate::command_runs::opening::read_opening;
+use crate::command_runs::options::Options;
+use crate::command_runs::run_fault::RunFault;
+use crate::views::Evaluated;
+use mp_check::{check, put_check};
+use mp_engine::find_waves;
+use mp_netlist::Netlist;
+use mp_phase::Crew;
+use mp_streams::{Out, Sink, Source};
+use std::alloc::Global;
+use std::mem::forget;
+use std::sync::Wait;
+use std::thread::Threads;
+
+/// Reads the text of a netlist, all of it first, and writes its check. Returns whether anything is wrong: whether a line is written that is no note.
+///
+/// `ReadFailed` comes with a fault of the source; then `Text` where the input is too long or the text is not read, `BadCount` where the options have
+/// no valid crew, and `OutOfMemory` where memory is wanting: then nothing is written. `WriteFailed` comes with a fault of the sink: then a part of
+/// the text, from its front, is written.
+pub fn run_check<R: Threads + Wait + Sync, S: Source, T: Sink>(
+    rt: &R,
+    alloc: Global,
+    source: &mut S,
+    out: &mut Out<T>,
+    options: &Options,
+) -> Result<bool, RunFault>
+    requires { out.old.held ≡ [] }
+    ensures checked { IfOk result (ChecksInput (S.left source.old) (has_valid_crew options.now) out.old out.new) }
+    ensures stopped { IfErr result (StopsInput (S.left source.old) (has_valid_crew options.now) out.old out.new) }
+    ensures taken { TakesInput (S.left source.old) (S.left source.new) }
+    ensures read_faults { S.fault_count source.new ≡ counted_reads result (S.fault_count source.old) }
+{
+    let (netlist, crew) = read_opening(alloc, source, options.crew())?;
+    let is_wrong = check_netlist(rt, alloc, out, &netlist, crew)?;
+    // the run is over: all memory goes back to the system at once
+    forget(netlist);
+    out.flush()?;
+    Ok(is_wrong)
+}
+
+/// Writes the check of a netlist, and returns whether anything is wrong.
+fn check_netlist<R: Threads + Wait + Sync, T: Sink>(
+    rt: &R,
+    alloc: Global,
+    out: &mut Out<T>,
+    netlist: &Netlist,
+    crew: Crew,
+) -> Result<bool, RunFault>
+    ensures checked { IfOk result (ChecksNetlist out.old out.new netlist.now) }
+    ensures stopped { IfErr result (StopsNetlist out.old out.new netlist.now) }
+{
+    let waves = find_waves(rt, alloc, netlist, &crew)?;
+    let of = Evaluated {
+        netlist,
+        waves: &waves,
+        crew,
+    };
+    let found = check(rt, alloc, netlist, &waves, of.threads())?;
+    let is_wrong = found.is_wrong();
+    put_check(out, netlist, &waves, &found)?;
+    forget(waves);
+    Ok(is_wrong)
+}

@@ -1,2 +1,0 @@
-mod ExplanationLemmas
-mod TitleLemmas

@@ -1,4 +1,0 @@
-pub mod Explanations
-pub mod Laws
-pub mod SeatCodes
-pub mod Subjects

@@ -1,0 +1,11 @@
+//! What a journal says.
+ghost use Rattle.mp_journal.specs.Scripts.{JournalsAreScripts};
+
+use mp_text::edit_lines::laws::lines_say_accepted_edits;
+
+/// The lines of edits that are accepted one after the other are a script of just these edits, in their order. So a journal makes its session again.
+pub fn journals_are_scripts()
+    ensures { JournalsAreScripts }
+{
+    lines_say_accepted_edits();
+}

@@ -1,5 +1,0 @@
-pub mod SourceLemmas
-pub mod LastLemmas
-pub mod SearchLemmas
-pub mod BundleLemmas
-pub mod MergeLemmas

@@ -1,3 +1,0 @@
-pub mod Sources
-pub mod Lateness
-pub mod Searching

@@ -1,0 +1,126 @@
+//! The arrows of an SVG.
+ghost use Rattle.std.specs.Prelude.{◌≡◌, ◌<◌, ◌^◌, length};
+ghost use Rattle.std.specs.List.{flat_map};
+ghost use Rattle.mp_streams.specs.Outgoing.{Writes};
+ghost use Rattle.mp_picture.specs.svg.Arrows.{spot_of, arrow_text, arrows_start, arrow_list, arrow_group};
+
+use crate::svg::arrow::{Arrow, WirePoint};
+use crate::svg::frame::Frame;
+use crate::svg::leads::{lead_x, wire_among};
+use mp_netlist::WireId;
+use mp_streams::{Failed, Out, Sink, Text};
+
+/// The style and the head of arrows, and what their group begins with.
+const START: &str = "<style>\
+.causes path{fill:none;stroke:#8250df;stroke-width:1.5;marker-end:url(#head)}\
+#head path{fill:#8250df}\
+@media (prefers-color-scheme:dark){\
+.causes path{stroke:#a371f7}\
+#head path{fill:#a371f7}\
+}</style>\
+<defs><marker id=\"head\" viewBox=\"0 0 8 8\" refX=\"7\" refY=\"4\" markerWidth=\"7\" markerHeight=\"7\" orient=\"auto\">\
+<path d=\"M0 1L8 4L0 7Z\"/></marker></defs>\
+<g class=\"causes\">";
+
+/// A point of an SVG.
+#[derive(Clone, Copy, Debug)]
+pub(crate) struct Spot {
+    x: u64,
+    y: u64,
+}
+
+/// Writes the arrows of which both ends are in the picture; where there are no arrows at all, nothing is written.
+pub(crate) fn put_arrow_group<S: Sink>(
+    out: &mut Out<S>,
+    frame: Frame,
+    wires: &[WireId],
+    arrows: &[Arrow],
+) -> Result<(), Failed>
+    requires { length wires.now < 2 ^ 32 }
+    ensures { Writes result out.old out.new (arrow_group frame wires.now arrows.now) }
+{
+    if arrows.is_empty() {
+        Ok(())
+    } else {
+        put_arrow_list(out, frame, wires, arrows)
+    }
+}
+
+/// Writes the arrows of which both ends are in the picture, and what stands before and behind them.
+fn put_arrow_list<S: Sink>(
+    out: &mut Out<S>,
+    frame: Frame,
+    wires: &[WireId],
+    arrows: &[Arrow],
+) -> Result<(), Failed>
+    requires { length wires.now < 2 ^ 32 }
+    ensures { Writes result out.old out.new (arrow_list frame wires.now arrows.now) }
+{
+    put_start(out)?;
+    put_arrows(out, frame, wires, arrows)?;
+    out.put_text("</g>\n")
+}
+
+#[tactic(auto, unfolding(crate::specs::svg::Arrows::arrows_start))]
+fn put_start<S: Sink>(out: &mut Out<S>) -> Result<(), Failed>
+    ensures { Writes result out.old out.new arrows_start }
+{
+    out.put_text(START)
+}
+
+fn put_arrows<S: Sink>(
+    out: &mut Out<S>,
+    frame: Frame,
+    wires: &[WireId],
+    arrows: &[Arrow],
+) -> Result<(), Failed>
+    requires { length wires.now < 2 ^ 32 }
+    ensures { Writes result out.old out.new (flat_map (arrow_text frame wires.now) arrows.now) }
+{
+    for &arrow in arrows {
+        put_arrow(out, frame, wires, arrow)?;
+    }
+    Ok(())
+}
+
+/// Writes an arrow, where both its ends are in the picture.
+fn put_arrow<S: Sink>(
+    out: &mut Out<S>,
+    frame: Frame,
+    wires: &[WireId],
+    arrow: Arrow,
+) -> Result<(), Failed>
+    requires { length wires.now < 2 ^ 32 }
+    ensures { Writes result out.old out.new (arrow_text frame wires.now arrow) }
+{
+    let from = spot_of(frame, wires, arrow.from);
+    let to = spot_of(frame, wires, arrow.to);
+    match (from, to) {
+        (Some(from), Some(to)) => {
+            let begin = ("M", from.x, " ", from.y);
+            let end = ("L", to.x, " ", to.y);
+            ("<path d=\"", begin, end, "\"/>").put_to(out)
+        }
+        _ => Ok(()),
+    }
+}
+
+/// Where a wire is at a time: at the time's edge, or in the middle of its column, and in the middle of the wire's row. It is nowhere where the
+/// wire has no row, or the time isn't in the range.
+fn spot_of(frame: Frame, wires: &[WireId], point: WirePoint) -> Option<Spot>
+    requires { length wires.now < 2 ^ 32 }
+    ensures { result ≡ spot_of frame wires.now point }
+{
+    let (row, columns) = (wire_among(wires, point.wire), frame.columns);
+    if row as usize >= wires.len() {
+        return None;
+    }
+    if point.time < columns.from || point.time >= columns.to {
+        return None;
+    }
+    let column = columns.column_of(point.time);
+    Some(Spot {
+        x: lead_x(frame, column),
+        y: frame.lane(row).middle(),
+    })
+}

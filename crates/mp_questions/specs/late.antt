@@ -1,0 +1,4 @@
+pub mod Sources
+pub mod Lateness
+pub mod Searching
+pub mod Lists

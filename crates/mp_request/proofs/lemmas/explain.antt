@@ -1,0 +1,2 @@
+pub mod ExplanationLemmas
+pub mod TitleLemmas

@@ -1,0 +1,107 @@
+-- Where each title stands in the guide.
+use Rattle.std.proofs.Common.{◌≡◌, length, refl, arith}
+use Rattle.std.specs.List.{Contains}
+use Rattle.mp_modules.specs.declared.kind.Kind.{Kind}
+use Rattle.mp_modules.specs.declared.kind.Kind.TheVariants as kinds
+use Rattle.mp_modules.specs.declared.finding_code.FindingCode.{FindingCode}
+use Rattle.mp_modules.specs.declared.finding_code.FindingCode.TheVariants as found
+use Rattle.mp_records.specs.declared.edit_error.EditError.{EditError}
+use Rattle.mp_records.specs.declared.edit_error.EditError.TheVariants as edits
+use Rattle.mp_text.specs.declared.lexing.line_error.LineError.TheVariants as lines
+use Rattle.mp_text.specs.declared.text_code.TextCode.{TextCode}
+use Rattle.mp_text.specs.declared.text_code.TextCode.TheVariants as texts
+use Rattle.mp_request.specs.declared.explain.check_word.CheckWord.{CheckWord}
+use Rattle.mp_request.specs.declared.explain.check_word.CheckWord.TheVariants as words
+use Rattle.mp_request.specs.declared.explain.seat_code.SeatCode.{SeatCode}
+use Rattle.mp_request.specs.declared.explain.seat_code.SeatCode.TheVariants as seats
+use Rattle.mp_request.specs.declared.explain.topic.Topic.TheVariants.{Text, Edit, Seat, Finding, Check, Kind as OfKind}
+use Rattle.mp_request.specs.explain.Laws.{TellsOfEach, titles}
+use Rattle.mp_request.specs.explain.Subjects.{title}
+
+many : length titles ≡ 65
+many = refl
+
+text_told : (code : TextCode) → Contains titles (title (Text code))
+text_told (texts.Line lines.NotAscii) = (0, omega (arith, many), refl)
+text_told (texts.Line lines.UnknownStatement) = (1, omega (arith, many), refl)
+text_told (texts.Line lines.WordCount) = (2, omega (arith, many), refl)
+text_told (texts.Line lines.BadNumber) = (3, omega (arith, many), refl)
+text_told texts.NoHorizon = (4, omega (arith, many), refl)
+text_told texts.SecondHorizon = (5, omega (arith, many), refl)
+text_told (texts.Refused error) = (6, omega (arith, many), refl)
+text_told texts.TooLong = (7, omega (arith, many), refl)
+text_told (texts.Line lines.OutOfMemory) = (8, omega (arith, many), refl)
+text_told texts.BadFormat = (9, omega (arith, many), refl)
+
+edit_told : (error : EditError) → Contains titles (title (Edit error))
+edit_told edits.NameTaken = (10, omega (arith, many), refl)
+edit_told edits.BadName = (11, omega (arith, many), refl)
+edit_told edits.NoSuchWire = (12, omega (arith, many), refl)
+edit_told edits.NoSuchModule = (13, omega (arith, many), refl)
+edit_told edits.NoSuchBundle = (14, omega (arith, many), refl)
+edit_told edits.BadWidth = (15, omega (arith, many), refl)
+edit_told edits.BadLevel = (16, omega (arith, many), refl)
+edit_told edits.BadDelay = (17, omega (arith, many), refl)
+edit_told edits.BadPort = (18, omega (arith, many), refl)
+edit_told edits.WrongPorts = (19, omega (arith, many), refl)
+edit_told edits.BadParam = (20, omega (arith, many), refl)
+edit_told edits.WidthMismatch = (21, omega (arith, many), refl)
+edit_told edits.AlreadyDriven = (22, omega (arith, many), refl)
+edit_told edits.StillUsed = (23, omega (arith, many), refl)
+edit_told edits.BadStimulus = (24, omega (arith, many), refl)
+edit_told edits.NoStimulus = (25, omega (arith, many), refl)
+edit_told edits.TableFull = (26, omega (arith, many), refl)
+edit_told edits.HistoryFull = (27, omega (arith, many), refl)
+edit_told edits.OutOfMemory = (28, omega (arith, many), refl)
+edit_told edits.BadBatch = (29, omega (arith, many), refl)
+edit_told (edits.InBatch place number) = (30, omega (arith, many), refl)
+
+seat_told : (code : SeatCode) → Contains titles (title (Seat code))
+seat_told seats.NotADesigner = (31, omega (arith, many), refl)
+seat_told seats.NoWork = (32, omega (arith, many), refl)
+
+finding_told : (code : FindingCode) → Contains titles (title (Finding code))
+finding_told found.MergeCollision = (33, omega (arith, many), refl)
+finding_told found.Withdrawn = (34, omega (arith, many), refl)
+finding_told found.SelectUnstable = (35, omega (arith, many), refl)
+finding_told found.CallOverlap = (36, omega (arith, many), refl)
+finding_told found.DoneWithoutCall = (37, omega (arith, many), refl)
+finding_told found.RepeatRequest = (38, omega (arith, many), refl)
+finding_told found.DoneWithoutGrant = (39, omega (arith, many), refl)
+finding_told found.CaptureWhileHeld = (40, omega (arith, many), refl)
+finding_told found.PassWhileOpen = (41, omega (arith, many), refl)
+finding_told found.DataAtCapture = (42, omega (arith, many), refl)
+finding_told found.DataWhileBusy = (43, omega (arith, many), refl)
+finding_told found.Setup = (44, omega (arith, many), refl)
+finding_told found.RequestWhileBusy = (45, omega (arith, many), refl)
+finding_told found.AckWhileIdle = (46, omega (arith, many), refl)
+
+check_told : (word : CheckWord) → Contains titles (title (Check word))
+check_told words.Late = (47, omega (arith, many), refl)
+check_told words.Deadlock = (48, omega (arith, many), refl)
+check_told words.Becomes = (49, omega (arith, many), refl)
+check_told words.Undriven = (50, omega (arith, many), refl)
+check_told words.Unread = (51, omega (arith, many), refl)
+
+kind_told : (kind : Kind) → Contains titles (title (OfKind kind))
+kind_told kinds.Buf = (52, omega (arith, many), refl)
+kind_told kinds.Not = (53, omega (arith, many), refl)
+kind_told kinds.Xor = (54, omega (arith, many), refl)
+kind_told kinds.C = (55, omega (arith, many), refl)
+kind_told kinds.Toggle = (56, omega (arith, many), refl)
+kind_told kinds.Select = (57, omega (arith, many), refl)
+kind_told kinds.Call = (58, omega (arith, many), refl)
+kind_told kinds.Arbiter = (59, omega (arith, many), refl)
+kind_told kinds.Reg = (60, omega (arith, many), refl)
+kind_told kinds.AddC = (61, omega (arith, many), refl)
+kind_told kinds.XorC = (62, omega (arith, many), refl)
+kind_told kinds.Sum = (63, omega (arith, many), refl)
+kind_told kinds.Bit = (64, omega (arith, many), refl)
+
+pub tells_of_each : TellsOfEach
+tells_of_each (Text code) = text_told code
+tells_of_each (Edit error) = edit_told error
+tells_of_each (Seat code) = seat_told code
+tells_of_each (Finding code) = finding_told code
+tells_of_each (Check word) = check_told word
+tells_of_each (OfKind kind) = kind_told kind

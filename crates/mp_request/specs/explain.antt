@@ -1,0 +1,5 @@
+pub mod Explanations
+pub mod Laws
+pub mod SeatCodes
+pub mod CheckWords
+pub mod Subjects

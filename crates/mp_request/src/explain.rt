@@ -1,0 +1,24 @@
+//! What the codes that the program answers with and the kinds of event module mean, as texts.
+
+mod check_word;
+mod checks;
+mod data_kinds;
+mod entries;
+mod entry;
+mod event_kinds;
+mod explaining;
+mod findings;
+pub mod laws;
+mod refusals_of_names;
+mod refusals_of_values;
+mod seat_code;
+mod seat_refusals;
+mod text_faults;
+mod topic;
+
+pub use check_word::CheckWord;
+pub use entries::guide;
+pub use entry::Entry;
+pub use explaining::{put_explanation, put_titles};
+pub use seat_code::SeatCode;
+pub use topic::Topic;

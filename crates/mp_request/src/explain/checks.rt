@@ -1,0 +1,107 @@
+//! What a check tells beside findings, word by word.
+use crate::explain::check_word::CheckWord;
+use crate::explain::entry::Entry;
+use crate::explain::topic::Topic;
+
+pub(crate) const LATE: Entry = Entry {
+    subject: Topic::Check(CheckWord::Late),
+    text: "
+  meaning:
+    data of a bundle change behind a request, and neither that request led to
+      the change nor anything that was set from outside after it
+  example, read by `mpwb check`:
+    horizon 100
+    wire c 1 0
+    wire q 8 0
+    wire d 8 0
+    wire r 1 0
+    wire k 1 0
+    module logic ADDC 0 : q > d/12
+    module match BUF : c > r/8
+    module recv BUF : r > k/3
+    bundle b r k d 2
+    stim c 10=1
+    stim q 10=7
+  answer:
+    22 bundle b late 4
+  remedy:
+    The data belong to the request before them, and were under way when it
+    came. Delay the request by these units and the setup more, or make the
+    way of the data shorter: `mpwb why WIRE TIME` tells it step by step.
+",
+};
+
+pub(crate) const DEADLOCK: Entry = Entry {
+    subject: Topic::Check(CheckWord::Deadlock),
+    text: "
+  meaning:
+    modules wait for each other's wires in a cycle, and these wires keep
+      their levels for ever
+  example, read by `mpwb check`:
+    horizon 40
+    wire p 1 0
+    wire q 1 0
+    module x BUF : q > p/2
+    module y BUF : p > q/2
+  answer:
+    0 deadlock x waits for q, y waits for p
+  remedy:
+    Break the cycle, or let an event go round in it: by a NOT in place of a
+    BUF, or by another INIT of a C with the same level at its wire.
+",
+};
+
+pub(crate) const BECOMES: Entry = Entry {
+    subject: Topic::Check(CheckWord::Becomes),
+    text: "
+  meaning:
+    the port that drives a wire has at time 0 another level than the wire is
+      declared with, so that the wire changes when the port's delay is over
+  example, read by `mpwb check`:
+    horizon 20
+    wire a 1 1
+    wire y 1 0
+    module b NOT : y > a/2
+    module m BUF : a > y/3
+  answer:
+    note wire y is declared 0 and becomes 1 at 3
+  remedy:
+    If that first change isn't meant, declare the wire with the other level.
+",
+};
+
+pub(crate) const UNDRIVEN: Entry = Entry {
+    subject: Topic::Check(CheckWord::Undriven),
+    text: "
+  meaning:
+    neither a port nor a stimulus drives a wire: it keeps its level, or is
+      unused where nothing reads it
+  example, read by `mpwb check`:
+    horizon 20
+    wire a 1 0
+    wire b 1 0
+    module m BUF : a > -
+  answer:
+    note wire a is read, and nothing drives it
+    note wire b is unused
+  remedy:
+    Let a port drive the wire, set it by `stim`, or leave it out. A stimulus
+    without changes, as `stim a`, says that the level is meant to stay.
+",
+};
+
+pub(crate) const UNREAD: Entry = Entry {
+    subject: Topic::Check(CheckWord::Unread),
+    text: "
+  meaning:
+    a wire has a stimulus, and neither an input nor a bundle names it
+  example, read by `mpwb check`:
+    horizon 20
+    wire a 1 0
+    stim a 5=1
+  answer:
+    note wire a has a stimulus, and nothing reads it
+  remedy:
+    Let a module read the wire, or leave it out.
+",
+};

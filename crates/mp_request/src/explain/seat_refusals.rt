@@ -1,0 +1,42 @@
+//! Why a line is refused at a seat alone, told code by code.
+use crate::explain::entry::Entry;
+use crate::explain::seat_code::SeatCode;
+use crate::explain::topic::Topic;
+
+pub(crate) const NOT_A_DESIGNER: Entry = Entry {
+    subject: Topic::Seat(SeatCode::NotADesigner),
+    text: "
+  meaning:
+    an edit at a viewer's seat, or in the desk's own input
+  example, in a shell:
+    cd $(mktemp -d)
+    mkfifo designer-1.in designer-1.out
+    echo horizon 20 > empty.net
+    echo wire a 1 0 |
+      mpwb desk empty.net --at . --designers 1 --viewers 0
+  answer:
+    refused 22 NotADesigner
+    designer 1 accepted 0 refused 0
+  remedy:
+    Take the seat of a designer to edit the netlist.
+",
+};
+
+pub(crate) const NO_WORK: Entry = Entry {
+    subject: Topic::Seat(SeatCode::NoWork),
+    text: "
+  meaning:
+    `work` at a seat: what was evaluated for an edit is known in `play` alone
+  example, in a shell:
+    cd $(mktemp -d)
+    mkfifo designer-1.in designer-1.out
+    echo horizon 20 > empty.net
+    echo work | mpwb desk empty.net --at . --designers 1 --viewers 0
+  answer:
+    refused 23 NoWork
+    designer 1 accepted 0 refused 0
+  remedy:
+    Give the lines of `edits 1` without their numbers to `mpwb play`, and ask
+    there.
+",
+};

@@ -1,0 +1,75 @@
+//! What can be explained.
+ghost use Rattle.std.specs.Prelude.{◌≡◌, codes};
+ghost use Rattle.mp_streams.specs.Outgoing.{Writes};
+ghost use Rattle.mp_request.specs.explain.Subjects.{edit_name, is_called, is_one_of, title};
+
+use crate::explain::check_word::CheckWord;
+use crate::explain::seat_code::SeatCode;
+use itoa::Buffer;
+use mp_modules::{FindingCode, Kind};
+use mp_records::EditError;
+use mp_streams::{Failed, Out, Sink, Text};
+use mp_text::TextCode;
+
+/// What can be explained: a code or a word that the program answers with, or a kind of module.
+#[derive(Clone, Copy, Debug, PartialEq, Eq)]
+pub enum Topic {
+    /// What is wrong with a netlist's text or with a line of a script.
+    Text(TextCode),
+    /// Why an edit is refused.
+    Edit(EditError),
+    /// Why a line is refused at a seat alone.
+    Seat(SeatCode),
+    /// What is found at a module or a bundle.
+    Finding(FindingCode),
+    /// What a check tells beside findings.
+    Check(CheckWord),
+    /// What a module does.
+    Kind(Kind),
+}
+
+impl Topic {
+    /// Whether the word is its name, in capital or small letters, or, of a code, its number.
+    pub fn is_called(self, word: &str) -> bool
+        ensures { result ≡ is_called word.now self }
+    {
+        match self {
+            Topic::Text(code) => is_one_of(word, code.number(), code.name()),
+            Topic::Edit(error) => is_one_of(word, error.number(), edit_name(error)),
+            Topic::Seat(code) => is_one_of(word, code.number(), code.name()),
+            Topic::Finding(code) => is_one_of(word, code.number(), code.word()),
+            Topic::Check(check) => word.eq_ignore_ascii_case(check.word()),
+            Topic::Kind(kind) => word.eq_ignore_ascii_case(kind.word()),
+        }
+    }
+}
+
+/// As `edit 1 NameTaken` or `kind C`.
+impl Text for Topic {
+    ghost text = { λ subject. title subject };
+
+    fn put_to<S: Sink>(&self, out: &mut Out<S>) -> Result<(), Failed> {
+        match self {
+            Topic::Text(code) => ("text ", code.number(), " ", code.name()).put_to(out),
+            Topic::Edit(error) => ("edit ", error.number(), " ", edit_name(*error)).put_to(out),
+            Topic::Seat(code) => ("seat ", code.number(), " ", code.name()).put_to(out),
+            Topic::Finding(code) => ("finding ", code.number(), " ", code.word()).put_to(out),
+            Topic::Check(check) => ("check ", check.word()).put_to(out),
+            Topic::Kind(kind) => ("kind ", kind.word()).put_to(out),
+        }
+    }
+}
+
+/// Whether the word is the number or the name.
+fn is_one_of(word: &str, number: u32, name: &str) -> bool
+    ensures { result ≡ is_one_of word.now number name.now }
+{
+    let mut digits = Buffer::new();
+    word.eq_ignore_ascii_case(name) || word == digits.format(number)
+}
+
+fn edit_name(error: EditError) -> &'static str
+    ensures { result.now ≡ edit_name error }
+{
+    EditError::name_of(error.number()).unwrap_or("")
+}

@@ -1,0 +1,111 @@
+# shellcheck shell=bash
+# ./mpwb watch FOLDER SEAT [QUESTION ..]. A viewer's seat asks for the version some times a second, and shows the answer to a question anew where it has
+# changed.
+
+seconds_between_looks=0.2
+most_tries=10 # to have an answer of one version, while others edit
+
+start_watch() {
+    local question=${*:3}
+    if [ $# -lt 2 ] || [[ $2 != viewer-* || $question == *$'\n'* ]]; then
+        refuse "./mpwb watch FOLDER SEAT [QUESTION ..] with a viewer's seat, as ./mpwb watch meeting viewer-1"
+    fi
+    need_desk "$1"
+    if [ -z "$question" ]; then
+        read_crates
+        choose_program
+    fi
+    take_seat "$1" "$2"
+    if [ -z "$room" ]; then begin_work; fi
+    exec 4>&1
+    trap 'end_screen; end_beside' EXIT
+    trap 'exit 0' INT
+    keep_watch "$2" "$question"
+}
+
+keep_watch() {
+    local name=$1 question=$2 version="" shown=""
+    while :; do
+        tell_version
+        if [ "$version" != "$shown" ]; then
+            look
+            draw 2>/dev/null || fail_device write
+            shown=$version
+        fi
+        sleep "$seconds_between_looks"
+    done
+}
+
+# asks for the version
+tell_version() {
+    local told=""
+    { { printf 'version\n' >&6; } 2>/dev/null && IFS= read -r told <&5; } || fail_left "$name"
+    if [[ $told == version\ * ]]; then version=${told#version }; fi
+}
+
+# puts what is seen of a version into a file, and into another the edits that made it of the version that was shown
+look() {
+    local before tries
+    for ((tries = 0; tries < most_tries; tries++)); do
+        before=$version
+        see >"$room/seen"
+        tell_version
+        if [ "$version" = "$before" ]; then break; fi
+    done
+    version=$before
+    : >"$room/edits"
+    if [ -z "$shown" ]; then return; fi
+    hear_answer "edits $((shown + 1))" >"$room/told"
+    awk -v last="$version" '$1 <= last' "$room/told" >"$room/edits"
+}
+
+hear_answer() { { ask_seat "$1" && hear; } || fail_left "$name"; }
+
+# the answer to the question, and where there is none a picture as wide as the terminal
+see() {
+    local width plain=()
+    if [ -n "$question" ]; then
+        hear_answer "$question"
+        return
+    fi
+    hear_answer text >"$room/netlist"
+    width=$(terminal_width)
+    if [ -z "$width" ]; then
+        (run show "$room/netlist") || exit
+    else
+        if ! is_utf8; then plain=(--ascii); fi
+        (fit "$width" "${plain[@]}" "$room/netlist") || exit
+    fi
+}
+
+# --- what is shown
+
+edits_at_terminal=5 # so many of the last ones are shown in place
+
+draw() {
+    if [ ! -t 4 ]; then
+        echo "version $version" && cat "$room/seen" "$room/edits"
+        return
+    fi
+    # (a line that is too long is cut, and not broken)
+    printf '\033[H\033[J\033[?7lversion %s (Ctrl-C leaves %s)\n' "$version" "$name"
+    fit_rows "$(stty size <&4 | awk '{ print $1 }')"
+    end_screen
+}
+
+# what is seen, and the last edits below it, in so many rows
+fit_rows() {
+    awk -v rows="$1" -v most="$edits_at_terminal" '
+        FILENAME ~ /edits$/ { edits[++made] = $0; next }
+        { seen[++lines] = $0 }
+        END {
+            first = made > most ? made - most + 1 : 1
+            free = rows > 0 ? rows - 2 - (made - first + 1) : lines
+            last = lines > free ? free - 1 : lines
+            for (at = 1; at <= last; at++) print seen[at]
+            if (last < lines) print ".. and " lines - last " lines more"
+            for (at = first; at <= made; at++) print edits[at]
+        }' "$room/seen" "$room/edits"
+}
+
+end_screen() { if [ -t 4 ]; then printf '\033[?7h'; fi; }
