@@ -26,7 +26,7 @@ impl LogPrefix {
     ghost use Rattle.std.specs.Prelude.{◌≤◌, length};
     ghost use Rattle.mp_desk.specs.Extending.{Extends};
 
-    /// The same once more.
+    /// Another handle of the same story.
     pub(crate) fn again(&self) -> LogPrefix
         ensures { result ≡ self.now }
     {

@@ -30,7 +30,8 @@ pub(crate) fn run_together<R: Threads + Wait + Sync, G: Gate + Sync>(
     run_apart::<Brand, R, G>(rt, alloc, gate, divided)
 }
 
-/// The same, where messages are about the netlist as it is divided.
+/// Runs each part on a thread of its own, with messages whose type names the netlist as it is divided. `None` if a thread can't be started, or if a
+/// part gave up though memory was refused to none.
 fn run_apart<J: Subject + Send + Sync, R: Threads + Wait + Sync, G: Gate + Sync>(
     rt: &R,
     alloc: Global,

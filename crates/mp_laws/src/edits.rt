@@ -31,7 +31,7 @@ pub fn edits_use_numbers_once()
     ensures { EditsUseNumbersOnce }
 {}
 
-/// The same of any list of edits that are accepted one after the other.
+/// No list of edits that are accepted one after the other uses a number again.
 pub fn replays_use_numbers_once()
     ensures { ReplaysUseNumbersOnce }
 {}

@@ -74,7 +74,7 @@ impl Waves {
         self.list.share_one(wire.0 as usize)
     }
 
-    /// The same waves, to be shared. They are copied only where they stand in place.
+    /// The waves of all wires, to be shared. Waves that are kept in place are copied.
     pub fn share(&self, alloc: Global) -> Result<Waves, AllocError>
         ensures { IfOk result (λ waves. waves ≡ self.now) }
     {

@@ -50,7 +50,7 @@ impl Index {
         Ok(())
     }
 
-    /// The same once more.
+    /// Another handle of the index, which is shared until one of them changes.
     pub fn copy(&self) -> Result<Index, AllocError>
         ensures { IfOk result (λ copy. (name : List ℕ) → number_in copy name ≡ number_in self.now name) }
     {

@@ -114,7 +114,7 @@ impl ModuleTable {
         }
     }
 
-    /// The same table once more.
+    /// A copy of the table, with its marks.
     pub fn copy(&self) -> Result<ModuleTable, AllocError>
         ensures { IfOk result (λ copy. copy ≡ self.now) }
     {

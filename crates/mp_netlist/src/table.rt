@@ -84,7 +84,7 @@ impl<R: Named> Table<R> {
         }
     }
 
-    /// The same, where the thing is looked for at a number and at the next one first: found there it costs less.
+    /// The number of the thing that has this name. It is looked for at the number `near` and at the next one first, which costs less if it is there.
     pub fn number_near(&self, name: &Name, near: u32) -> Option<u32>
         ensures { result ≡ number_named R.name_of self.now name.now }
     {
@@ -110,7 +110,7 @@ impl<R: Named> Table<R> {
         }
     }
 
-    /// The same, found by a look at each thing.
+    /// The number of the thing whose name is this text, found by a look at each thing.
     fn number_sought(&self, text: &str) -> Option<u32>
         ensures { result ≡ number_named R.name_of self.now text.now }
     {
@@ -156,7 +156,7 @@ impl<R: Named> Table<R> {
         }
     }
 
-    /// The same table once more.
+    /// A copy of the table. The index of names is shared.
     pub fn copy(&self) -> Result<Table<R>, AllocError>
         ensures { IfOk result (λ copy. copy ≡ self.now) }
     {

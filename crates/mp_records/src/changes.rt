@@ -59,7 +59,7 @@ impl Changes {
         true
     }
 
-    /// The same times and values, the times being below 2^32.
+    /// A stimulus of these times and values. The times have to be below 2^32.
     pub fn to_stimulus(&self, alloc: Global) -> Result<Stimulus, AllocError>
         requires { All (λ change. change.0 < 2 ^ 32) self.now }
         ensures { IfOk result (λ stimulus. stimulus ≡ self.now) }

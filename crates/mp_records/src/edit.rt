@@ -15,7 +15,7 @@ pub enum Edit {
 }
 
 impl Edit {
-    /// The same edit once more.
+    /// A copy of the edit.
     pub fn copy(&self) -> Result<Edit, AllocError>
         ensures { IfOk result (λ edit. edit ≡ self.now) }
     {

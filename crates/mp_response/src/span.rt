@@ -29,7 +29,7 @@ pub fn cut(alloc: Global, wave: &Wave, from: u32, to: u32) -> Result<InPiece, Al
     })
 }
 
-/// The same of an input with a delay: the wave so many units later. No later wave is made.
+/// A wire's wave as an input with a delay sees it, from one time to before another: the wave so many units later. No later wave is made.
 pub fn cut_delayed(
     alloc: Global,
     wave: &Wave,

@@ -102,7 +102,7 @@ impl<S: Sink> Out<S> {
         Ok(())
     }
 
-    /// The same as `put_bytes` where there is no room for the bytes.
+    /// Writes bytes for which the buffer has no room, behind what it holds.
     #[cold]
     #[inline(never)]
     fn put_past(&mut self, bytes: &[u8]) -> Result<(), Failed>
@@ -116,7 +116,7 @@ impl<S: Sink> Out<S> {
         Ok(())
     }
 
-    /// The same as `put_piece` where there is no room for the piece.
+    /// Writes a piece for which the buffer has no room, behind what it holds.
     #[cold]
     #[inline(never)]
     fn put_piece_past<P: Piece>(&mut self, piece: &P) -> Result<(), Failed>

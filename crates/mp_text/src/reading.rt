@@ -39,7 +39,7 @@ pub fn read_netlist(alloc: Global, text: &[u8]) -> Result<Netlist, TextError>
     read_lines(alloc, text)
 }
 
-/// The same of a text that isn't longer than one of any format may be, whatever format it states.
+/// The netlist of a text that may be as long as a text of any format, whatever format it states; or the first line that fails.
 #[tactic(auto, using(crate::proofs::TextLemmas::reading_read_lines_steps))]
 pub fn read_lines(alloc: Global, text: &[u8]) -> Result<Netlist, TextError>
     requires { length text.now ≤ max_text }

@@ -80,7 +80,7 @@ impl Held {
         }
     }
 
-    /// The same changes once more.
+    /// A copy of the changes.
     pub(crate) fn copy(&self) -> Result<Held, AllocError>
         ensures value { (initial : ℕ) → IfOk result (λ copy. held_changes initial copy ≡ held_changes initial self.now) }
         ensures low { (initial : ℕ) → IsLow initial self.now → IfOk result (IsLow initial) }
@@ -111,7 +111,7 @@ impl Held {
         Ok(())
     }
 
-    /// The same where the changes so far can't be held as they are.
+    /// One more change, after which the changes have to be held in another form.
     #[cold]
     #[inline(never)]
     fn push_longer(&mut self, initial: u64, time: u32, level: u64) -> Result<(), AllocError>

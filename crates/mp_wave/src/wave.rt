@@ -115,7 +115,7 @@ impl Wave {
         if time < upto { Some(time) } else { None }
     }
 
-    /// The same wave once more.
+    /// A copy of the wave.
     pub fn copy(&self) -> Result<Wave, AllocError>
         ensures value { IfOk result (λ copy. copy ≡ self.now) }
         ensures form { IsWaveform self.now }
@@ -153,7 +153,7 @@ impl Wave {
 impl From<ToggleWave> for Wave {
     ghost from_gives = { λ toggles wave. wave ≡ toggles };
 
-    /// The same wave. It takes no memory.
+    /// The wave of a wire that toggles. It takes no memory.
     fn from(wave: ToggleWave) -> Wave {
         let (initial, times) = wave.into_parts();
         Wave {

@@ -34,7 +34,7 @@ pub fn take_changes(
     Ok(())
 }
 
-/// The same in one unit, of wires of width 1. The empty slot that is handed over is empty again afterwards.
+/// Takes the toggles of one unit of wires of width 1 that no active module drives, and lists them. The slot comes empty and is empty again.
 fn take_toggles(
     simulation: &mut NetlistSimulation,
     sources: &[WireSource],
@@ -60,7 +60,7 @@ fn take_toggles(
     Ok(())
 }
 
-/// The same in one unit, of wires with data.
+/// Takes the changes of one unit of wires with data that no active module drives, and lists them. The slot comes empty and is empty again.
 fn take_levels(
     simulation: &mut NetlistSimulation,
     sources: &[WireSource],

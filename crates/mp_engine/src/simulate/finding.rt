@@ -40,7 +40,7 @@ pub fn find_waves<R: Threads + Wait + Sync>(
     }
 }
 
-/// The same on the calling thread.
+/// The wave of each wire of a netlist up to its horizon, made on the calling thread.
 fn find_here(alloc: Global, netlist: &Netlist) -> Result<Waves, AllocError>
     ensures { IfOk result (AreWavesOf netlist.now) }
 {

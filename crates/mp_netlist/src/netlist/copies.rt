@@ -5,7 +5,7 @@ use std::alloc::AllocError;
 impl Netlist {
     ghost use Rattle.std.specs.Prelude.{◌≡◌, IfOk};
 
-    /// The same netlist once more.
+    /// A copy of the netlist.
     pub fn copy(&self) -> Result<Netlist, AllocError>
         ensures { IfOk result (λ netlist. netlist ≡ self.now) }
     {

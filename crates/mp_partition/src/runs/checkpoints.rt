@@ -65,7 +65,7 @@ impl Checkpoints {
         self.push(Checkpoint { time, memory })
     }
 
-    /// The same, but that it takes no room where this state is kept already.
+    /// Keeps a state from a time on that isn't before any other. It takes no room if this state is kept already.
     pub fn keep_change(&mut self, time: u32, memory: Memory) -> Result<(), AllocError>
         requires { All (λ (kept : Kept). kept.time ≤ time) self.old }
         ensures { OnOk result (KeepsFrom self.old time memory self.new) }
@@ -112,7 +112,8 @@ impl Checkpoints {
         split(&self.list, time).0
     }
 
-    /// The same, and how many are kept for such times. Where these are so many as `before`, or one more, they aren't searched for: so many
+    /// The last state that is kept for a time not after this one, or a blank one, and how many are kept for such times. If these are as many as
+    /// `before`, or one more, nothing is searched: so many
     /// are kept for the times of one border after the other.
     pub fn kept_near(&self, time: u32, before: usize) -> (Memory, usize)
         ensures { result.0 ≡ kept_at self.now time blank }

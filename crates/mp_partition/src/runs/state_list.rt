@@ -101,7 +101,7 @@ impl StateList {
         self.search_upto(time)
     }
 
-    /// The same, without a search where it is this many, or one more.
+    /// How many are of times not after this one. It takes no search if that is this many, or one more.
     #[inline(always)]
     pub(crate) fn count_near(&self, time: u32, many: usize) -> usize
         requires { IsRising (states_of self.now) }
@@ -165,7 +165,7 @@ impl BitCheckpoint {
     ghost use Rattle.std.specs.Prelude.{◌≡◌};
     ghost use Rattle.mp_partition.specs.runs.StateLists.{opened};
 
-    /// The same state in its full room.
+    /// The state in the room that any module's state needs.
     #[inline(always)]
     fn opened(&self) -> Checkpoint
         ensures { result ≡ opened self.now }
@@ -179,7 +179,7 @@ impl BitCheckpoint {
 
 ghost use Rattle.std.specs.Prelude.{IfOk};
 
-/// The same states in their full room.
+/// The states in the room that any module's states need.
 #[cold]
 #[inline(never)]
 fn widened(list: &Vec<BitCheckpoint>) -> Result<Vec<Checkpoint>, AllocError>

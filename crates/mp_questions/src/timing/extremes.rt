@@ -25,7 +25,7 @@ pub(crate) fn widened(found: Option<Extremes>, number: u32) -> Option<Extremes>
     }
 }
 
-/// The same where there may be no further number.
+/// The extremes of numbers that had these, if there were any, and of a further number, if there is one.
 pub(crate) fn widened_by(found: Option<Extremes>, number: Option<u32>) -> Option<Extremes>
     ensures { result ≡ widened_by found number }
 {

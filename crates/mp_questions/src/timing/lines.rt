@@ -20,7 +20,7 @@ pub(crate) fn put_since<S: Sink, T: Text>(
     (name, does, what, (" since ", since, "\n")).put_to(out)
 }
 
-/// The same of a module, with the wire at one of its inputs.
+/// Writes a module's name, what goes on there, the wire at one of its inputs, and since when.
 pub(crate) fn put_input<S: Sink>(
     out: &mut Out<S>,
     netlist: &Netlist,

@@ -23,7 +23,7 @@ impl<'a> Trail<'a> {
         }
     }
 
-    /// The same from a time on that none so far is later than.
+    /// The trail moved on to a time, which isn't before the one that it has reached.
     pub(crate) fn upto(self, time: u32) -> Self
         ensures trail { (changes : List (ℕ × ℕ)) → IsTrail changes time self.entry → IsTrail changes time result }
         ensures last { result.last ≡ last_upto self.entry.last (changes_in self.entry.changes) time }

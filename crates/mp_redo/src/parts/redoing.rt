@@ -57,7 +57,7 @@ pub fn redo<R: Threads + Wait + Sync, G: Gate + Sync>(
     redo_parts(rt, alloc, change, gate)
 }
 
-/// The same, part by part.
+/// Evaluates each part again as a netlist of its own, and puts the runs and the work of all parts together.
 fn redo_parts<R: Threads + Wait + Sync, G: Gate + Sync>(
     rt: &R,
     alloc: Global,

@@ -57,7 +57,7 @@ impl Rerun {
         self.activate_many(means, change, time)
     }
 
-    /// The same of few of them: each is active before the next one's state is found.
+    /// Activates few modules: each is active before the next one's state is found.
     fn activate_few<R: Wait, G: Gate>(
         &mut self,
         means: &RerunContext<'_, R, G>,
@@ -117,7 +117,7 @@ impl Rerun {
         self.activate(change, id, found, &memory, time)
     }
 
-    /// The same of as many as the crew shares out: their states are found first, as tasks.
+    /// Activates as many modules as the crew shares out: their states are found first, as tasks.
     fn activate_many<R: Threads + Wait + Sync, G: Gate + Sync>(
         &mut self,
         means: &RerunContext<'_, R, G>,

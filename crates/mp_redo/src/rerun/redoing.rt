@@ -49,7 +49,7 @@ pub fn redo<R: Threads + Wait + Sync, G: Gate + Sync>(
     run_again(&means, &change)
 }
 
-/// The same.
+/// Evaluates again what the change reaches, unit by unit, and returns the run with the spans of work in no order.
 fn run_again<R: Threads + Wait + Sync, G: Gate + Sync>(
     means: &RerunContext<'_, R, G>,
     change: &Change<'_>,

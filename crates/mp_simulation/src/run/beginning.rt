@@ -26,7 +26,7 @@ pub fn begin(alloc: Global, netlist: &Region<'_>) -> Result<NetlistSimulation, A
     layout.begin(alloc, netlist, outputs, table)
 }
 
-/// The same of a netlist whose wires have width 1, so that no module and no wire has data.
+/// A simulation at time 0 of a netlist whose wires have width 1, so that no module and no wire has data.
 pub(crate) fn begin_bits(alloc: Global, netlist: &Region<'_>) -> Result<Simulation, AllocError>
     requires form { IsCircuit netlist.now }
     requires narrow { IsNarrow netlist.now }

@@ -59,7 +59,7 @@ pub static HALF: PlannedEdit<'static> = PlannedEdit::Signal(Signal {
     changes: &[(1, 1), (7, 0)],
 });
 
-/// The same, where the netlist runs for 4 units.
+/// The first two buffers hear another change, so late that a netlist of 4 units ends before the buffers behind them hear of it.
 pub static SOON: PlannedEdit<'static> = PlannedEdit::Signal(Signal {
     wire: "a",
     changes: &[(1, 1), (3, 0)],

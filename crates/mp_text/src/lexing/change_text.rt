@@ -41,7 +41,7 @@ pub(crate) fn write_number(number: u64, room: &mut [u8], at: usize) -> usize
     }
 }
 
-/// The same where the digits are to be counted first.
+/// Writes a number whose digits have to be counted first, from a place on, and returns where they end.
 fn write_any(number: u64, room: &mut [u8], at: usize) -> usize
     requires { at + 20 ≤ length room.old }
     ensures placed { IsPlaced room.old room.new at (decimal number) result }
