@@ -9,3 +9,4 @@ mod parts;
 pub mod rerun;
 
 pub use parts::redo;
+pub use rerun::RerunContext;

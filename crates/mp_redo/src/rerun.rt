@@ -32,3 +32,4 @@ mod unit;
 mod window;
 
 pub use redoing::redo;
+pub use rerun_context::RerunContext;

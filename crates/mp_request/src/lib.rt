@@ -10,6 +10,7 @@ mod command_form;
 mod command_line;
 pub mod explain;
 mod help;
+mod help_editing;
 mod parser;
 mod picture_words;
 mod reading;

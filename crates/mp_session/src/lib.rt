@@ -2,6 +2,7 @@
 #![tactic(auto)]
 
 mod editing;
+mod opening_version;
 mod prepared;
 mod session;
 

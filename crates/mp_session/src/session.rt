@@ -1,6 +1,6 @@
 //! A netlist that is edited, and its present version.
-ghost use Rattle.std.specs.Prelude.{◌≡◌, IfOk};
 
+use crate::opening_version::opening_version;
 use crate::prepared::Prepared;
 use mp_depend::Work;
 use mp_depend::work::laws::edits_revise;
@@ -8,7 +8,7 @@ use mp_engine::evaluate;
 use mp_netlist::{Edit, EditError, Netlist};
 use mp_partition::Run;
 use mp_phase::{Crew, Gate};
-use mp_redo::redo;
+use mp_redo::{RerunContext, redo};
 use mp_version::{MAX_EDITS, Version};
 use std::alloc::{AllocError, Global};
 use std::marker::Model;
@@ -232,9 +232,13 @@ impl<G: Gate> Session<G> {
     {
         edits_revise();
         let now = self.version.now();
-        let (run, work) = redo(
-            rt, self.alloc, now, &self.run, &next, &self.crew, &self.gate,
-        )?;
+        let context = RerunContext {
+            rt,
+            alloc: self.alloc,
+            crew: &self.crew,
+            gate: &self.gate,
+        };
+        let (run, work) = redo(&context, now, &self.run, &next)?;
         self.evaluated(edit, next, run, work)
     }
 
@@ -284,21 +288,4 @@ impl<G: Gate> Session<G> {
         let version = self.version.next(self.alloc, edit, next, waves)?;
         Ok(Arc::new(self.alloc, version)?)
     }
-}
-
-ghost use Rattle.std.specs.Arc.{arc_value};
-ghost use Rattle.mp_partition.specs.runs.Runs.{IsRun};
-ghost use Rattle.mp_version.specs.Stories.{opening};
-
-/// The version of a netlist before the first edit, with the waves of its run.
-fn opening_version(
-    alloc: Global,
-    netlist: &Netlist,
-    run: &Run,
-) -> Result<Arc<Version, Global>, AllocError>
-    requires { IsRun netlist.now run.now }
-    ensures { IfOk result (λ version. arc_value version ≡ opening netlist.now) }
-{
-    let version = Version::opening(alloc, netlist.copy()?, run.waves().share(alloc)?)?;
-    Ok(Arc::new(alloc, version)?)
 }

@@ -4,7 +4,7 @@ use crate::parts::part_netlist::part_netlist;
 use crate::parts::part_run::part_run;
 use crate::parts::parts_change::PartsChange;
 use crate::parts::redone::Redone;
-use crate::rerun::redo;
+use crate::rerun::{RerunContext, redo};
 use mp_phase::{Crew, Gate};
 use std::alloc::{AllocError, Global};
 use std::sync::Wait;
@@ -44,7 +44,13 @@ impl<'a> ChangedPart<'a> {
         let Ok(crew) = Crew::new(1, 1) else {
             unreachable!()
         };
-        let (run, work_spans) = redo(rt, alloc, &old, &before, &new, &crew, gate)?;
+        let context = RerunContext {
+            rt,
+            alloc,
+            crew: &crew,
+            gate,
+        };
+        let (run, work_spans) = redo(&context, &old, &before, &new)?;
         Ok(Redone { run, work_spans })
     }
 }

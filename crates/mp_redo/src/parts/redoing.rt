@@ -13,10 +13,11 @@ use crate::parts::parts_change::PartsChange;
 use crate::parts::redone::Redone;
 use crate::parts::together::redo_together;
 use crate::parts::whole_run::whole_run;
+use crate::rerun::RerunContext;
 use mp_depend::{Work, WorkSpan};
 use mp_netlist::Netlist;
 use mp_partition::Run;
-use mp_phase::{Crew, Gate};
+use mp_phase::Gate;
 use std::alloc::{AllocError, Global};
 use std::sync::Wait;
 use std::thread::Threads;
@@ -26,25 +27,22 @@ use std::thread::Threads;
 /// Else the calling thread does all, but for the modules that begin to work in the same unit, which the threads of the crew share. A module
 /// passes the gate for each entry of the work. Where memory runs out, the old run stays.
 pub fn redo<R: Threads + Wait + Sync, G: Gate + Sync>(
-    rt: &R,
-    alloc: Global,
+    context: &RerunContext<'_, R, G>,
     old: &Netlist,
     run: &Run,
     new: &Netlist,
-    crew: &Crew,
-    gate: &G,
 ) -> Result<(Run, Work), AllocError>
     requires revision { IsRevision old.now new.now }
     requires run { IsRun old.now run.now }
-    requires allowed { IsAllowed (IsEntry old.now new.now) (G.may gate.now) }
+    requires allowed { IsAllowed (IsEntry old.now new.now) (G.may context.now.gate.now) }
     ensures run { IfOk result (λ both. IsRun new.now both.0) }
     ensures work { IfOk result (λ both. IsWork old.now new.now both.1) }
 {
     // Their contracts tell that the netlists are well formed.
     let _old_horizon = old.horizon();
     let _new_horizon = new.horizon();
-    let Some(partition) = choose_partition(alloc, old, new, crew)? else {
-        let (run, work_spans) = crate::rerun::redo(rt, alloc, old, run, new, crew, gate)?;
+    let Some(partition) = choose_partition(context.alloc, old, new, context.crew)? else {
+        let (run, work_spans) = crate::rerun::redo(context, old, run, new)?;
         return Ok((run, Work::of_change(old, new, work_spans)));
     };
     let partition = &partition;
@@ -54,22 +52,21 @@ pub fn redo<R: Threads + Wait + Sync, G: Gate + Sync>(
         new,
         partition,
     };
-    redo_parts(rt, alloc, change, gate)
+    redo_parts(context, change)
 }
 
 /// Evaluates each part again as a netlist of its own, and puts the runs and the work of all parts together.
 fn redo_parts<R: Threads + Wait + Sync, G: Gate + Sync>(
-    rt: &R,
-    alloc: Global,
+    context: &RerunContext<'_, R, G>,
     change: PartsChange<'_>,
-    gate: &G,
 ) -> Result<(Run, Work), AllocError>
     requires change { IsChange change }
-    requires allowed { IsAllowed (IsEntry change.old.now change.new.now) (G.may gate.now) }
+    requires allowed { IsAllowed (IsEntry change.old.now change.new.now) (G.may context.now.gate.now) }
     ensures run { IfOk result (λ both. IsRun change.entry.new.now both.0) }
     ensures work { IfOk result (λ both. IsWork change.entry.old.now change.entry.new.now both.1) }
 {
-    let parts = redo_together(rt, alloc, change, gate)?;
+    let alloc = context.alloc;
+    let parts = redo_together(context.rt, alloc, change, context.gate)?;
     let run = whole_run(alloc, &change, parts.as_slice())?;
     let work_spans = all_work_spans(alloc, &change, parts.as_slice())?;
     Ok((run, Work::of_change(change.old, change.new, work_spans)))

@@ -33,11 +33,11 @@ impl Rerun {
     /// window, on the threads of the crew where they answer once more for units of the block and are as many as it shares out.
     pub(crate) fn activate_all<R: Threads + Wait + Sync, G: Gate + Sync>(
         &mut self,
-        means: &RerunContext<'_, R, G>,
+        context: &RerunContext<'_, R, G>,
         change: &Change<'_>,
         time: u32,
     ) -> Result<(), AllocError>
-        requires allowed { IsAllowed (IsEntry change.now.old.now change.now.new.now) (G.may means.now.gate.now) }
+        requires allowed { IsAllowed (IsEntry change.now.old.now change.now.new.now) (G.may context.now.gate.now) }
         requires change { IsChange change.now }
         requires some { 0 < time }
         requires below { time < change.now.new.now.horizon }
@@ -51,20 +51,20 @@ impl Rerun {
         ensures active { OnOk result (HaveBecomeLive change.now.new.now self.old.activity.joining.items (active_of self.old) (active_of self.new)) }
         ensures joined { OnOk result (HaveJoined self.old.activity.joining.items self.old.activity.joined.items self.new.activity.joined.items) }
     {
-        if self.activity.joining.len() < means.crew.least() as usize {
-            return self.activate_few(means, change, time);
+        if self.activity.joining.len() < context.crew.least() as usize {
+            return self.activate_few(context, change, time);
         }
-        self.activate_many(means, change, time)
+        self.activate_many(context, change, time)
     }
 
     /// Activates few modules: each is active before the next one's state is found.
     fn activate_few<R: Wait, G: Gate>(
         &mut self,
-        means: &RerunContext<'_, R, G>,
+        context: &RerunContext<'_, R, G>,
         change: &Change<'_>,
         time: u32,
     ) -> Result<(), AllocError>
-        requires allowed { IsAllowed (IsEntry change.now.old.now change.now.new.now) (G.may means.now.gate.now) }
+        requires allowed { IsAllowed (IsEntry change.now.old.now change.now.new.now) (G.may context.now.gate.now) }
         requires change { IsChange change.now }
         requires some { 0 < time }
         requires below { time < change.now.new.now.horizon }
@@ -82,7 +82,7 @@ impl Rerun {
             let id = self.activity.joining[place];
             if let Some(found) = change.new.module(id) {
                 if !self.activity.active[id.0 as usize] {
-                    self.activate_one(means, change, id, found, time)?;
+                    self.activate_one(context, change, id, found, time)?;
                 }
             }
         }
@@ -92,13 +92,13 @@ impl Rerun {
     /// A module passes the gate and becomes active before the unit of a time. Up to then it has slept.
     fn activate_one<R: Wait, G: Gate>(
         &mut self,
-        means: &RerunContext<'_, R, G>,
+        context: &RerunContext<'_, R, G>,
         change: &Change<'_>,
         id: ModuleId,
         found: &ModuleRecord,
         time: u32,
     ) -> Result<(), AllocError>
-        requires allowed { IsAllowed (IsEntry change.now.old.now change.now.new.now) (G.may means.now.gate.now) }
+        requires allowed { IsAllowed (IsEntry change.now.old.now change.now.new.now) (G.may context.now.gate.now) }
         requires change { IsChange change.now }
         requires some { 0 < time }
         requires below { time < change.now.new.now.horizon }
@@ -112,19 +112,19 @@ impl Rerun {
         ensures joined { OnOk result (self.new.activity.joined.items ≡ self.old.activity.joined.items ++ id ∷ []) }
     {
         let block = block_of(change.new.horizon(), time);
-        means.gate.enter(means.rt, id, block, self.window_end);
-        let memory = self.joining_state(means.alloc, change, id, found, time)?;
+        context.gate.enter(context.rt, id, block, self.window_end);
+        let memory = self.joining_state(context.alloc, change, id, found, time)?;
         self.activate(change, id, found, &memory, time)
     }
 
     /// Activates as many modules as the crew shares out: their states are found first, as tasks.
     fn activate_many<R: Threads + Wait + Sync, G: Gate + Sync>(
         &mut self,
-        means: &RerunContext<'_, R, G>,
+        context: &RerunContext<'_, R, G>,
         change: &Change<'_>,
         time: u32,
     ) -> Result<(), AllocError>
-        requires allowed { IsAllowed (IsEntry change.now.old.now change.now.new.now) (G.may means.now.gate.now) }
+        requires allowed { IsAllowed (IsEntry change.now.old.now change.now.new.now) (G.may context.now.gate.now) }
         requires change { IsChange change.now }
         requires some { 0 < time }
         requires below { time < change.now.new.now.horizon }
@@ -138,7 +138,7 @@ impl Rerun {
         ensures active { OnOk result (HaveBecomeLive change.now.new.now self.old.activity.joining.items (active_of self.old) (active_of self.new)) }
         ensures joined { OnOk result (HaveJoined self.old.activity.joining.items self.old.activity.joined.items self.new.activity.joined.items) }
     {
-        let states = self.joining_states(means, change, time)?;
+        let states = self.joining_states(context, change, time)?;
         for place in 0..self.activity.joining.len() {
             let id = self.activity.joining[place];
             if let Some(found) = change.new.module(id) {

@@ -26,11 +26,11 @@ impl Rerun {
     /// they are as many as it shares out.
     pub(crate) fn joining_states<R: Threads + Wait + Sync, G: Gate + Sync>(
         &self,
-        means: &RerunContext<'_, R, G>,
+        context: &RerunContext<'_, R, G>,
         change: &Change<'_>,
         time: u32,
     ) -> Result<Vec<Memory>, AllocError>
-        requires allowed { IsAllowed (IsEntry change.now.old.now change.now.new.now) (G.may means.now.gate.now) }
+        requires allowed { IsAllowed (IsEntry change.now.old.now change.now.new.now) (G.may context.now.gate.now) }
         requires change { IsChange change.now }
         requires kept { AreKept change.now.old.now change.now.new.now self.now.activity.joining.items }
         requires below { time < change.now.new.now.horizon }
@@ -38,21 +38,21 @@ impl Rerun {
         ensures { IfOk result (λ states. AreDone (IsOldState change.now.old.now time) self.now.activity.joining.items states.items) }
     {
         if block_of(change.new.horizon(), time) == time {
-            return self.kept_states(means, change, time);
+            return self.kept_states(context, change, time);
         }
         let joining = self.activity.joining.as_slice();
-        let tasks = tasks_of(means.alloc, change, joining, time, self.window_end)?;
-        states_by(means, tasks)
+        let tasks = tasks_of(context.alloc, change, joining, time, self.window_end)?;
+        states_by(context, tasks)
     }
 
     /// The states that the old run kept of the modules that join, where a block begins with the unit.
     fn kept_states<R: Wait, G: Gate>(
         &self,
-        means: &RerunContext<'_, R, G>,
+        context: &RerunContext<'_, R, G>,
         change: &Change<'_>,
         time: u32,
     ) -> Result<Vec<Memory>, AllocError>
-        requires allowed { IsAllowed (IsEntry change.now.old.now change.now.new.now) (G.may means.now.gate.now) }
+        requires allowed { IsAllowed (IsEntry change.now.old.now change.now.new.now) (G.may context.now.gate.now) }
         requires change { IsChange change.now }
         requires kept { AreKept change.now.old.now change.now.new.now self.now.activity.joining.items }
         requires below { time < change.now.new.now.horizon }
@@ -60,10 +60,10 @@ impl Rerun {
         requires begins { block_of change.now.new.now.horizon time ≡ time }
         ensures { IfOk result (λ states. AreDone (IsOldState change.now.old.now time) self.now.activity.joining.items states.items) }
     {
-        let mut states = Vec::with_capacity(means.alloc, self.activity.joining.len())?;
+        let mut states = Vec::with_capacity(context.alloc, self.activity.joining.len())?;
         for place in 0..self.activity.joining.len() {
             let id = self.activity.joining[place];
-            means.gate.enter(means.rt, id, time, self.window_end);
+            context.gate.enter(context.rt, id, time, self.window_end);
             states.push(old_state(change.run, id, time))?;
         }
         Ok(states)

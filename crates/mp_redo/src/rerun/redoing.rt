@@ -13,8 +13,8 @@ use crate::rerun::rerun_context::RerunContext;
 use mp_depend::WorkSpan;
 use mp_netlist::Netlist;
 use mp_partition::Run;
-use mp_phase::{Crew, Gate};
-use std::alloc::{AllocError, Global};
+use mp_phase::Gate;
+use std::alloc::AllocError;
 use std::sync::Wait;
 use std::thread::Threads;
 
@@ -25,44 +25,35 @@ use std::thread::Threads;
 /// it on the threads of the crew, where they are as many as it shares out. The calling thread does all else. Where memory runs out, the old
 /// run stays.
 pub fn redo<R: Threads + Wait + Sync, G: Gate + Sync>(
-    rt: &R,
-    alloc: Global,
+    context: &RerunContext<'_, R, G>,
     old: &Netlist,
     run: &Run,
     new: &Netlist,
-    crew: &Crew,
-    gate: &G,
 ) -> Result<(Run, Vec<WorkSpan>), AllocError>
-    requires allowed { IsAllowed (IsEntry old.now new.now) (G.may gate.now) }
+    requires allowed { IsAllowed (IsEntry old.now new.now) (G.may context.now.gate.now) }
     requires revision { IsRevision old.now new.now }
     requires run { IsRun old.now run.now }
     ensures run { IfOk result (λ both. IsRun new.now both.0) }
     ensures work_spans { IfOk result (λ both. AreWorkSpans old.now new.now both.1.items) }
 {
     let change = change_between(old, run, new);
-    let means = RerunContext {
-        rt,
-        alloc,
-        crew,
-        gate,
-    };
-    run_again(&means, &change)
+    run_again(context, &change)
 }
 
 /// Evaluates again what the change reaches, unit by unit, and returns the run with the spans of work in no order.
 fn run_again<R: Threads + Wait + Sync, G: Gate + Sync>(
-    means: &RerunContext<'_, R, G>,
+    context: &RerunContext<'_, R, G>,
     change: &Change<'_>,
 ) -> Result<(Run, Vec<WorkSpan>), AllocError>
-    requires allowed { IsAllowed (IsEntry change.now.old.now change.now.new.now) (G.may means.now.gate.now) }
+    requires allowed { IsAllowed (IsEntry change.now.old.now change.now.new.now) (G.may context.now.gate.now) }
     requires change { IsChange change.now }
     ensures run { IfOk result (λ both. IsRun change.now.new.now both.0) }
     ensures work_spans { IfOk result (λ both. AreWorkSpans change.now.old.now change.now.new.now both.1.items) }
 {
-    let mut rerun = Rerun::begin(means.alloc, change)?;
-    rerun.enter_window(means.rt, means.gate, change, 0);
-    let end = rerun.pass_all(means, change)?;
-    let both = rerun.finish(means.alloc, change, end)?;
+    let mut rerun = Rerun::begin(context.alloc, change)?;
+    rerun.enter_window(context.rt, context.gate, change, 0);
+    let end = rerun.pass_all(context, change)?;
+    let both = rerun.finish(context.alloc, change, end)?;
     Ok(both)
 }
 

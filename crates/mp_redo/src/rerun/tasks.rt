@@ -79,14 +79,14 @@ pub(crate) fn tasks_of(
 
 /// The states to which the tasks come: on the threads of the crew where there are as many as it shares out, and else on the calling thread.
 pub(crate) fn states_by<R: Threads + Wait + Sync, G: Gate + Sync>(
-    means: &RerunContext<'_, R, G>,
+    context: &RerunContext<'_, R, G>,
     tasks: Vec<Join>,
 ) -> Result<Vec<Memory>, AllocError>
-    requires allowed { AreAllowed Enters (G.may means.now.gate.now) tasks.items }
+    requires allowed { AreAllowed Enters (G.may context.now.gate.now) tasks.items }
     ensures { IfOk result (λ states. AreDone IsDone tasks.items states.items) }
 {
-    if tasks.len() < means.crew.least() as usize {
-        return run_here(means.rt, means.alloc, means.gate, tasks);
+    if tasks.len() < context.crew.least() as usize {
+        return run_here(context.rt, context.alloc, context.gate, tasks);
     }
-    means.crew.run(means.rt, means.alloc, means.gate, tasks)
+    context.crew.run(context.rt, context.alloc, context.gate, tasks)
 }

@@ -23,11 +23,11 @@ impl Rerun {
     /// wires change that no active module drives, and active modules answer.
     pub(crate) fn pass_unit<R: Threads + Wait + Sync, G: Gate + Sync>(
         &mut self,
-        means: &RerunContext<'_, R, G>,
+        context: &RerunContext<'_, R, G>,
         change: &Change<'_>,
         time: u32,
     ) -> Result<(), AllocError>
-        requires allowed { IsAllowed (IsEntry change.now.old.now change.now.new.now) (G.may means.now.gate.now) }
+        requires allowed { IsAllowed (IsEntry change.now.old.now change.now.new.now) (G.may context.now.gate.now) }
         requires change { IsChange change.now }
         requires some { 0 < time }
         requires below { time < change.now.new.now.horizon }
@@ -41,7 +41,7 @@ impl Rerun {
             return Ok(());
         }
         self.find_joining(change, time)?;
-        self.activate_all(means, change, time)?;
+        self.activate_all(context, change, time)?;
         self.set_wires(change, time)?;
         self.run_unit(time)?;
         Ok(())

@@ -24,10 +24,10 @@ impl Rerun {
     /// Goes through the units up to an end, which it returns: the horizon, or a time from which on the rest is that of the old run.
     pub(crate) fn pass_all<R: Threads + Wait + Sync, G: Gate + Sync>(
         &mut self,
-        means: &RerunContext<'_, R, G>,
+        context: &RerunContext<'_, R, G>,
         change: &Change<'_>,
     ) -> Result<u32, AllocError>
-        requires allowed { IsAllowed (IsEntry change.now.old.now change.now.new.now) (G.may means.now.gate.now) }
+        requires allowed { IsAllowed (IsEntry change.now.old.now change.now.new.now) (G.may context.now.gate.now) }
         requires change { IsChange change.now }
         requires before { IsUnderWay change.now.old.now change.now.new.now change.now.run.now 0 self.old }
         ensures { IfOk result (λ end. HasEnded change.now.old.now change.now.new.now change.now.run.now end self.new) }
@@ -35,11 +35,11 @@ impl Rerun {
         let horizon = change.new.horizon();
         let mut time = 1;
         while time < horizon {
-            match self.look_ahead(means.rt, means.gate, change, time)? {
+            match self.look_ahead(context.rt, context.gate, change, time)? {
                 NextStep::Next(next) => {
                     time = self.pass_still(change, next);
                     if time < self.window_end {
-                        self.pass_unit(means, change, time)?;
+                        self.pass_unit(context, change, time)?;
                         time += 1;
                     }
                 }

@@ -9,7 +9,7 @@ use mp_engine::{Crew, Gate, OpenGate, evaluate_here};
 use mp_modules::Kind;
 use mp_netlist::{ModuleId, Netlist, WireId};
 use mp_partition::Run;
-use mp_redo::redo;
+use mp_redo::{RerunContext, redo};
 use std::alloc::Global;
 use std::process::Abort;
 use std::sync::Wait;
@@ -98,7 +98,13 @@ fn assert_redone(
         entered: AtomicU64::new(0),
         met: AtomicU64::new(0),
     };
-    let (found, work) = redo(rt, alloc, old, run, new, &crew, &gate)?;
+    let context = RerunContext {
+        rt,
+        alloc,
+        crew: &crew,
+        gate: &gate,
+    };
+    let (found, work) = redo(&context, old, run, new)?;
     let known = rises(&found, 1) && rises(&found, 2);
     let met = gate.met.load(Ordering::SeqCst);
     drop(work);

@@ -9,7 +9,7 @@ use crate::making::passage_counter::{PassageCounter, counts};
 use mp_engine::{Crew, OpenGate, evaluate_here};
 use mp_netlist::Netlist;
 use mp_partition::Run;
-use mp_redo::redo;
+use mp_redo::{RerunContext, redo};
 use std::alloc::Global;
 use std::process::Abort;
 use std::sync::Wait;
@@ -40,7 +40,13 @@ fn assert_passed(
     requires revision { IsRevision old.now new.now }
     requires run { IsRun old.now run.now }
 {
-    let (found, work) = redo(rt, alloc, old, run, new, trial.crew, &trial.counter)?;
+    let context = RerunContext {
+        rt,
+        alloc,
+        crew: trial.crew,
+        gate: &trial.counter,
+    };
+    let (found, work) = redo(&context, old, run, new)?;
     let count = trial.counter.last_passed(&work);
     drop(work);
     drop(found);

@@ -10,7 +10,7 @@ use mp_engine::{Crew, OpenGate, evaluate_here};
 use mp_modules::Kind;
 use mp_netlist::{ModuleId, Netlist, WireId};
 use mp_partition::Run;
-use mp_redo::redo;
+use mp_redo::{RerunContext, redo};
 use std::alloc::Global;
 use std::process::Abort;
 use std::sync::Wait;
@@ -86,7 +86,13 @@ fn assert_resumed(
     requires run { IsRun old.now run.now }
 {
     let crew = Crew::new(1, 64)?;
-    let (found, work) = redo(rt, alloc, old, run, new, &crew, &OpenGate)?;
+    let context = RerunContext {
+        rt,
+        alloc,
+        crew: &crew,
+        gate: &OpenGate,
+    };
+    let (found, work) = redo(&context, old, run, new)?;
     let known = rises(&found) && is_resumed(&work);
     drop(work);
     drop(found);

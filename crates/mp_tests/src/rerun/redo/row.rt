@@ -13,7 +13,7 @@ use mp_engine::{OpenGate, evaluate_here};
 use mp_netlist::{Edit, ModuleId, Netlist, WireId};
 use mp_partition::Run;
 use mp_phase::{Crew, Gate};
-use mp_redo::rerun::redo;
+use mp_redo::rerun::{RerunContext, redo};
 use std::alloc::Global;
 use std::process::Abort;
 use std::sync::Wait;
@@ -95,7 +95,13 @@ fn redone<G: Watch + Sync>(
     requires open { IsOpen (G.may trial.now.gate.now) }
     ensures { IfOk result (λ found. IsRun new.now found) }
 {
-    let (found, work_spans) = redo(rt, alloc, old, run, new, trial.crew, trial.gate)?;
+    let context = RerunContext {
+        rt,
+        alloc,
+        crew: trial.crew,
+        gate: trial.gate,
+    };
+    let (found, work_spans) = redo(&context, old, run, new)?;
     let work = Work::of_change(old, new, work_spans);
     let known = has_waves(trial.row, &found) && trial.gate.is_content(&work);
     drop(work);

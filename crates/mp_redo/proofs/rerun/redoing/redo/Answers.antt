@@ -6,7 +6,7 @@ use Rattle.mp_redo.proofs.rerun.redoing.redo.Goals as goal
 
 pub run_again-requires-clause-allowed : goal.run_again-requires-clause-allowed
 run_again-requires-clause-allowed g c κs within =
-    let may = g.G.Gate.may c.args.gate.now in
+    let may = g.G.Gate.may c.args.context.now.gate.now in
     let between = c.change_between-change in
     subst (λ (n : Circuit). IsAllowed (IsEntry n between.result.new.now) may) (sym between.ensures.old)
     (subst (λ (n : Circuit). IsAllowed (IsEntry c.args.old.now n) may) (sym between.ensures.new) c.requires.allowed)

@@ -18,7 +18,7 @@ tasks_of-requires-clause-work g c =
 pub states_by-requires-clause-allowed : goal.states_by-requires-clause-allowed
 states_by-requires-clause-allowed g c κs within =
     let change = c.args.change.now in
-    tasks_allowed change.old.now change.new.now (g.G.Gate.may c.args.means.now.gate.now) c.requires.allowed c.in_ok-tasks.tasks.items c.in_ok-tasks.ensures.work
+    tasks_allowed change.old.now change.new.now (g.G.Gate.may c.args.context.now.gate.now) c.requires.allowed c.in_ok-tasks.tasks.items c.in_ok-tasks.ensures.work
 
 pub returns : goal.returns
 returns g c =
