@@ -1,3 +1,4 @@
 pub mod Asking
+pub mod Wires
 pub mod WordErrors
 pub mod explain

@@ -67,8 +67,13 @@ pub struct Request<'a> {
 }
 
 impl<'a> Request<'a> {
+    ghost use Rattle.std.specs.Prelude.{◌≡◌};
+    ghost use Rattle.mp_request.specs.Wires.{wires_of};
+
     /// The names of the wires that the command speaks of, as they were given.
-    pub fn wires(&self) -> &[&'a str] {
+    pub fn wires(&self) -> &[&'a str]
+        ensures { result.now ≡ wires_of self.now.command }
+    {
         match &self.command {
             Command::Show(picture) => picture.wires.as_slice(),
             Command::Why { wire, .. } | Command::Path { wire, .. } => slice::from_ref(wire),

@@ -1,5 +1,5 @@
 //! A desk that serves designers and viewers at named pipes.
-ghost use Rattle.std.specs.Prelude.{◌≡◌, ◌<◌, ◌≤◌, IfSome};
+ghost use Rattle.std.specs.Prelude.{◌≡◌, ◌<◌, ◌≤◌, IfSome, []};
 
 use crate::desk_files::{DeskFiles, PathNotice};
 use mp_commands::{
@@ -10,7 +10,7 @@ use mp_netlist::Netlist;
 use mp_phase::{Crew, OpenGate};
 use mp_seats::{HostFault, Pipes, Places};
 use mp_session::Session;
-use mp_streams::{Out, ReadSource, Source, TakeError, WriteSink};
+use mp_streams::{Out, ReadSource, Sink, Source, TakeError, WriteSink};
 use mp_text::LineReader;
 use mp_version::EditSession;
 use std::fs::File;
@@ -27,6 +27,9 @@ const DESIGNER_SEATS: u32 = 8;
 
 /// How many seats there may be for viewers.
 const VIEWER_SEATS: u32 = 24;
+
+/// The session of a live desk, whose accepted edits are appended to a file.
+type KeptSession<'a> = Journaled<Session<OpenGate>, WriteSink<File>, PathNotice<'a>>;
 
 /// The folder of a live desk, and who evaluates there.
 #[derive(Clone, Copy)]
@@ -119,18 +122,31 @@ fn keep_desk<R: Runtime + Threads + Wait + Sync + AllocGlobal>(
     };
     let journal = Journal::new(rt.alloc(), WriteSink::new(file), notice)?;
     let session = Journaled::new(session, journal);
+    let mut lines = LineReader::new(rt.alloc(), ReadSource::new(rt.reader()))?;
+    let mut out = Out::new(rt.alloc(), WriteSink::new(io::writer(rt)))?;
+    serve_lines(rt, desk, session, &mut lines, &mut out)
+}
+
+/// Serves those who come to the pipes and answers these lines meanwhile. Then it writes what `desk` writes, and the netlist into the folder.
+fn serve_lines<R: Eprint + Threads + Wait + Sync + AllocGlobal, I: Source, T: Sink>(
+    rt: &R,
+    desk: &LiveDesk<'_>,
+    session: KeptSession<'_>,
+    lines: &mut LineReader<I>,
+    out: &mut Out<T>,
+) -> Result<u8, RunFault>
+    requires { out.old.held ≡ [] }
+{
     let scribe = SeatScribe {
         alloc: rt.alloc(),
         crew: desk.crew,
     };
-    let mut lines = LineReader::new(rt.alloc(), ReadSource::new(rt.reader()))?;
-    let mut out = Out::new(rt.alloc(), WriteSink::new(io::writer(rt)))?;
-    let met = match desk.pipes.host(rt, session, scribe, &mut lines, &mut out) {
+    let met = match desk.pipes.host(rt, session, scribe, lines, out) {
         Ok(met) => met,
         Err(fault) => return Err(fault_of_host(fault)),
     };
     let is_written = is_netlist_written(rt, desk, met.session.version().now());
-    put_met(&mut out, &met, desk.crew)?;
+    put_met(out, &met, desk.crew)?;
     out.flush()?;
     if is_written && met.session.journal().is_whole() {
         Ok(0)
