@@ -9,7 +9,7 @@ mod run_fault;
 mod viewed;
 
 pub use check_run::run_check;
-pub use command::{Command, run_command};
+pub use command::{InputCommand, run_command};
 pub use opening::{opened, read_opening};
 pub use options::Options;
 pub use run_fault::{RunFault, exit_status, fault_line};

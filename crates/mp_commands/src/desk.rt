@@ -3,7 +3,7 @@ ghost use Rattle.std.specs.Prelude.{◌≡◌, ◌≤◌, length, IfOk, IfSome, 
 ghost use Rattle.mp_commands.specs.Names.{lines_of, first_part, lines_of_each, opening_of};
 ghost use Rattle.mp_commands.specs.Desks.{IsDeskText, blocks_of, has_valid_desk};
 
-use crate::command_runs::{Command, Options, RunFault, opened};
+use crate::command_runs::{InputCommand, Options, RunFault, opened};
 use crate::meeting_faults::fault_of_meeting;
 use crate::met_lines::put_met;
 use crate::sessions::Sessions;
@@ -23,7 +23,7 @@ pub struct DeskCommand<P: Sessions + Drop> {
     pub sessions: P,
 }
 
-impl<P: Sessions + Drop> Command for DeskCommand<P> {
+impl<P: Sessions + Drop> InputCommand for DeskCommand<P> {
     ghost opening = { λ _ input options. opening_of (first_part (lines_of input)) (has_valid_desk (length (blocks_of input)) options) };
 
     ghost IsText = { λ _ input options n text. IsDeskText n (blocks_of input) options.viewers text };

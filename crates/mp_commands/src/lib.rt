@@ -24,8 +24,8 @@ pub use answers::{
     Snapshot, put_accepted, put_answer, put_coded, put_refused, put_too_long, put_unread,
 };
 pub use command_runs::{
-    Command, Options, RunFault, Viewed, exit_status, fault_line, opened, read_opening, run_check,
-    run_command,
+    InputCommand, Options, RunFault, Viewed, exit_status, fault_line, opened, read_opening,
+    run_check, run_command,
 };
 pub use desk::DeskCommand;
 pub use live::{Prompted, SeatScribe, fault_of_talk};

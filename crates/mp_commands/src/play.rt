@@ -4,7 +4,7 @@ ghost use Rattle.mp_commands.specs.Names.{lines_of, first_part, later_parts, has
 ghost use Rattle.mp_commands.specs.Keepers.{opened as opened_kept};
 ghost use Rattle.mp_commands.specs.Plays.{AreReplies, PutsReplies};
 
-use crate::command_runs::{Command, Options, RunFault, opened};
+use crate::command_runs::{InputCommand, Options, RunFault, opened};
 use crate::replies::put_reply;
 use crate::script_session::ScriptSession;
 use crate::sessions::Sessions;
@@ -21,7 +21,7 @@ pub struct Play<P: Sessions + Drop> {
     pub sessions: P,
 }
 
-impl<P: Sessions + Drop> Command for Play<P> {
+impl<P: Sessions + Drop> InputCommand for Play<P> {
     ghost opening = { λ _ input options. opening_of (first_part (lines_of input)) (has_valid_crew options) };
 
     ghost IsText = { λ _ input _ n text. AreReplies (opened_kept n) (later_parts (lines_of input)) text };

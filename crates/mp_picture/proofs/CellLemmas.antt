@@ -9,8 +9,8 @@ use Rattle.mp_wave.specs.Waveform.{Waveform, IsWaveform, AreChanges, level_from,
 use Rattle.mp_wave.proofs.PrefixLemmas.{AreChanges-between, cut_levels}
 use Rattle.mp_wave.proofs.WaveformLemmas.{level_from-before, level_from-rest}
 use Rattle.mp_modules.specs.Histories.{has_event}
-use Rattle.mp_picture.specs.declared.cell.Cell.{Cell}
-use Rattle.mp_picture.specs.declared.cell.Events.{Events}
+use Rattle.mp_picture.specs.declared.cell.ColumnCell.{ColumnCell}
+use Rattle.mp_picture.specs.declared.cell.ColumnEvents.{ColumnEvents}
 use Rattle.mp_picture.specs.declared.columns.Columns.{Columns}
 use Rattle.mp_picture.specs.Columns.{count, begin, end}
 use Rattle.mp_picture.specs.Cells.{events_of, cell_at}
@@ -138,17 +138,17 @@ module _ (f : ℕ → ℕ) (c : Columns) (j v : ℕ) (rest : List (ℕ × ℕ)) 
     levels = λ t low high. parts.levels t (omega (arith, low, next_reached, before)) ∙ is.levels t (omega (arith, low, next_reached, before)) high;
   }
 
-  cell_is : (events : Events) (level : ℕ) → events ≡ events_of k → level ≡ last_from v (take k rest) → cell_at f c j ≡ record { events = events; level = level }
+  cell_is : (events : ColumnEvents) (level : ℕ) → events ≡ events_of k → level ≡ last_from v (take k rest) → cell_at f c j ≡ record { events = events; level = level }
   cell_is events level events_are level_is =
-      ap (λ (e : Events). let r : Cell = record { events = e; level = (cell_at f c j).level } in r) (cell_events ∙ sym events_are)
-      ∙ ap (λ (l : ℕ). let r : Cell = record { events = events; level = l } in r) (cell_level ∙ sym level_is)
+      ap (λ (e : ColumnEvents). let r : ColumnCell = record { events = e; level = (cell_at f c j).level } in r) (cell_events ∙ sym events_are)
+      ∙ ap (λ (l : ℕ). let r : ColumnCell = record { events = events; level = l } in r) (cell_level ∙ sym level_is)
 
   -- the cell of a column, and what is left behind it, by the changes before its end
-  pub record IsStep (new : ℕ) (later : List (ℕ × ℕ)) (events : Events) : Type 0 where
+  pub record IsStep (new : ℕ) (later : List (ℕ × ℕ)) (events : ColumnEvents) : Type 0 where
     pub cell : cell_at f c j ≡ record { events = events; level = new }
     pub left : IsRest f c (j + 1) new later
 
-  pub step : (e count new : ℕ) (now later : List (ℕ × ℕ)) (events : Events) → e ≡ end c j → count ≡ prefix_len (λ (x : ℕ × ℕ). nat_lt x.0 e) rest
+  pub step : (e count new : ℕ) (now later : List (ℕ × ℕ)) (events : ColumnEvents) → e ≡ end c j → count ≡ prefix_len (λ (x : ℕ × ℕ). nat_lt x.0 e) rest
       → now ≡ take count rest → later ≡ drop count rest → new ≡ last_from v now → events ≡ events_of count → IsStep new later events
   step e count new now later events is_end is_count is_now is_later is_new is_events =
       let same : count ≡ k = is_count ∙ ap (λ m. prefix_len (λ (x : ℕ × ℕ). nat_lt x.0 m) rest) is_end in
@@ -160,10 +160,10 @@ module _ (f : ℕ → ℕ) (c : Columns) (j v : ℕ) (rest : List (ℕ × ℕ)) 
       }
 
 -- one cell more
-pub cells_more : (f : ℕ → ℕ) (c : Columns) (j : ℕ) (old new : List Cell) (x : Cell) → new ≡ old ++ x ∷ [] → old ≡ map (cell_at f c) (range_with_len 0 j) → cell_at f c j ≡ x
+pub cells_more : (f : ℕ → ℕ) (c : Columns) (j : ℕ) (old new : List ColumnCell) (x : ColumnCell) → new ≡ old ++ x ∷ [] → old ≡ map (cell_at f c) (range_with_len 0 j) → cell_at f c j ≡ x
     → new ≡ map (cell_at f c) (range_with_len 0 (j + 1))
 cells_more f c j old new x added done is =
-    added ∙ ap (λ l. l ++ x ∷ []) done ∙ ap (λ (y : Cell). map (cell_at f c) (range_with_len 0 j) ++ y ∷ []) (sym is) ∙ sym (map-range_with_len_more (cell_at f c) 0 j j (zero-add j))
+    added ∙ ap (λ l. l ++ x ∷ []) done ∙ ap (λ (y : ColumnCell). map (cell_at f c) (range_with_len 0 j) ++ y ∷ []) (sym is) ∙ sym (map-range_with_len_more (cell_at f c) 0 j j (zero-add j))
 
 -- the changes in a range are those from its first column on
 pub rest_first : (wave : Waveform) (c : Columns) → IsWaveform wave → c.from < c.to → IsRest (level_of wave) c 0 (level_of wave c.from) (between c.from c.to wave.changes)

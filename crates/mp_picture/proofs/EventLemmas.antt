@@ -4,8 +4,8 @@ use Rattle.std.proofs.lemmas.Bool.{cases_lt, eqb-true, eqb-false}
 use Rattle.std.proofs.lemmas.List.FromFn.{get_or-map-range_with_len}
 use Rattle.std.specs.List.{count_by, range_with_len}
 use Rattle.mp_modules.specs.Histories.{has_event}
-use Rattle.mp_picture.specs.declared.cell.Cell.{Cell}
-use Rattle.mp_picture.specs.declared.cell.Events.TheVariants.{None, One, More}
+use Rattle.mp_picture.specs.declared.cell.ColumnCell.{ColumnCell}
+use Rattle.mp_picture.specs.declared.cell.ColumnEvents.TheVariants.{None, One, More}
 use Rattle.mp_picture.specs.Columns.{count}
 use Rattle.mp_picture.specs.Cells.{cell, cell_at, cells, event_count, events_of}
 use Rattle.mp_picture.specs.CellLaws.{IsOnlyChange, opens, StaysWithout, ChangesAtOne, TellsEvents, TellsLevels}
@@ -171,4 +171,4 @@ tells_events f first lo hi within some = (cell_has f first lo hi within some, λ
 
 pub tells_levels : TellsLevels
 unfolding cells
-tells_levels f c j d below = ap (λ (x : Cell). x.level) (get_or-map-range_with_len (cell_at f c) 0 (count c) j j d below (zero-add j))
+tells_levels f c j d below = ap (λ (x : ColumnCell). x.level) (get_or-map-range_with_len (cell_at f c) 0 (count c) j j d below (zero-add j))

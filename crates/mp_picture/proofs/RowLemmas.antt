@@ -3,7 +3,7 @@ use Rattle.std.proofs.Common.{◌≡◌, ℕ, ◌+◌, ◌-◌, ◌<◌, ◌≤�
 use Rattle.std.proofs.lemmas.Bool.Decides.{nat_tests}
 use Rattle.std.specs.List.{flat_map, prefix_len, range_with_len, repeat}
 use Rattle.std.proofs.lemmas.Grind.{flat_map-append}
-use Rattle.mp_picture.specs.declared.cell.Cell.{Cell}
+use Rattle.mp_picture.specs.declared.cell.ColumnCell.{ColumnCell}
 use Rattle.mp_picture.specs.declared.layout.DiagramLayout.{DiagramLayout}
 use Rattle.mp_picture.specs.declared.mark.Mark.TheVariants.{Flat, Cross}
 use Rattle.mp_picture.specs.declared.numerals.Numerals.{Numerals}
@@ -66,7 +66,7 @@ run_none layout level room lt =
 -- ---- wider wires
 
 -- behind the columns at the front without an event, there is one with
-pub stops : (cells : List Cell) → prefix_len is_still (drop (prefix_len is_still cells) cells) ≡ 0
+pub stops : (cells : List ColumnCell) → prefix_len is_still (drop (prefix_len is_still cells) cells) ≡ 0
 stops [] = refl
 stops (cell ∷ cells) = by (is_still cell) refl (stops cells)
   where
@@ -82,10 +82,10 @@ module _ (layout : DiagramLayout) where
   flat = mark_text layout.charset Flat
 
   -- digits that fit stand in the columns at the front without an event, and flat characters behind them
-  abbrev Runs : List ℕ → List Cell → ℕ → Type 0
+  abbrev Runs : List ℕ → List ColumnCell → ℕ → Type 0
   Runs ds cells k = wide_from layout ds cells ≡ ds ++ (repeat (k - length ds) flat ++ wide_from layout [] (drop k cells))
 
-  module _ (cell : Cell) (cells : List Cell) where
+  module _ (cell : ColumnCell) (cells : List ColumnCell) where
     abbrev crossed : List ℕ
     crossed = mark_text layout.charset Cross ++ wide_from layout (fitting layout.numerals cell.level (prefix_len is_still cells)) cells
 
@@ -111,13 +111,13 @@ module _ (layout : DiagramLayout) where
         subst (λ (n : ℕ). stilled (d ∷ ds) ≡ (d ∷ ds) ++ (repeat (n - length (d ∷ ds)) flat ++ wide_from layout [] (drop n (cell ∷ cells)))) more
         (ap (λ l. d ∷ l) (later ds (omega (arith, room, more)) ∙ ap (λ n. ds ++ (repeat n flat ++ wide_from layout [] (drop m cells))) same))
 
-  wide_run : (ds : List ℕ) (cells : List Cell) → length ds ≤ prefix_len is_still cells → Runs ds cells (prefix_len is_still cells)
+  wide_run : (ds : List ℕ) (cells : List ColumnCell) → length ds ≤ prefix_len is_still cells → Runs ds cells (prefix_len is_still cells)
   wide_run [] [] room = refl
   wide_run (d ∷ ds) [] room = absurd (omega (arith, room))
   wide_run ds (cell ∷ cells) room = run_by cell cells ds (is_still cell) (prefix_len is_still (cell ∷ cells)) (prefix_len is_still cells) refl refl refl room (λ es le. wide_run es cells le)
 
   -- from columns that may begin with some without an event, those and then the others
-  pub wide_fitting : (level : ℕ) (cells : List Cell) → wide_from layout (fitting layout.numerals level (prefix_len is_still cells)) cells
+  pub wide_fitting : (level : ℕ) (cells : List ColumnCell) → wide_from layout (fitting layout.numerals level (prefix_len is_still cells)) cells
       ≡ run_text layout level (prefix_len is_still cells) ++ wide_from layout [] (drop (prefix_len is_still cells) cells)
   wide_fitting level cells =
       let k = prefix_len is_still cells in
@@ -125,16 +125,16 @@ module _ (layout : DiagramLayout) where
       wide_run ds cells (fitting_fits layout.numerals level k) ∙ sym (append_assoc ds (repeat (k - length ds) flat) (wide_from layout [] (drop k cells)))
 
   -- a row begins with a level
-  pub wide_first : (cells : List Cell) (cell : Cell) (k : ℕ) → 0 < length cells → cell ≡ get_or cells 0 cell → k ≡ prefix_len is_still cells
+  pub wide_first : (cells : List ColumnCell) (cell : ColumnCell) (k : ℕ) → 0 < length cells → cell ≡ get_or cells 0 cell → k ≡ prefix_len is_still cells
       → wide_text layout cells ≡ run_text layout cell.level k ++ wide_from layout [] (drop k cells)
   wide_first [] cell k some is count = absurd (omega (arith, some))
   wide_first (x ∷ xs) cell k some is count =
       wide_fitting x.level (x ∷ xs)
       ∙ ap (λ n. run_text layout x.level n ++ wide_from layout [] (drop n (x ∷ xs))) (sym count)
-      ∙ ap (λ (y : Cell). run_text layout y.level k ++ wide_from layout [] (drop k (x ∷ xs))) (sym is)
+      ∙ ap (λ (y : ColumnCell). run_text layout y.level k ++ wide_from layout [] (drop k (x ∷ xs))) (sym is)
 
   -- a column with an event, and the columns without one behind it
-  pub wide_next : (cells : List Cell) (cell : Cell) (later : List Cell) (k : ℕ) → cells ≡ cell ∷ later → k ≡ prefix_len is_still later → prefix_len is_still cells ≡ 0
+  pub wide_next : (cells : List ColumnCell) (cell : ColumnCell) (later : List ColumnCell) (k : ℕ) → cells ≡ cell ∷ later → k ≡ prefix_len is_still later → prefix_len is_still cells ≡ 0
       → wide_from layout [] cells ≡ mark_text layout.charset Cross ++ (run_text layout cell.level k ++ wide_from layout [] (drop k later))
   wide_next cells cell later k is count stopped =
       ap (wide_from layout []) is
@@ -147,19 +147,19 @@ module _ (layout : DiagramLayout) where
       by false none = refl
 
 -- what is written and what is to come
-pub joined : (layout : DiagramLayout) (new old text : List ℕ) (rest later : List Cell) (whole : List ℕ) → new ≡ old ++ text → rest ≡ later → whole ≡ text ++ wide_from layout [] later
+pub joined : (layout : DiagramLayout) (new old text : List ℕ) (rest later : List ColumnCell) (whole : List ℕ) → new ≡ old ++ text → rest ≡ later → whole ≡ text ++ wide_from layout [] later
     → new ++ wide_from layout [] rest ≡ old ++ whole
 joined layout new old text rest later whole is same all =
     ap (λ l. l ++ wide_from layout [] rest) is
     ∙ append_assoc old text (wide_from layout [] rest)
-    ∙ ap (λ (l : List Cell). old ++ (text ++ wide_from layout [] l)) same
+    ∙ ap (λ (l : List ColumnCell). old ++ (text ++ wide_from layout [] l)) same
     ∙ ap (λ l. old ++ l) (sym all)
 
-pub stops_at : (cells rest : List Cell) (k : ℕ) → rest ≡ drop k cells → k ≡ prefix_len is_still cells → prefix_len is_still rest ≡ 0
+pub stops_at : (cells rest : List ColumnCell) (k : ℕ) → rest ≡ drop k cells → k ≡ prefix_len is_still cells → prefix_len is_still rest ≡ 0
 stops_at cells rest k is count = ap (prefix_len is_still) (is ∙ ap (λ n. drop n cells) count) ∙ stops cells
 
 -- a column with an event is written, and the columns without one behind it
-pub wide_step : (layout : DiagramLayout) (row crossed new cross total : List ℕ) (cells : List Cell) (cell : Cell) (later rest : List Cell) (k : ℕ)
+pub wide_step : (layout : DiagramLayout) (row crossed new cross total : List ℕ) (cells : List ColumnCell) (cell : ColumnCell) (later rest : List ColumnCell) (k : ℕ)
     → crossed ≡ row ++ cross → cross ≡ mark_text layout.charset Cross → new ≡ crossed ++ run_text layout cell.level k → cells ≡ cell ∷ later → rest ≡ drop k later
     → k ≡ prefix_len is_still later → prefix_len is_still cells ≡ 0 → row ++ wide_from layout [] cells ≡ total → new ++ wide_from layout [] rest ≡ total
 wide_step layout row crossed new cross total cells cell later rest k added is more begins left count stopped whole =
@@ -172,6 +172,6 @@ wide_step layout row crossed new cross total cells cell later rest k added is mo
     ∙ whole
 
 -- nothing is to come
-pub wide_over : (layout : DiagramLayout) (row total : List ℕ) (rest : List Cell) → length rest ≡ 0 → row ++ wide_from layout [] rest ≡ total → row ≡ total
+pub wide_over : (layout : DiagramLayout) (row total : List ℕ) (rest : List ColumnCell) → length rest ≡ 0 → row ++ wide_from layout [] rest ≡ total → row ≡ total
 wide_over layout row total [] none whole = sym (append-nil row) ∙ whole
 wide_over layout row total (x ∷ rest) none whole = absurd (omega (arith, none))

@@ -9,7 +9,7 @@ use Rattle.mp_records.specs.declared.wire_record.WireRecord.{WireRecord}
 use Rattle.mp_netlist.specs.Slots.{slot_at}
 use Rattle.mp_netlist.specs.Circuit.{Circuit, wire_at}
 use Rattle.mp_model.specs.Waves.{level, wave, slot_wave, AreWavesOf}
-use Rattle.mp_picture.specs.declared.cell.Cell.{Cell}
+use Rattle.mp_picture.specs.declared.cell.ColumnCell.{ColumnCell}
 use Rattle.mp_picture.specs.declared.columns.Columns.{Columns}
 use Rattle.mp_picture.specs.Columns.{begin, end, count}
 use Rattle.mp_picture.proofs.ColumnLemmas.{begins_within}
@@ -36,15 +36,15 @@ module _ (f g : ℕ → ℕ) (most : ℕ) (same : (t : ℕ) → t < most → f t
     -- a column that begins behind the range has no units
     same_cell : (j : ℕ) → begin c j < c.to → cell_at f c j ≡ cell_at g c j
     same_cell j inside =
-        ap (λ k. let x : Cell = record { events = events_of k; level = f (end c j - 1) } in x)
+        ap (λ k. let x : ColumnCell = record { events = events_of k; level = f (end c j - 1) } in x)
         (same_events (max (begin c j) (c.from + 1)) (end c j) (omega (arith, inside, some, within)) (omega (arith, within)))
-        ∙ ap (λ v. let x : Cell = record { events = (cell_at g c j).events; level = v } in x) (same (end c j - 1) (omega (arith, some, within)))
+        ∙ ap (λ v. let x : ColumnCell = record { events = (cell_at g c j).events; level = v } in x) (same (end c j - 1) (omega (arith, some, within)))
 
     same_cells : (n a : ℕ) → ((j : ℕ) → a ≤ j → j < a + n → begin c j < c.to) → map (cell_at f c) (range_with_len a n) ≡ map (cell_at g c) (range_with_len a n)
     same_cells zero a inside = refl
     same_cells (suc n) a inside =
-        ap (λ (x : Cell). x ∷ map (cell_at f c) (range_with_len (a + 1) n)) (same_cell a (inside a (omega arith) (omega arith)))
-        ∙ ap (λ (xs : List Cell). cell_at g c a ∷ xs) (same_cells n (a + 1) (λ j low high. inside j (omega (arith, low)) (omega (arith, high))))
+        ap (λ (x : ColumnCell). x ∷ map (cell_at f c) (range_with_len (a + 1) n)) (same_cell a (inside a (omega arith) (omega arith)))
+        ∙ ap (λ (xs : List ColumnCell). cell_at g c a ∷ xs) (same_cells n (a + 1) (λ j low high. inside j (omega (arith, low)) (omega (arith, high))))
 
 -- a wave has the cells of its wire
 pub wave_cells : (n : Circuit) (w : ℕ) (found : Waveform) (c : Columns) → c.from < c.to → 0 < c.units → c.to ≤ n.horizon → found ≡ wave n w

@@ -1,7 +1,7 @@
 -- What cells say of a level over time.
 use Rattle.std.specs.Prelude.{◌≡◌, ◌≢◌, ℕ, ◌+◌, ◌-◌, ◌<◌, ◌≤◌, ◌↔◌, max, slice_index_or}
-use Rattle.mp_picture.specs.declared.cell.Cell.{Cell}
-use Rattle.mp_picture.specs.declared.cell.Events.TheVariants.{None, One}
+use Rattle.mp_picture.specs.declared.cell.ColumnCell.{ColumnCell}
+use Rattle.mp_picture.specs.declared.cell.ColumnEvents.TheVariants.{None, One}
 use Rattle.mp_picture.specs.declared.columns.Columns.{Columns}
 use Rattle.mp_picture.specs.Columns.{count, end}
 use Rattle.mp_picture.specs.Cells.{cell, cells}
@@ -34,4 +34,4 @@ TellsEvents = (f : ℕ → ℕ) (first lo hi : ℕ) → first ≤ lo → lo < hi
 
 -- the cells of a level tell it at the end of each column
 abbrev pub TellsLevels : Type 0
-TellsLevels = (f : ℕ → ℕ) (c : Columns) (j : ℕ) (d : Cell) → j < count c → (slice_index_or (cells f c) j d).level ≡ f (end c j - 1)
+TellsLevels = (f : ℕ → ℕ) (c : Columns) (j : ℕ) (d : ColumnCell) → j < count c → (slice_index_or (cells f c) j d).level ≡ f (end c j - 1)

@@ -1,8 +1,8 @@
 -- What stands in a column of a wire's row.
 use Rattle.std.specs.Prelude.{ℕ, ◌==◌, List, [], ◌∷◌, codes, if◌then◌else◌}
-use Rattle.mp_picture.specs.declared.cell.Cell.{Cell}
-use Rattle.mp_picture.specs.declared.cell.Events.{Events}
-use Rattle.mp_picture.specs.declared.cell.Events.TheVariants.{None, One, More}
+use Rattle.mp_picture.specs.declared.cell.ColumnCell.{ColumnCell}
+use Rattle.mp_picture.specs.declared.cell.ColumnEvents.{ColumnEvents}
+use Rattle.mp_picture.specs.declared.cell.ColumnEvents.TheVariants.{None, One, More}
 use Rattle.mp_picture.specs.declared.mark.Charset.{Charset}
 use Rattle.mp_picture.specs.declared.mark.Charset.TheVariants.{Unicode, Ascii}
 use Rattle.mp_picture.specs.declared.mark.Mark.{Mark}
@@ -12,12 +12,12 @@ abbrev pub level_mark : ℕ → Mark
 level_mark level = if level == 0 then Low else High
 
 -- the mark of a wire of width 1 by its events, the units of a column and its level at the column's end
-abbrev pub events_mark : Events → ℕ → ℕ → Mark
+abbrev pub events_mark : ColumnEvents → ℕ → ℕ → Mark
 events_mark None units level = level_mark level
 events_mark One units level = if units == 1 then level_mark level else if level == 0 then Fall else Rise
 events_mark More units level = Busy
 
-abbrev pub bit_mark : ℕ → Cell → Mark
+abbrev pub bit_mark : ℕ → ColumnCell → Mark
 bit_mark units cell = events_mark cell.events units cell.level
 
 -- the characters U+2581, U+2594, U+2571, U+2572, U+2592, U+2550 and U+2573 in UTF-8

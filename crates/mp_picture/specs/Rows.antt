@@ -3,9 +3,9 @@ use Rattle.std.specs.Prelude.{ℕ, ◌-◌, ◌*◌, ◌/◌, ◌==◌, nat_le, 
 use Rattle.std.specs.List.{flat_map, prefix_len, repeat, range_with_len}
 use Rattle.std.specs.Fmt.{decimal}
 use Rattle.mp_records.specs.declared.wire_record.WireRecord.{WireRecord}
-use Rattle.mp_picture.specs.declared.cell.Cell.{Cell}
-use Rattle.mp_picture.specs.declared.cell.Events.{Events}
-use Rattle.mp_picture.specs.declared.cell.Events.TheVariants.{None, One, More}
+use Rattle.mp_picture.specs.declared.cell.ColumnCell.{ColumnCell}
+use Rattle.mp_picture.specs.declared.cell.ColumnEvents.{ColumnEvents}
+use Rattle.mp_picture.specs.declared.cell.ColumnEvents.TheVariants.{None, One, More}
 use Rattle.mp_picture.specs.declared.columns.Columns.{Columns}
 use Rattle.mp_picture.specs.declared.layout.DiagramLayout.{DiagramLayout}
 use Rattle.mp_picture.specs.declared.mark.Charset.{Charset}
@@ -45,18 +45,18 @@ ruler layout =
 
 -- ---- wires of width 1
 
-abbrev pub narrow_text : Charset → ℕ → List Cell → List ℕ
+abbrev pub narrow_text : Charset → ℕ → List ColumnCell → List ℕ
 narrow_text charset units cells = flat_map (λ cell. mark_text charset (bit_mark units cell)) cells
 
 -- ---- wider wires
 
-abbrev pub has_none : Events → Bool
+abbrev pub has_none : ColumnEvents → Bool
 has_none None = true
 has_none One = false
 has_none More = false
 
 -- a cell without an event
-abbrev pub is_still : Cell → Bool
+abbrev pub is_still : ColumnCell → Bool
 is_still cell = has_none cell.events
 
 -- the text of a level, where there are so many columns for it
@@ -69,14 +69,14 @@ character_or_flat charset [] = mark_text charset Flat
 character_or_flat charset (character ∷ text) = character ∷ []
 
 -- a column each, where a level's text may still stand: a cross with an event, behind which stands the level in the columns without one, where it fits
-abbrev pub wide_from : DiagramLayout → List ℕ → List Cell → List ℕ
+abbrev pub wide_from : DiagramLayout → List ℕ → List ColumnCell → List ℕ
 wide_from layout text [] = []
 wide_from layout text (cell ∷ cells) =
     if is_still cell then character_or_flat layout.charset text ++ wide_from layout (drop 1 text) cells
     else mark_text layout.charset Cross ++ wide_from layout (fitting layout.numerals cell.level (prefix_len is_still cells)) cells
 
 -- the level of the first column stands from there on, where it fits
-abbrev pub wide_text : DiagramLayout → List Cell → List ℕ
+abbrev pub wide_text : DiagramLayout → List ColumnCell → List ℕ
 wide_text layout [] = []
 wide_text layout (cell ∷ cells) = wide_from layout (fitting layout.numerals cell.level (prefix_len is_still (cell ∷ cells))) (cell ∷ cells)
 
@@ -88,9 +88,9 @@ run_text layout level room =
 
 -- ---- a wire
 
-abbrev pub row_text : DiagramLayout → ℕ → List Cell → List ℕ
+abbrev pub row_text : DiagramLayout → ℕ → List ColumnCell → List ℕ
 row_text layout width cells = if width == 1 then narrow_text layout.charset layout.columns.units cells else wide_text layout cells
 
 -- its name, filled to the width of the names, a character a column and a line feed
-abbrev pub wire_row : DiagramLayout → WireRecord → List Cell → List ℕ
+abbrev pub wire_row : DiagramLayout → WireRecord → List ColumnCell → List ℕ
 wire_row layout wire cells = padded layout.margin wire.name ++ (row_text layout wire.width cells ++ (10 ∷ []))

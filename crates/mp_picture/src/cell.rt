@@ -11,7 +11,7 @@ use std::alloc::{AllocError, Global};
 
 /// How many events a wire has in a column.
 #[derive(Clone, Copy, Debug, PartialEq, Eq)]
-pub enum Events {
+pub enum ColumnEvents {
     None,
     One,
     More,
@@ -19,14 +19,14 @@ pub enum Events {
 
 /// What a wire does in a column: its events, and its level at the column's last unit.
 #[derive(Clone, Copy, Debug, PartialEq, Eq)]
-pub struct Cell {
-    pub events: Events,
+pub struct ColumnCell {
+    pub events: ColumnEvents,
     pub level: u64,
 }
 
 /// The cell of a wave in each column, by one pass over the changes in the range. An event is a difference from the unit before; what
 /// lies at the range's first unit isn't one.
-pub fn cells(alloc: Global, wave: &Wave, columns: Columns) -> Result<Vec<Cell>, AllocError>
+pub fn cells(alloc: Global, wave: &Wave, columns: Columns) -> Result<Vec<ColumnCell>, AllocError>
     ensures { IfOk result (λ list. list.items ≡ cells (level_of wave.now) columns) }
 {
     let mut list = Vec::with_capacity(alloc, columns.count() as usize)?;
@@ -36,7 +36,7 @@ pub fn cells(alloc: Global, wave: &Wave, columns: Columns) -> Result<Vec<Cell>, 
         let count = count_before(rest, columns.end(column));
         level = last_level(level, rest.before_place(count));
         rest = rest.from_place(count);
-        list.push(Cell {
+        list.push(ColumnCell {
             events: events_of(count),
             level,
         })?;
@@ -67,12 +67,12 @@ fn last_level(level: u64, changes: WaveChanges<'_>) -> u64
     }
 }
 
-fn events_of(count: usize) -> Events
+fn events_of(count: usize) -> ColumnEvents
     ensures { result ≡ events_of count }
 {
     match count {
-        0 => Events::None,
-        1 => Events::One,
-        _ => Events::More,
+        0 => ColumnEvents::None,
+        1 => ColumnEvents::One,
+        _ => ColumnEvents::More,
     }
 }

@@ -26,7 +26,7 @@ mod row;
 mod ruler;
 pub mod svg;
 
-pub use cell::{Cell, Events, cells};
+pub use cell::{ColumnCell, ColumnEvents, cells};
 pub use columns::Columns;
 pub use diagram::put_diagram;
 pub use found::{found_within, is_place, place_name, rows_of};

@@ -2,7 +2,7 @@
 ghost use Rattle.std.specs.Prelude.{◌≡◌};
 ghost use Rattle.mp_picture.specs.Marks.{level_mark};
 
-use crate::cell::{Cell, Events};
+use crate::cell::{ColumnCell, ColumnEvents};
 
 /// The characters that a picture is drawn with: blocks and lines of Unicode, in UTF-8, or those of ASCII.
 #[derive(Clone, Copy, Debug, PartialEq, Eq)]
@@ -29,15 +29,15 @@ impl Mark {
 
     /// The mark of a wire of width 1 in a column of a picture with so many units a column. Where that is one, an event needs no mark:
     /// the new level stands in its column.
-    pub(crate) fn of(units: u32, cell: Cell) -> Mark
+    pub(crate) fn of(units: u32, cell: ColumnCell) -> Mark
         ensures { result ≡ bit_mark units cell }
     {
         match cell.events {
-            Events::None => level_mark(cell.level),
-            Events::One if units == 1 => level_mark(cell.level),
-            Events::One if cell.level == 0 => Mark::Fall,
-            Events::One => Mark::Rise,
-            Events::More => Mark::Busy,
+            ColumnEvents::None => level_mark(cell.level),
+            ColumnEvents::One if units == 1 => level_mark(cell.level),
+            ColumnEvents::One if cell.level == 0 => Mark::Fall,
+            ColumnEvents::One => Mark::Rise,
+            ColumnEvents::More => Mark::Busy,
         }
     }
 

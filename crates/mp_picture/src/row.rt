@@ -7,7 +7,7 @@ ghost use Rattle.mp_picture.specs.Cells.{cells};
 ghost use Rattle.mp_picture.specs.Diagrams.{wire_line};
 ghost use Rattle.mp_picture.specs.Rows.{is_still, narrow_text, wide_text, run_text, row_text, wire_row};
 
-use crate::cell::{Cell, Events, cells};
+use crate::cell::{ColumnCell, ColumnEvents, cells};
 use crate::layout::DiagramLayout;
 use crate::level_text::LevelText;
 use crate::mark::{Charset, Mark};
@@ -55,7 +55,7 @@ fn push_cells(
     row: &mut Vec<u8>,
     layout: DiagramLayout,
     width: u32,
-    cells: &[Cell],
+    cells: &[ColumnCell],
 ) -> Result<(), AllocError>
     ensures { OnOk result (row.new.items ≡ row.old.items ++ row_text layout width cells.now) }
 {
@@ -71,7 +71,7 @@ fn push_narrow(
     row: &mut Vec<u8>,
     charset: Charset,
     units: u32,
-    cells: &[Cell],
+    cells: &[ColumnCell],
 ) -> Result<(), AllocError>
     ensures { OnOk result (row.new.items ≡ row.old.items ++ narrow_text charset units cells.now) }
 {
@@ -82,7 +82,11 @@ fn push_narrow(
 }
 
 /// Puts a cross for each column of a wider wire with events, and the levels between them where they fit.
-fn push_wide(row: &mut Vec<u8>, layout: DiagramLayout, cells: &[Cell]) -> Result<(), AllocError>
+fn push_wide(
+    row: &mut Vec<u8>,
+    layout: DiagramLayout,
+    cells: &[ColumnCell],
+) -> Result<(), AllocError>
     ensures { OnOk result (row.new.items ≡ row.old.items ++ wide_text layout cells.now) }
 {
     let Some(first) = cells.first() else {
@@ -101,7 +105,7 @@ fn push_wide(row: &mut Vec<u8>, layout: DiagramLayout, cells: &[Cell]) -> Result
 }
 
 /// How many cells from the front on have no event.
-pub fn still_count(cells: &[Cell]) -> usize
+pub fn still_count(cells: &[ColumnCell]) -> usize
     ensures value { result ≡ prefix_len is_still cells.now }
     ensures within { result ≤ length cells.now }
 {
@@ -109,12 +113,12 @@ pub fn still_count(cells: &[Cell]) -> usize
 }
 
 /// Whether a cell has no event.
-pub fn is_still(cell: Cell) -> bool
+pub fn is_still(cell: ColumnCell) -> bool
     ensures { result ≡ is_still cell }
 {
     match cell.events {
-        Events::None => true,
-        Events::One | Events::More => false,
+        ColumnEvents::None => true,
+        ColumnEvents::One | ColumnEvents::More => false,
     }
 }
 

@@ -11,7 +11,7 @@ use std::sync::Wait;
 use std::thread::Threads;
 
 /// What is asked of an input.
-pub trait Command {
+pub trait InputCommand {
     // The netlist that an input opens with, or why it doesn't open.
     ghost opening: { Self → List ℕ → Options → Result Circuit RunFault };
 
@@ -43,7 +43,7 @@ pub trait Command {
 /// `BadCount` where the options have no valid crew, and for a desk where there are not 1 to 8 blocks or not 1 to 32 viewers; and
 /// `NoPlace` where a designer or a viewer finds no place at a desk: then nothing is written. `WriteFailed` comes with a fault of the
 /// sink, and `OutOfMemory` where memory is wanting: then nothing, or a part of the text from its front, is written.
-pub fn run_command<R: Threads + Wait + Sync, S: Source, T: Sink, C: Command>(
+pub fn run_command<R: Threads + Wait + Sync, S: Source, T: Sink, C: InputCommand>(
     rt: &R,
     alloc: Global,
     source: &mut S,

@@ -2,7 +2,7 @@
 ghost use Rattle.std.specs.Prelude.{◌≡◌, ◌&&◌};
 ghost use Rattle.mp_commands.specs.command_runs.Clauses.{false, is_some, Some, Ok, IfSome, IsSomeAnd, IsSync, Ran, lines_of, has_valid_crew, opening_of, viewed_opening, with_wires};
 
-use crate::command_runs::command::Command;
+use crate::command_runs::command::InputCommand;
 use crate::command_runs::opening::opened_input;
 use crate::command_runs::options::Options;
 use crate::command_runs::run_fault::RunFault;
@@ -37,7 +37,7 @@ impl<V: View> Viewed<V> {
     }
 }
 
-impl<V: View> Command for Viewed<V> {
+impl<V: View> InputCommand for Viewed<V> {
     ghost opening = { λ command input options. viewed_opening V.wires command.view (opening_of (lines_of input) (has_valid_crew options && is_some command.view)) };
 
     ghost IsText = { λ command _ _ n text. IsSomeAnd command.view (λ view. text ≡ V.text view n) };

@@ -117,11 +117,11 @@ fn put_change<S: Sink>(
 
 /// The changes that stimuli make.
 #[derive(Clone, Copy)]
-struct Stimuli<'a> {
+struct StimulusItems<'a> {
     netlist: &'a Netlist,
 }
 
-impl<'a> Numbered for Stimuli<'a> {
+impl<'a> Numbered for StimulusItems<'a> {
     ghost use Rattle.mp_netlist.specs.Circuit.{wire_at};
     ghost use Rattle.mp_exports.specs.verilog.Verilog.{stimulus_lines};
 
@@ -165,7 +165,7 @@ impl<'a> Text for Bench<'a> {
             count: netlist.wire_slots(),
         };
         let stimuli = Each {
-            items: Stimuli { netlist },
+            items: StimulusItems { netlist },
             count: netlist.wire_slots(),
         };
         let end = (stimuli, "    #", netlist.horizon(), END);

@@ -119,12 +119,12 @@ impl<'a> Numbered for InputItems<'a> {
 
 /// The wire that an output drives, if any.
 #[derive(Clone, Copy)]
-struct Driven<'a> {
+struct DrivenItem<'a> {
     netlist: &'a Netlist,
     wire: Option<WireId>,
 }
 
-impl<'a> Text for Driven<'a> {
+impl<'a> Text for DrivenItem<'a> {
     ghost use Rattle.mp_exports.specs.verilog.Instances.{driven_text};
 
     ghost text = { λ driven. driven_text driven.netlist.now driven.wire };
@@ -151,7 +151,7 @@ impl<'a> Numbered for OutputItems<'a> {
 
     fn put_item<S: Sink>(&self, out: &mut Out<S>, number: u32) -> Result<(), Failed> {
         let name = output_name(self.part.found.kind, number);
-        let value = Driven {
+        let value = DrivenItem {
             netlist: self.part.netlist,
             wire: output_at(self.part.found, number).wire,
         };
@@ -161,13 +161,13 @@ impl<'a> Numbered for OutputItems<'a> {
 
 /// The initial level of the wire that an output drives, if any.
 #[derive(Clone, Copy)]
-struct First<'a> {
+struct FirstItem<'a> {
     netlist: &'a Netlist,
     name: &'a str,
     wire: Option<WireId>,
 }
 
-impl<'a> Text for First<'a> {
+impl<'a> Text for FirstItem<'a> {
     ghost use Rattle.mp_exports.specs.verilog.Instances.{first_text};
 
     ghost text = { λ first. first_text first.netlist.now first.name.now first.wire };
@@ -202,7 +202,7 @@ impl<'a> Numbered for OutputDelays<'a> {
     fn put_item<S: Sink>(&self, out: &mut Out<S>, number: u32) -> Result<(), Failed> {
         let output = output_at(self.part.found, number);
         let name = output_name(self.part.found.kind, number);
-        let first = First {
+        let first = FirstItem {
             netlist: self.part.netlist,
             name,
             wire: output.wire,

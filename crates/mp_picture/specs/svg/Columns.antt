@@ -2,9 +2,9 @@
 use Rattle.std.specs.Prelude.{ℕ, ◌+◌, ◌*◌, ◌==◌, nat_le, nat_lt, ◌&&◌, Bool, true, false, List, [], ◌∷◌, ◌++◌, length, drop, get_or, codes, if◌then◌else◌}
 use Rattle.std.specs.List.{flat_map, prefix_len, range_with_len}
 use Rattle.std.specs.Fmt.{decimal}
-use Rattle.mp_picture.specs.declared.cell.Cell.{Cell}
-use Rattle.mp_picture.specs.declared.cell.Events.{Events}
-use Rattle.mp_picture.specs.declared.cell.Events.TheVariants.{None, One, More}
+use Rattle.mp_picture.specs.declared.cell.ColumnCell.{ColumnCell}
+use Rattle.mp_picture.specs.declared.cell.ColumnEvents.{ColumnEvents}
+use Rattle.mp_picture.specs.declared.cell.ColumnEvents.TheVariants.{None, One, More}
 use Rattle.mp_picture.specs.Levels.{level_text}
 use Rattle.mp_picture.specs.Rows.{is_still}
 use Rattle.mp_picture.specs.declared.svg.lane.Lane.{Lane}
@@ -30,14 +30,14 @@ upright_to y = 86 ∷ decimal y
 -- ---- wires of width 1
 
 -- up to the end of a column: flat without an event, upright and flat or aslant with one, and a gap with more
-abbrev pub bit_path : Lane → ℕ → Events → ℕ → List ℕ
+abbrev pub bit_path : Lane → ℕ → ColumnEvents → ℕ → List ℕ
 bit_path lane j None level = across_to (x_of lane (j + 1))
 bit_path lane j One level =
     if lane.units == 1 then upright_to (y_of lane level) ++ across_to (x_of lane (j + 1)) else line_to (x_of lane (j + 1)) (y_of lane level)
 bit_path lane j More level = move_to (x_of lane (j + 1)) (y_of lane level)
 
 -- a band stands in the gap
-abbrev pub band : Lane → ℕ → Events → List ℕ
+abbrev pub band : Lane → ℕ → ColumnEvents → List ℕ
 band lane j None = []
 band lane j One = []
 band lane j More = rectangle (codes "<rect" ++ attribute (codes "class") (codes "band")) (x_of lane j) (top lane) 8
@@ -87,7 +87,7 @@ value_group lane j x room later level =
     ++ (fitting_text x (base lane) room (level_text lane.numerals level) ++ codes "</g>")))
 
 -- how many columns behind one have no event, up to the next that has
-abbrev pub still_behind : List Cell → ℕ → ℕ
+abbrev pub still_behind : List ColumnCell → ℕ → ℕ
 still_behind cells j = prefix_len is_still (drop (j + 1) cells)
 
 -- where a level stands behind the cross of a column
@@ -99,7 +99,7 @@ abbrev pub first_room : Lane → ℕ → ℕ → ℕ
 first_room lane later count = if lane.units == 1 && nat_lt (later + 1) count then later else later + 1
 
 -- the first column has a value, and each with an event, where the level stands behind the cross
-abbrev pub value : Lane → List Cell → ℕ → Cell → List ℕ
+abbrev pub value : Lane → List ColumnCell → ℕ → ColumnCell → List ℕ
 value lane cells j cell =
     if is_still cell
     then (if j == 0 then value_group lane j (x_of lane j) (first_room lane (still_behind cells j) (length cells)) (still_behind cells j) cell.level else [])
@@ -107,15 +107,15 @@ value lane cells j cell =
 
 -- ---- a column
 
-abbrev pub cell_at : List Cell → ℕ → Cell
+abbrev pub cell_at : List ColumnCell → ℕ → ColumnCell
 cell_at cells j = get_or cells j (record { events = None; level = 0 })
 
-abbrev pub column_text : Lane → List Cell → SvgDrawing → ℕ → List ℕ
+abbrev pub column_text : Lane → List ColumnCell → SvgDrawing → ℕ → List ℕ
 column_text lane cells Bands j = band lane j (cell_at cells j).events
 column_text lane cells Bits j = bit_path lane j (cell_at cells j).events (cell_at cells j).level
 column_text lane cells Values j = value lane cells j (cell_at cells j)
 column_text lane cells Words j = word_path lane j (is_still (cell_at cells j)) (is_still (cell_at cells (j + 1)))
 
 -- column by column
-abbrev pub drawn : Lane → List Cell → SvgDrawing → List ℕ
+abbrev pub drawn : Lane → List ColumnCell → SvgDrawing → List ℕ
 drawn lane cells drawing = flat_map (column_text lane cells drawing) (range_with_len 0 (length cells))

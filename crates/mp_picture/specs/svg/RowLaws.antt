@@ -1,6 +1,6 @@
 -- What the row of a wire in an SVG tells of its cells.
 use Rattle.std.specs.Prelude.{◌≡◌, ℕ, ◌<◌, ◌^◌, Bool, List, ◌++◌, map}
-use Rattle.mp_picture.specs.declared.cell.Cell.{Cell}
+use Rattle.mp_picture.specs.declared.cell.ColumnCell.{ColumnCell}
 use Rattle.mp_picture.specs.declared.columns.Columns.{Columns}
 use Rattle.mp_picture.specs.Cells.{cells}
 use Rattle.mp_picture.specs.Rows.{is_still}
@@ -14,7 +14,7 @@ abbrev pub AreBelow : ℕ → Columns → (ℕ → ℕ) → Type 0
 AreBelow most c f = (t : ℕ) → t < c.to → f t < most
 
 -- the commands of the path of a wire of width 1
-abbrev pub bit_commands : Lane → List Cell → List ℕ
+abbrev pub bit_commands : Lane → List ColumnCell → List ℕ
 bit_commands lane cells = start lane (cell_at cells 0) ++ drawn lane cells Bits
 
 -- the path of a wire of width 1 tells its cells
@@ -23,7 +23,7 @@ BitRowTells = (lane : Lane) (c : Columns) (f g : ℕ → ℕ) → lane.row < 2 ^
     → bit_commands lane (cells f c) ≡ bit_commands lane (cells g c) → cells f c ≡ cells g c
 
 -- what is shown of a cell of a wider wire: whether it has an event, and its level
-abbrev pub shown : Cell → Bool × ℕ
+abbrev pub shown : ColumnCell → Bool × ℕ
 shown cell = (is_still cell, cell.level)
 
 -- the path and the values of a wider wire tell what is shown of its cells

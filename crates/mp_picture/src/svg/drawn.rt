@@ -8,14 +8,14 @@ use crate::svg::elements::Rectangle;
 use crate::svg::lane::Lane;
 use crate::svg::svg_drawing::SvgDrawing;
 use crate::svg::value_group::ValueGroup;
-use crate::{Cell, Events, is_still, still_count};
+use crate::{ColumnCell, ColumnEvents, is_still, still_count};
 use mp_streams::{Failed, Out, Sink, Text};
 
 /// What is drawn of a wire, column by column.
 #[derive(Clone, Copy)]
 pub(crate) struct Drawn<'a> {
     pub(crate) lane: Lane,
-    pub(crate) cells: &'a [Cell],
+    pub(crate) cells: &'a [ColumnCell],
     pub(crate) drawing: SvgDrawing,
     ghost few: { length cells.now < 2 ^ 32 },
 }
@@ -57,7 +57,12 @@ impl<'a> Drawn<'a> {
     }
 
     /// Writes the value of the first column or of one with an event, and else nothing.
-    fn put_value<S: Sink>(&self, out: &mut Out<S>, column: u32, cell: Cell) -> Result<(), Failed>
+    fn put_value<S: Sink>(
+        &self,
+        out: &mut Out<S>,
+        column: u32,
+        cell: ColumnCell,
+    ) -> Result<(), Failed>
         requires { column < length self.now.cells.now }
         ensures { Writes result out.old out.new (value self.now.lane self.now.cells.now column cell) }
     {
@@ -116,13 +121,13 @@ fn put_band<S: Sink>(
     out: &mut Out<S>,
     lane: Lane,
     column: u32,
-    events: Events,
+    events: ColumnEvents,
 ) -> Result<(), Failed>
     ensures { Writes result out.old out.new (band lane column events) }
 {
     match events {
-        Events::None | Events::One => Ok(()),
-        Events::More => {
+        ColumnEvents::None | ColumnEvents::One => Ok(()),
+        ColumnEvents::More => {
             let start = "<rect class=\"band\"";
             let (x, y) = (lane.begin(column), lane.top());
             let width = 8;
@@ -132,16 +137,21 @@ fn put_band<S: Sink>(
 }
 
 /// Writes the path of a wire of width 1 in a column.
-fn put_bit<S: Sink>(out: &mut Out<S>, lane: Lane, column: u32, cell: Cell) -> Result<(), Failed>
+fn put_bit<S: Sink>(
+    out: &mut Out<S>,
+    lane: Lane,
+    column: u32,
+    cell: ColumnCell,
+) -> Result<(), Failed>
     ensures { Writes result out.old out.new (bit_path lane column cell.events cell.level) }
 {
     let x = lane.end(column);
     let y = lane.height(cell.level);
     match cell.events {
-        Events::None => ("H", x).put_to(out),
-        Events::One if lane.units == 1 => (("V", y), ("H", x)).put_to(out),
-        Events::One => ("L", x, " ", y).put_to(out),
-        Events::More => ("M", x, " ", y).put_to(out),
+        ColumnEvents::None => ("H", x).put_to(out),
+        ColumnEvents::One if lane.units == 1 => (("V", y), ("H", x)).put_to(out),
+        ColumnEvents::One => ("L", x, " ", y).put_to(out),
+        ColumnEvents::More => ("M", x, " ", y).put_to(out),
     }
 }
 

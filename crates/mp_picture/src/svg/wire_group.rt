@@ -8,7 +8,7 @@ use crate::svg::drawn::Drawn;
 use crate::svg::elements::Label;
 use crate::svg::lane::Lane;
 use crate::svg::svg_drawing::SvgDrawing;
-use crate::{Cell, Events};
+use crate::{ColumnCell, ColumnEvents};
 use mp_netlist::WireRecord;
 use mp_streams::{Failed, Out, Sink, Text};
 
@@ -20,7 +20,7 @@ pub fn put_wire_group<S: Sink>(
     lane: Lane,
     number: u32,
     wire: &WireRecord,
-    cells: &[Cell],
+    cells: &[ColumnCell],
 ) -> Result<(), Failed>
     requires { length cells.now < 2 ^ 32 }
     ensures { Writes result out.old out.new (wire_group lane number wire.now cells.now) }
@@ -53,7 +53,7 @@ fn put_shape<S: Sink>(
     out: &mut Out<S>,
     lane: Lane,
     width: u32,
-    cells: &[Cell],
+    cells: &[ColumnCell],
 ) -> Result<(), Failed>
     requires { length cells.now < 2 ^ 32 }
     ensures { Writes result out.old out.new (wire_shape lane width cells.now) }
@@ -66,7 +66,7 @@ fn put_shape<S: Sink>(
 }
 
 /// Writes bands and the path of a wire of width 1.
-fn put_bits<S: Sink>(out: &mut Out<S>, lane: Lane, cells: &[Cell]) -> Result<(), Failed>
+fn put_bits<S: Sink>(out: &mut Out<S>, lane: Lane, cells: &[ColumnCell]) -> Result<(), Failed>
     requires { length cells.now < 2 ^ 32 }
     ensures { Writes result out.old out.new (bits lane cells.now) }
 {
@@ -89,7 +89,7 @@ fn put_bits<S: Sink>(out: &mut Out<S>, lane: Lane, cells: &[Cell]) -> Result<(),
 }
 
 /// Writes values and the path of a wider wire.
-fn put_words<S: Sink>(out: &mut Out<S>, lane: Lane, cells: &[Cell]) -> Result<(), Failed>
+fn put_words<S: Sink>(out: &mut Out<S>, lane: Lane, cells: &[ColumnCell]) -> Result<(), Failed>
     requires { length cells.now < 2 ^ 32 }
     ensures { Writes result out.old out.new (words lane cells.now) }
 {
@@ -109,24 +109,24 @@ fn put_words<S: Sink>(out: &mut Out<S>, lane: Lane, cells: &[Cell]) -> Result<()
 }
 
 /// The first cell, and one without an event at level 0 where there is none.
-fn first_cell(cells: &[Cell]) -> Cell
+fn first_cell(cells: &[ColumnCell]) -> ColumnCell
     ensures { result ≡ cell_at cells.now 0 }
 {
     match cells.first() {
         Some(cell) => *cell,
-        None => Cell {
-            events: Events::None,
+        None => ColumnCell {
+            events: ColumnEvents::None,
             level: 0,
         },
     }
 }
 
 /// The level before the first column: that of its cell, or the other one where that has one event.
-fn level_before(cell: Cell) -> u64
+fn level_before(cell: ColumnCell) -> u64
     ensures { result ≡ level_before cell.events cell.level }
 {
     match cell.events {
-        Events::One => 1u64.saturating_sub(cell.level),
-        Events::None | Events::More => cell.level,
+        ColumnEvents::One => 1u64.saturating_sub(cell.level),
+        ColumnEvents::None | ColumnEvents::More => cell.level,
     }
 }

@@ -88,5 +88,7 @@ pub(crate) fn states_by<R: Threads + Wait + Sync, G: Gate + Sync>(
     if tasks.len() < context.crew.least() as usize {
         return run_here(context.rt, context.alloc, context.gate, tasks);
     }
-    context.crew.run(context.rt, context.alloc, context.gate, tasks)
+    context
+        .crew
+        .run(context.rt, context.alloc, context.gate, tasks)
 }

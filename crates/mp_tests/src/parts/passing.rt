@@ -22,7 +22,7 @@ struct Reach<'a>(&'a PlannedEdit<'a>, u32);
 
 /// A crew, a gate that counts, and how many modules are to pass it.
 #[derive(Drop)]
-struct Trial<'a> {
+struct PassingTrial<'a> {
     crew: &'a Crew,
     counter: PassageCounter<'a>,
     modules: u32,
@@ -35,7 +35,7 @@ fn assert_passed(
     old: &Netlist,
     run: &Run,
     new: &Netlist,
-    trial: &Trial<'_>,
+    trial: &PassingTrial<'_>,
 ) -> Result<(), Fail>
     requires revision { IsRevision old.now new.now }
     requires run { IsRun old.now run.now }
@@ -66,7 +66,7 @@ fn assert_each(
     let run = evaluate_here(rt, alloc, old, &OpenGate)?;
     for Reach(change, modules) in reaches {
         let new = changed(alloc, old, change)?;
-        let trial = Trial {
+        let trial = PassingTrial {
             crew,
             counter,
             modules: *modules,

@@ -2,7 +2,7 @@ use Rattle.std.proofs.Common.{◌≡◌, ◌<◌, map, sym, ap, subst, ◌∙◌
 use Rattle.std.specs.List.{range_with_len}
 use Rattle.mp_wave.specs.Waveform.{level_of}
 use Rattle.mp_wave.specs.WaveChanges.{changes_in}
-use Rattle.mp_picture.specs.declared.cell.Cell.{Cell}
+use Rattle.mp_picture.specs.declared.cell.ColumnCell.{ColumnCell}
 use Rattle.mp_picture.specs.Columns.{count}
 use Rattle.mp_picture.specs.Cells.{cells, cell_at}
 use Rattle.mp_picture.proofs.CellLemmas.{IsRest, rest_first, step, cells_more}
@@ -30,7 +30,7 @@ loop-column-preserved c =
     let next =
     step f cs j c.loop-column.level (changes_in c.loop-column.rest) cs.some cs.wide below c.loop-column.invariant.left c.end.result c.count_before-count.result c.last_level-level.result
     (changes_in c.before_place.result) (changes_in c.from_place-rest.result) c.events_of.result c.end.ensures.value c.count_before-count.ensures.value c.before_place.ensures c.from_place-rest.ensures c.last_level-level.ensures c.events_of.ensures in
-    let x : Cell = record { events = c.events_of.result; level = c.last_level-level.result } in
+    let x : ColumnCell = record { events = c.events_of.result; level = c.last_level-level.result } in
     record {
       within = omega arith;
       done = cells_more f cs j c.loop-column.list.items c.push.new.self.items x c.in_ok-push.ensures.items c.loop-column.invariant.done next.cell;

@@ -4,9 +4,9 @@ use Rattle.std.specs.List.{flat_map, range_with_len}
 use Rattle.std.specs.Fmt.{decimal}
 use Rattle.std.proofs.lemmas.Bool.{cases_eq, eqb-true}
 use Rattle.std.proofs.lemmas.List.{append_cancel_left}
-use Rattle.mp_picture.specs.declared.cell.Cell.{Cell}
-use Rattle.mp_picture.specs.declared.cell.Events.{Events}
-use Rattle.mp_picture.specs.declared.cell.Events.TheVariants.{None, One, More}
+use Rattle.mp_picture.specs.declared.cell.ColumnCell.{ColumnCell}
+use Rattle.mp_picture.specs.declared.cell.ColumnEvents.{ColumnEvents}
+use Rattle.mp_picture.specs.declared.cell.ColumnEvents.TheVariants.{None, One, More}
 use Rattle.mp_picture.specs.Columns.{count}
 use Rattle.mp_picture.specs.Cells.{cells}
 use Rattle.mp_picture.specs.declared.svg.lane.Lane.{Lane}
@@ -49,7 +49,7 @@ module _ (lane : Lane) (small : lane.row < 2 ^ 32) where
   once single x y = cond single (upright_to y ++ across_to x) (line_to x y)
 
   -- what two paths that begin alike have alike
-  pub record IsSame (e d : Events) (v w : ℕ) (xs ys : List ℕ) : Type 0 where
+  pub record IsSame (e d : ColumnEvents) (v w : ℕ) (xs ys : List ℕ) : Type 0 where
     pub events : e ≡ d
     pub level : e ≢ None → (v == 0) ≡ (w == 0)
     pub rest : xs ≡ ys
@@ -90,7 +90,7 @@ module _ (lane : Lane) (small : lane.row < 2 ^ 32) where
     abbrev single : Bool
     single = lane.units == 1
 
-    pub same_column : (e d : Events) → bit_path lane j e v ++ xs ≡ bit_path lane j d w ++ ys → IsSame e d v w xs ys
+    pub same_column : (e d : ColumnEvents) → bit_path lane j e v ++ xs ≡ bit_path lane j d w ++ ys → IsSame e d v w xs ys
     same_column None None same = record { events = refl; level = λ some. absurd (some refl); rest = append_cancel_left (across_to x) xs ys same }
     same_column None One same = absurd (across_or_once single x (y_of lane w) xs ys same)
     same_column None More same = absurd (other_head 72 77 _ _ (omega arith) same)
@@ -107,10 +107,10 @@ module _ (lane : Lane) (small : lane.row < 2 ^ 32) where
 
   -- ---- column by column
 
-  abbrev path : (ℕ → Cell) → ℕ → List ℕ
+  abbrev path : (ℕ → ColumnCell) → ℕ → List ℕ
   path a j = bit_path lane j (a j).events (a j).level
 
-  command_first : (e : Events) (j v : ℕ) (xs : List ℕ) → NoDigit (bit_path lane j e v ++ xs)
+  command_first : (e : ColumnEvents) (j v : ℕ) (xs : List ℕ) → NoDigit (bit_path lane j e v ++ xs)
   command_first None j v xs = inl (omega arith)
   command_first One j v xs = by (lane.units == 1)
     where
@@ -119,19 +119,19 @@ module _ (lane : Lane) (small : lane.row < 2 ^ 32) where
       by false = inl (omega arith)
   command_first More j v xs = inl (omega arith)
 
-  commands_first : (a : ℕ → Cell) (m k : ℕ) → NoDigit (flat_map (path a) (range_with_len k m))
+  commands_first : (a : ℕ → ColumnCell) (m k : ℕ) → NoDigit (flat_map (path a) (range_with_len k m))
   commands_first a zero k = tt
   commands_first a (suc m) k = command_first (a k).events k (a k).level _
 
-  same_cell : (p q : Cell) → p.events ≡ q.events → p.level ≡ q.level → p ≡ q
-  same_cell p q one two = ap (λ (e : Events). let z : Cell = record { events = e; level = p.level } in z) one ∙ ap (λ (v : ℕ). let z : Cell = record { events = q.events; level = v } in z) two
+  same_cell : (p q : ColumnCell) → p.events ≡ q.events → p.level ≡ q.level → p ≡ q
+  same_cell p q one two = ap (λ (e : ColumnEvents). let z : ColumnCell = record { events = e; level = p.level } in z) one ∙ ap (λ (v : ℕ). let z : ColumnCell = record { events = q.events; level = v } in z) two
 
-  by_events : (e : Events) (v w : ℕ) → (e ≡ None → v ≡ w) → (e ≢ None → v ≡ w) → v ≡ w
+  by_events : (e : ColumnEvents) (v w : ℕ) → (e ≡ None → v ≡ w) → (e ≢ None → v ≡ w) → v ≡ w
   by_events None v w is other = is refl
   by_events One v w is other = other (λ same. cc)
   by_events More v w is other = other (λ same. cc)
 
-  module _ (a b : ℕ → Cell) (most : ℕ) (bits : (j : ℕ) → j < most → (a j).level < 2) (also : (j : ℕ) → j < most → (b j).level < 2)
+  module _ (a b : ℕ → ColumnCell) (most : ℕ) (bits : (j : ℕ) → j < most → (a j).level < 2) (also : (j : ℕ) → j < most → (b j).level < 2)
       (stays : (j : ℕ) → j + 1 < most → (a (j + 1)).events ≡ None → (a (j + 1)).level ≡ (a j).level)
       (keeps : (j : ℕ) → j + 1 < most → (b (j + 1)).events ≡ None → (b (j + 1)).level ≡ (b j).level) where
     same_cells : (m k p q : ℕ) → k + m ≡ most → p ≡ q → ((a k).events ≡ None → (a k).level ≡ p) → ((b k).events ≡ None → (b k).level ≡ q)
@@ -151,12 +151,12 @@ module _ (lane : Lane) (small : lane.row < 2 ^ 32) where
               (λ none. keeps k (omega (arith, low, high, there)) none) is.rest j (omega (arith, low, there)) high
         ]
 
-    before_fits : (e : Events) (v : ℕ) → v < 2 → level_before e v < 2
+    before_fits : (e : ColumnEvents) (v : ℕ) → v < 2 → level_before e v < 2
     before_fits None v low = low
     before_fits One v low = omega arith
     before_fits More v low = low
 
-    stays_before : (e : Events) (v : ℕ) → e ≡ None → v ≡ level_before e v
+    stays_before : (e : ColumnEvents) (v : ℕ) → e ≡ None → v ≡ level_before e v
     stays_before None v none = refl
     stays_before One v none = cc
     stays_before More v none = refl

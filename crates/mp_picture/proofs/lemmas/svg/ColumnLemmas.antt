@@ -6,8 +6,8 @@ use Rattle.std.proofs.lemmas.Grind.{div_ceil_times}
 use Rattle.std.proofs.lemmas.List.{same_lists}
 use Rattle.std.proofs.lemmas.List.FromFn.{length-map-range_with_len, get_or-map-range_with_len}
 use Rattle.mp_picture.specs.declared.columns.Columns.{Columns}
-use Rattle.mp_picture.specs.declared.cell.Cell.{Cell}
-use Rattle.mp_picture.specs.declared.cell.Events.TheVariants.{None}
+use Rattle.mp_picture.specs.declared.cell.ColumnCell.{ColumnCell}
+use Rattle.mp_picture.specs.declared.cell.ColumnEvents.TheVariants.{None}
 use Rattle.mp_picture.specs.Columns.{count, begin, end}
 use Rattle.mp_picture.specs.Cells.{cells}
 use Rattle.mp_picture.specs.Cells as wave
@@ -47,7 +47,7 @@ module _ (f : ℕ → ℕ) (c : Columns) where
   cell_of j below = get_or-map-range_with_len (wave.cell_at f c) 0 (count c) j j _ below (zero-add j)
 
   level_of : (j : ℕ) → j < count c → (cell_at (cells f c) j).level ≡ f (end c j - 1)
-  level_of j below = ap (λ (x : Cell). x.level) (cell_of j below)
+  level_of j below = ap (λ (x : ColumnCell). x.level) (cell_of j below)
 
   pub level_fits : (most : ℕ) → AreBelow most c f → (j : ℕ) → j < count c → (cell_at (cells f c) j).level < most
   level_fits most low j below =
@@ -63,14 +63,14 @@ module _ (f : ℕ → ℕ) (c : Columns) where
       let lo = begin c (j + 1) in
       let hi = end c (j + 1) in
       let starts : lo < c.to = begins_within c (j + 1) some wide below in
-      let quiet = ap (λ (x : Cell). x.events) (sym (cell_of (j + 1) below)) ∙ none in
+      let quiet = ap (λ (x : ColumnCell). x.events) (sym (cell_of (j + 1) below)) ∙ none in
       let from : c.from ≤ lo = omega arith in
       let wider : lo < hi = omega (arith, starts, wide) in
       let keeps : f (hi - 1) ≡ f (opens c.from lo - 1) = cell_keeps f c.from lo hi from wider quiet in
       let before : opens c.from lo - 1 ≡ end c j - 1 = omega (arith, starts, wide) in
       level_of (j + 1) below ∙ keeps ∙ ap f before ∙ sym (level_of j (omega (arith, below)))
 
-  cell_read : (j : ℕ) (d : Cell) → j < count c → get_or (cells f c) j d ≡ cell_at (cells f c) j
+  cell_read : (j : ℕ) (d : ColumnCell) → j < count c → get_or (cells f c) j d ≡ cell_at (cells f c) j
   unfolding cells
   cell_read j d below = get_or-map-range_with_len (wave.cell_at f c) 0 (count c) j j d below (zero-add j) ∙ sym (cell_of j below)
 

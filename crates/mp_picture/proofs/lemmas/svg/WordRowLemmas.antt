@@ -5,8 +5,8 @@ use Rattle.std.specs.Fmt.{decimal}
 use Rattle.std.proofs.lemmas.Bool.{cases_Bool, cases_eq}
 use Rattle.std.proofs.lemmas.List.{append_cancel_left, same_lists, length-map, get_or-map}
 use Rattle.std.proofs.lemmas.List.Sums.{prefix_len-drop_yes, prefix_len-drop_no, prefix_len-drop_all}
-use Rattle.mp_picture.specs.declared.cell.Cell.{Cell}
-use Rattle.mp_picture.specs.declared.cell.Events.TheVariants.{None}
+use Rattle.mp_picture.specs.declared.cell.ColumnCell.{ColumnCell}
+use Rattle.mp_picture.specs.declared.cell.ColumnEvents.TheVariants.{None}
 use Rattle.mp_picture.specs.Columns.{count as columns}
 use Rattle.mp_picture.specs.Cells.{cells}
 use Rattle.mp_picture.specs.Levels.{level_text}
@@ -184,8 +184,8 @@ module _ (lane : Lane) where
 
 -- ---- columns behind a column
 
-module _ (xs ys : List Cell) (n : ℕ) (long : length xs ≡ n) (wide : length ys ≡ n) (still : (j : ℕ) → j < n → is_still (cell_at xs j) ≡ is_still (cell_at ys j)) where
-  abbrev none : Cell
+module _ (xs ys : List ColumnCell) (n : ℕ) (long : length xs ≡ n) (wide : length ys ≡ n) (still : (j : ℕ) → j < n → is_still (cell_at xs j) ≡ is_still (cell_at ys j)) where
+  abbrev none : ColumnCell
   none = record { events = None; level = 0 }
 
   same_prefix : (m i : ℕ) → i + m ≡ n → prefix_len is_still (drop i xs) ≡ prefix_len is_still (drop i ys)
@@ -219,7 +219,7 @@ module _ (xs ys : List Cell) (n : ℕ) (long : length xs ≡ n) (wide : length y
 false_zero : (0 == 0) ≡ false → ⊥
 false_zero far = cc
 
-no_event : (x : Cell) → is_still x ≡ true → x.events ≡ None
+no_event : (x : ColumnCell) → is_still x ≡ true → x.events ≡ None
 no_event x still = grind (arith, still)
 
 pub word_row_tells : WordRowTells

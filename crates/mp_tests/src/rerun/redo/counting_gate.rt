@@ -1,5 +1,5 @@
 //! A gate that counts who passes it for what.
-use super::row::{Span, Watch};
+use super::row::{RunWatch, Span};
 use mp_depend::{Work, WorkEntries, WorkEntry};
 use mp_netlist::ModuleId;
 use mp_phase::Gate;
@@ -38,7 +38,7 @@ impl Gate for CountingGate {
     }
 }
 
-impl Watch for CountingGate {
+impl RunWatch for CountingGate {
     /// The work has just the entries, and for each of them a module passed just once, and for nothing else.
     fn is_content(&self, work: &Work) -> bool {
         match work.entries() {

@@ -1,5 +1,5 @@
 //! Modules that begin to work in the same unit do so at the same time.
-use super::row::{Row, Trial, Watch, changed_run, evaluated};
+use super::row::{Row, RunWatch, Trial, changed_run, evaluated};
 use crate::making::making::{PlannedEdit, PlannedModule, PlannedNetlist, Signal};
 use mp_depend::Work;
 use mp_modules::Kind;
@@ -53,7 +53,7 @@ impl Gate for RerunMeeting {
     }
 }
 
-impl Watch for RerunMeeting {
+impl RunWatch for RerunMeeting {
     /// As many as are to meet saw each other.
     fn is_content(&self, _work: &Work) -> bool {
         self.met.load(Ordering::SeqCst) == self.calls

@@ -42,7 +42,7 @@ pub(super) struct Trial<'a, G> {
 }
 
 /// A gate that is to be passed in a certain way.
-pub(super) trait Watch: Gate {
+pub(super) trait RunWatch: Gate {
     /// Whether it was passed so in a re-evaluation with this work.
     fn is_content(&self, work: &Work) -> bool;
 }
@@ -82,7 +82,7 @@ fn changed(alloc: Global, old: &Netlist, row: &Row<'_>) -> Result<Netlist, Fail>
 }
 
 /// The run of a changed netlist, by a re-evaluation that finds what is known, with a gate that is passed as it is to be.
-fn redone<G: Watch + Sync>(
+fn redone<G: RunWatch + Sync>(
     rt: &(impl Abort + Threads + Wait + Sync),
     alloc: Global,
     old: &Netlist,
@@ -128,7 +128,7 @@ pub(super) fn evaluated(
 }
 
 /// A netlist with the row's change, and its run, which is found as it is to be.
-pub(super) fn changed_run<G: Watch + Sync>(
+pub(super) fn changed_run<G: RunWatch + Sync>(
     rt: &(impl Abort + Threads + Wait + Sync),
     alloc: Global,
     old: &Netlist,

@@ -6,7 +6,7 @@ use Rattle.mp_records.specs.declared.wire_record.WireRecord.{WireRecord}
 use Rattle.mp_netlist.specs.Slots.{slot_at}
 use Rattle.mp_netlist.specs.Circuit.{Circuit, wire_at}
 use Rattle.mp_model.specs.Waves.{AreWavesOf}
-use Rattle.mp_picture.specs.declared.cell.Cell.{Cell}
+use Rattle.mp_picture.specs.declared.cell.ColumnCell.{ColumnCell}
 use Rattle.mp_picture.specs.Cells.{cells}
 use Rattle.mp_picture.proofs.PutLemmas.{puts_ok}
 use Rattle.mp_picture.proofs.WaveLemmas.{wave_cells, wave_at}
@@ -19,7 +19,7 @@ use Rattle.mp_picture.proofs.lemmas.svg.ColumnLemmas.{few_cells}
 use Rattle.mp_picture.proofs.svg.svg.put_wire.Goals as goal
 
 -- the row of a wire that stands is drawn of the cells of its wave
-row_is : (n : Circuit) (waves : List (Option Waveform)) (frame : Frame) (row w : ℕ) (r : WireRecord) (wave : Waveform) (place : Lane) (drawn : List Cell)
+row_is : (n : Circuit) (waves : List (Option Waveform)) (frame : Frame) (row w : ℕ) (r : WireRecord) (wave : Waveform) (place : Lane) (drawn : List ColumnCell)
     → AreWavesOf n waves → frame.columns.to ≤ n.horizon → wire_at n w ≡ Some r → slot_at waves w ≡ Some wave → place ≡ lane frame row → drawn ≡ cells (level_of wave) frame.columns
     → wire_group place w r drawn ≡ slot_group n frame row w (wire_at n w)
 row_is n waves frame row w r wave place drawn are within stands has at is =

@@ -1,5 +1,5 @@
 use Rattle.mp_commands.proofs.Names.{false, OutOfMemory, refused, wrote, wrote_part}
-use Rattle.mp_commands.proofs.play.PlayCommand.answer.Goals as goal
+use Rattle.mp_commands.proofs.play.PlayInputCommand.answer.Goals as goal
 
 pub returns-in_err-front : goal.returns-in_err-front
 returns-in_err-front g c = refused _ _ _ _ c.from_residual.result OutOfMemory c.from_residual.ensures.1 tt

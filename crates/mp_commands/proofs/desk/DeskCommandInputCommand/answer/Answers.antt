@@ -2,7 +2,7 @@ use Rattle.std.specs.Prelude.{◌≡◌}
 use Rattle.mp_commands.proofs.Names.{true, length, Err, refl, rules, vec_len, puts_as, puts_ok, OutOfMemory, refused, refused_unseated, wrote, wrote_part, blocks_of, run_fault_of}
 use Rattle.mp_streams.specs.declared.write_error.WriteError.TheVariants as writes
 use Rattle.mp_commands.proofs.DeskLemmas.{blocks_count, is_text, refused_meeting}
-use Rattle.mp_commands.proofs.desk.DeskCommandCommand.answer.Goals as goal
+use Rattle.mp_commands.proofs.desk.DeskCommandInputCommand.answer.Goals as goal
 
 pub returns-in_err-front : goal.returns-in_err-front
 returns-in_err-front g c = refused _ _ _ _ c.from_residual.result OutOfMemory c.from_residual.ensures.1 tt

@@ -1,7 +1,7 @@
 use Rattle.mp_commands.proofs.lemmas.command_runs.Names.{Ok, Err}
 use Rattle.mp_commands.proofs.lemmas.command_runs.RunLemmas.{refused}
 use Rattle.mp_commands.proofs.lemmas.command_runs.ViewLemmas.{viewed_refused, viewed_ran}
-use Rattle.mp_commands.proofs.command_runs.viewed.ViewedCommand.answer.Goals as goal
+use Rattle.mp_commands.proofs.command_runs.viewed.ViewedInputCommand.answer.Goals as goal
 
 pub returns-in_err-netlist : goal.returns-in_err-netlist
 returns-in_err-netlist g c =
