@@ -1,2 +1,3 @@
 pub mod talk
 pub mod hosting
+pub mod journal

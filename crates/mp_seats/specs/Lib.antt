@@ -4,3 +4,4 @@ pub mod Steps
 pub mod Seats
 pub mod talk
 pub mod hosting
+pub mod journal

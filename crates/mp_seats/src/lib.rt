@@ -1,10 +1,11 @@
 //! The seats of a live desk: lines come, and are answered by one who submits edits or only looks.
 //!
 //! `talk` answers lines as they come. The files at the top answer the lines of one seat, `hosting` serves all seats of a desk on threads, and
-//! `pipes` has their named pipes. Begin with `seat.rt`.
+//! `pipes` has their named pipes. `journal` is a session that appends each accepted edit to a file, so that a desk can begin again. Begin with `seat.rt`.
 #![tactic(auto)]
 
 pub mod hosting;
+pub mod journal;
 mod occupant;
 mod pipes;
 mod refusal;
@@ -14,6 +15,7 @@ mod seat;
 mod talk;
 
 pub use hosting::{Door, Ended, Exit, Hall, HostFault, Places, SeatName, SeatPlace, host};
+pub use journal::{Journal, JournalNotice, Journaled, ReplayFault, make_again};
 pub use occupant::Occupant;
 pub use pipes::Pipes;
 pub use refusal::Refusal;

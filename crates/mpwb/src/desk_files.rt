@@ -1,6 +1,6 @@
 //! The files of a live desk's folder.
-use mp_journal::JournalNotice;
 use mp_netlist::Netlist;
+use mp_seats::JournalNotice;
 use mp_streams::{Failed, Out, ReadSource, TakeError, WriteSink, take_all};
 use mp_text::put_netlist;
 use std::alloc::{AllocError, Global};

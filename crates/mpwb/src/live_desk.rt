@@ -5,10 +5,9 @@ use crate::desk_files::{DeskFiles, PathNotice};
 use mp_commands::{
     Options, RunFault, SeatScribe, fault_of_meeting, fault_of_talk, put_met, read_opening,
 };
-use mp_journal::{Journal, Journaled, ReplayFault, make_again};
 use mp_netlist::Netlist;
 use mp_phase::{Crew, OpenGate};
-use mp_seats::{HostFault, Pipes, Places};
+use mp_seats::{HostFault, Journal, Journaled, Pipes, Places, ReplayFault, make_again};
 use mp_session::Session;
 use mp_streams::{Out, ReadSource, Sink, Source, TakeError, WriteSink};
 use mp_text::LineReader;

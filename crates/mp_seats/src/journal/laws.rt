@@ -1,5 +1,5 @@
 //! What a journal says.
-ghost use Rattle.mp_journal.specs.Scripts.{JournalsAreScripts};
+ghost use Rattle.mp_seats.specs.journal.Scripts.{JournalsAreScripts};
 
 use mp_text::edit_lines::laws::lines_say_accepted_edits;
 

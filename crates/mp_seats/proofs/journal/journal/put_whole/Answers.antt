@@ -3,7 +3,7 @@ use Rattle.std.proofs.lemmas.List.{append-nil}
 use Rattle.mp_text.specs.edit_lines.EditLines.{edit_text}
 use Rattle.mp_streams.specs.Outgoing.{Writes}
 use Rattle.mp_streams.proofs.OutLemmas.{puts_then, writes_failed}
-use Rattle.mp_journal.proofs.journal.put_whole.Goals as goal
+use Rattle.mp_seats.proofs.journal.journal.put_whole.Goals as goal
 
 pub returns-in_err-flush-clause-written : goal.returns-in_err-flush-clause-written
 returns-in_err-flush-clause-written g c =

@@ -1,8 +1,8 @@
 use Rattle.std.proofs.Common.{◌≡◌, ◌++◌, ◌∷◌, [], true, is_err, sym, subst, rules}
 use Rattle.mp_text.specs.edit_lines.EditLines.{edit_text}
-use Rattle.mp_journal.specs.Journals.{Journal, Passes}
-use Rattle.mp_journal.proofs.JournalLemmas.{torn_at}
-use Rattle.mp_journal.proofs.journal.Journal.append.Goals as goal
+use Rattle.mp_seats.specs.journal.Journals.{Journal, Passes}
+use Rattle.mp_seats.proofs.lemmas.journal.JournalLemmas.{torn_at}
+use Rattle.mp_seats.proofs.journal.journal.Journal.append.Goals as goal
 
 pub returns-then-is_err : goal.returns-then-is_err
 returns-then-is_err g c =

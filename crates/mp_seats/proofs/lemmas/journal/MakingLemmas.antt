@@ -8,7 +8,7 @@ use Rattle.mp_text.specs.declared.lexing.line_error.LineError.{LineError}
 use Rattle.mp_text.specs.declared.script_line.Line.{Line}
 use Rattle.mp_text.specs.declared.script_line.Line.TheVariants.{Empty, Change, Ask}
 use Rattle.mp_version.specs.Stories.{Story, one_more}
-use Rattle.mp_journal.specs.Scripts.{edits_said, IsMadeLine}
+use Rattle.mp_seats.specs.journal.Scripts.{edits_said, IsMadeLine}
 
 -- these edits were made of the lines before the rest
 pub record SoFar (start : Story) (all rest : List (Result Line LineError)) (now : Story) : Type 0 where

@@ -1,8 +1,8 @@
 use Rattle.std.proofs.Common.{map, length}
 use Rattle.mp_text.specs.ScriptLines.{line_at}
 use Rattle.mp_text.specs.lexing.Lines.{lines_of}
-use Rattle.mp_journal.proofs.MakingLemmas.{SoFar}
-use Rattle.mp_journal.proofs.making_again.make_again.Given as goal
+use Rattle.mp_seats.proofs.lemmas.journal.MakingLemmas.{SoFar}
+use Rattle.mp_seats.proofs.journal.making_again.make_again.Given as goal
 
 -- the edits of the lines before the rest were made
 abbrev pub invariant-loop-rest : goal.invariant-loop-rest

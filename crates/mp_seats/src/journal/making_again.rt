@@ -2,9 +2,9 @@
 ghost use Rattle.std.specs.Prelude.{◌≡◌, OnOk, OnErr};
 ghost use Rattle.mp_text.specs.ScriptLines.{line_at};
 ghost use Rattle.mp_version.specs.Stories.{one_more};
-ghost use Rattle.mp_journal.specs.Scripts.{GoesOn, IsMadeLine};
+ghost use Rattle.mp_seats.specs.journal.Scripts.{GoesOn, IsMadeLine};
 
-use crate::replay_fault::ReplayFault;
+use crate::journal::replay_fault::ReplayFault;
 use mp_netlist::{Edit, EditError};
 use mp_text::{Line, LineError, first_line, read_line};
 use mp_version::EditSession;

@@ -1,8 +1,8 @@
 use Rattle.std.proofs.Common.{◌++◌, ◌∷◌, [], subst}
 use Rattle.mp_text.specs.edit_lines.EditLines.{edit_text}
-use Rattle.mp_journal.specs.Journals.{Journal, Passes}
-use Rattle.mp_journal.proofs.JournalLemmas.{passes}
-use Rattle.mp_journal.proofs.journal.Journal.put_line.Goals as goal
+use Rattle.mp_seats.specs.journal.Journals.{Journal, Passes}
+use Rattle.mp_seats.proofs.lemmas.journal.JournalLemmas.{passes}
+use Rattle.mp_seats.proofs.journal.journal.Journal.put_line.Goals as goal
 
 pub returns-clause-taken : goal.returns-clause-taken
 returns-clause-taken g c =

@@ -10,7 +10,7 @@ use Rattle.mp_streams.specs.declared.failed.Failed.{Failed}
 use Rattle.mp_streams.specs.Outgoing.{Outgoing, Writes}
 use Rattle.mp_streams.specs.StreamBytes.{AppendsPrefix}
 use Rattle.mp_text.specs.edit_lines.EditLines.{edit_text, edit_lines}
-use Rattle.mp_journal.specs.Journals.{Journal, HasTaken, Passes, Continues, KeepsEdits, HasOneMore}
+use Rattle.mp_seats.specs.journal.Journals.{Journal, HasTaken, Passes, Continues, KeepsEdits, HasOneMore}
 
 -- where nothing is held before and behind, what was written is with the sink
 pub passes : {S : Type 0} (r : Result (Unit {0}) Failed) (a b : Outgoing S) (text : List ℕ) → Writes r a b text → a.held ≡ [] → b.held ≡ [] → Passes r a.taken b.taken text

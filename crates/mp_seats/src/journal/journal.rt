@@ -3,7 +3,7 @@ ghost use Rattle.std.specs.Prelude.{◌≡◌, ◌++◌, ◌∷◌, []};
 ghost use Rattle.mp_text.specs.edit_lines.EditLines.{edit_text};
 ghost use Rattle.mp_streams.specs.Outgoing.{Writes};
 
-use crate::journal_notice::JournalNotice;
+use crate::journal::journal_notice::JournalNotice;
 use mp_netlist::Edit;
 use mp_streams::{Failed, Out, Sink, Text};
 use mp_text::EditText;
@@ -24,7 +24,7 @@ pub struct Journal<T: Sink, N: JournalNotice> {
 
 impl<T: Sink, N: JournalNotice> Model for Journal<T, N> {
     ghost use Rattle.std.specs.Prelude.{◌≡◌, []};
-    ghost use Rattle.mp_journal.specs.Journals.{Journal};
+    ghost use Rattle.mp_seats.specs.journal.Journals.{Journal};
 
     ghost Value = { Journal };
 
@@ -54,7 +54,7 @@ impl<T: Sink + Drop, N: JournalNotice> Journal<T, N> {
 impl<T: Sink, N: JournalNotice> Journal<T, N> {
     ghost use Rattle.std.specs.Prelude.{◌≡◌, ◌++◌, ◌∷◌, []};
     ghost use Rattle.mp_text.specs.edit_lines.EditLines.{edit_text};
-    ghost use Rattle.mp_journal.specs.Journals.{Passes, Continues};
+    ghost use Rattle.mp_seats.specs.journal.Journals.{Passes, Continues};
 
     /// Whether no write failed.
     pub fn is_whole(&self) -> bool

@@ -1,7 +1,6 @@
 //! The journal of a session: each accepted edit as the line of a script that makes it.
 //!
 //! `Journaled` is a session that keeps one, and `make_again` makes the edits of one that was kept. Begin with `journaled.rt`.
-#![tactic(auto)]
 
 mod journal;
 mod journal_notice;

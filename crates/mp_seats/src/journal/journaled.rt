@@ -1,9 +1,9 @@
 //! A session that keeps a journal.
 ghost use Rattle.std.specs.Prelude.{◌≡◌};
-ghost use Rattle.mp_journal.specs.Journals.{HasOneMore};
+ghost use Rattle.mp_seats.specs.journal.Journals.{HasOneMore};
 
-use crate::journal::Journal;
-use crate::journal_notice::JournalNotice;
+use crate::journal::journal::Journal;
+use crate::journal::journal_notice::JournalNotice;
 use mp_netlist::{Edit, EditError};
 use mp_streams::Sink;
 use mp_version::{EditSession, History, Version};
@@ -21,7 +21,7 @@ pub struct Journaled<S: EditSession, T: Sink, N: JournalNotice> {
 }
 
 impl<S: EditSession, T: Sink, N: JournalNotice> Model for Journaled<S, T, N> {
-    ghost use Rattle.mp_journal.specs.Journals.{Keeping, KeepsEdits};
+    ghost use Rattle.mp_seats.specs.journal.Journals.{Keeping, KeepsEdits};
 
     ghost Value = { Keeping S };
 
@@ -32,7 +32,7 @@ impl<S: EditSession, T: Sink, N: JournalNotice> Model for Journaled<S, T, N> {
 
 impl<S: EditSession, T: Sink, N: JournalNotice> Journaled<S, T, N> {
     ghost use Rattle.std.specs.Prelude.{◌≡◌, true, length};
-    ghost use Rattle.mp_journal.specs.Journals.{KeepsEdits};
+    ghost use Rattle.mp_seats.specs.journal.Journals.{KeepsEdits};
 
     /// A session that appends its further edits to a journal that has none of them yet.
     pub fn new(session: S, journal: Journal<T, N>) -> Self
