@@ -40,8 +40,8 @@ impl Checked {
     }
 }
 
-/// Checks a netlist, given its waves. At most so many threads do it, the calling one included; one alone starts none. The error comes where
-/// memory is wanting.
+/// Checks a netlist, given its waves up to the horizon. At most `workers` threads do it, the calling one included; with 1 none is started. The error
+/// comes if memory runs out.
 pub fn check<R: Threads + Sync>(
     rt: &R,
     alloc: Global,

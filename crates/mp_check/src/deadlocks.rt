@@ -29,7 +29,7 @@ impl Model for Deadlock {
 impl Deadlock {
     ghost use Rattle.std.specs.Prelude.{◌≡◌};
 
-    /// What its ports wait for, from the least one on.
+    /// What its ports wait for, one entry for each port: the least port first, then along the cycle.
     pub fn waits(&self) -> &[Wait]
         ensures { result.now ≡ self.now }
     {

@@ -22,9 +22,9 @@ use mp_report::put_report;
 use mp_streams::{Failed, Out, Sink, Text};
 
 /// Writes what a check of a netlist found: the lines of the report, a line `TIME bundle NAME late UNITS` for each change of data that is late, a line
-/// `TIME deadlock MODULE waits for WIRE, ..` for each deadlock, and a line `note wire NAME ..` for each wire that there is something to note of.
+/// `TIME deadlock MODULE waits for WIRE, ..` for each deadlock, and a line `note wire NAME ..` for each note on a wire. Times are in units from 0.
 ///
-/// `Failed` comes with a fault of the sink: then some of what was held and of the lines, from the front, is with the sink, and nothing is held. It
+/// `Failed` comes if the sink fails: then some of what was held and of the lines, from the front, is with the sink, and nothing is held. It
 /// takes no memory.
 pub fn put_check<S: Sink>(
     out: &mut Out<S>,

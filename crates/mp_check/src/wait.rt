@@ -7,6 +7,6 @@ pub struct Wait {
     pub waiter: ModuleId,
     /// The wire that it waits for.
     pub wire: WireId,
-    /// The number of the port that drives that wire: three for each module before, and the port's own.
+    /// The number of the port that drives that wire: three for each module with a lesser number, and the port's own, from 0.
     pub next: u32,
 }

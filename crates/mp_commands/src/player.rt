@@ -42,8 +42,8 @@ impl<P: Sessions> Player<P> {
 
     /// Answers each line, and passes the answer on to the sink, before it reads the next one. It ends where the source ends.
     ///
-    /// `ReadFailed` comes with a fault of the source, after the answers to all lines that ended before. `WriteFailed` comes with a fault of the
-    /// sink, and `OutOfMemory` where memory is wanting: then a part of the last answer may be written.
+    /// `ReadFailed` comes if the source fails, after the answers to all lines that ended before. `WriteFailed` comes with a fault of the
+    /// sink, and `OutOfMemory` if memory runs out: then a part of the last answer may be written.
     pub fn play<R: Threads + Wait + Sync, S: Source, T: Sink>(
         &mut self,
         rt: &R,

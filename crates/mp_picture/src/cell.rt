@@ -24,8 +24,8 @@ pub struct ColumnCell {
     pub level: u64,
 }
 
-/// The cell of a wave in each column, by one pass over the changes in the range. An event is a difference from the unit before; what
-/// lies at the range's first unit isn't one.
+/// What a wave does in each column: a cell for each, from the first column on, by one pass over the changes in the range. An event is a difference
+/// from the level one unit before. A change at the range's first unit isn't one. The error comes if memory runs out.
 pub fn cells(alloc: Global, wave: &Wave, columns: Columns) -> Result<Vec<ColumnCell>, AllocError>
     ensures { IfOk result (λ list. list.items ≡ cells (level_of wave.now) columns) }
 {

@@ -3,12 +3,12 @@ ghost use Rattle.std.specs.Prelude.{◌<◌};
 
 use crate::round::units_of;
 
-/// The units from one on to before another, cut into columns of so many units each; the last may have fewer.
+/// A range of units, cut into columns that have the same number of units; the last one may have fewer.
 #[derive(Clone, Copy, Debug)]
 pub struct Columns {
-    /// The first unit.
+    /// The first unit of the range.
     pub from: u32,
-    /// The end of the range, which isn't in it.
+    /// The unit behind the last one of the range.
     pub to: u32,
     /// How many units a column has; the last may have fewer.
     pub units: u32,
@@ -23,10 +23,10 @@ impl Columns {
     ghost use Rattle.mp_picture.specs.ColumnRanges.{columns_in};
     ghost use Rattle.mp_picture.specs.RoundNumbers.{is_round, rounded_down};
 
-    /// The range below a horizon, in at most so many columns of as many units each: the least round number (1, 2 or 5 times a power of
-    /// ten) with which they reach over the range. A column begins at a multiple of it, and so does the first: where FROM isn't one, the
-    /// range begins at the multiple before. A time at or above the horizon is read as its last unit, or as the horizon itself where it
-    /// ends the range; an empty range is read as its first unit.
+    /// The units from `from` to before `to`, in at most `most` columns. All columns have the same number of units: the least of 1, 2 or 5 times a
+    /// power of ten with which they reach over the range. Columns begin at multiples of that number: if `from` isn't one, the range begins at the
+    /// multiple before. A time at or above the horizon is read as the last unit, and at the end of the range as the horizon itself. An empty range is
+    /// read as its first unit.
     pub fn new(horizon: u32, from: u32, to: u32, most: u32) -> Columns
         requires horizon { 0 < horizon }
         requires low { horizon ≤ max_horizon }
@@ -54,7 +54,7 @@ impl Columns {
         (self.to - self.from).div_ceil(self.units)
     }
 
-    /// The first unit of a column.
+    /// The first unit of a column. Columns are counted from 0.
     pub fn begin(self, column: u32) -> u32
         requires { column < count self }
         ensures value { result ≡ begin self column }
@@ -63,7 +63,7 @@ impl Columns {
         self.from + self.units * column
     }
 
-    /// The end of a column, which isn't in it.
+    /// The unit behind the last one of a column. Columns are counted from 0.
     pub fn end(self, column: u32) -> u32
         requires { column < count self }
         ensures value { result ≡ end self column }
@@ -74,7 +74,7 @@ impl Columns {
         begin + self.units.min(self.to - begin)
     }
 
-    /// The column that a time of the range lies in.
+    /// The column, counted from 0, of a time in the range.
     pub fn column_of(self, time: u32) -> u32
         requires from { self.from ≤ time }
         requires to { time < self.to }

@@ -11,7 +11,7 @@ use mp_model::{Finding, Place};
 use mp_netlist::Netlist;
 use std::alloc::{AllocError, Global};
 
-/// The findings at times in the range, in their order.
+/// The findings at times in the range of the columns, in their order. The error comes if memory runs out.
 pub fn found_within(
     alloc: Global,
     findings: &[Finding],
@@ -44,7 +44,8 @@ fn is_within(columns: Columns, finding: Finding) -> bool
     columns.from <= finding.time && finding.time < columns.to
 }
 
-/// The modules and then the bundles of the findings, each once, in the order of their first findings.
+/// The places of the findings, each once: the modules and then the bundles, each group in the order of its first findings. The error comes if memory
+/// runs out.
 pub fn rows_of(alloc: Global, found: &[Finding]) -> Result<Vec<Place>, AllocError>
     ensures { IfOk result (λ places. places.items ≡ place_rows found.now) }
 {

@@ -3,7 +3,8 @@ use crate::columns::Columns;
 use crate::mark::Charset;
 use crate::numerals::Numerals;
 
-/// The columns of a picture, the characters that it is drawn with, how its levels are written, and the width of the names before its columns.
+/// The columns of a picture, the characters that it is drawn with, how its levels are written, and the width of the names before its columns, in
+/// characters.
 #[derive(Clone, Copy, Debug)]
 pub struct DiagramLayout {
     pub columns: Columns,

@@ -12,7 +12,7 @@ use mp_netlist::{Netlist, WireId};
 /// How many blanks stand behind the longest name.
 const GAP: usize = 2;
 
-/// The width of the names of a picture: that of the longest of its wires and places, and two more. Where there is none it is two.
+/// The width of the names of a picture, in characters: that of the longest name of its wires and places, and two more. Without any it is two.
 pub fn margin_of(netlist: &Netlist, wires: &[WireId], places: &[Place]) -> usize
     ensures { result ≡ margin netlist.now wires.now places.now }
 {

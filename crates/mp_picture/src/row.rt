@@ -104,7 +104,7 @@ fn push_wide(
     Ok(())
 }
 
-/// How many cells from the front on have no event.
+/// The number of cells at the front that have no event.
 pub fn still_count(cells: &[ColumnCell]) -> usize
     ensures value { result ≡ prefix_len is_still cells.now }
     ensures within { result ≤ length cells.now }

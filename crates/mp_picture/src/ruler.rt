@@ -54,7 +54,7 @@ fn tick(columns: Columns, number: u32) -> u32
     columns.begin(tick_step(columns) * number)
 }
 
-/// At each how many columns a time stands: ten, or twenty where two would touch.
+/// The number of columns from one time of the ruler to the next: ten, or twenty if two times would touch.
 pub fn tick_step(columns: Columns) -> u32
     ensures value { result ≡ tick_step columns }
     ensures some { 0 < result }
@@ -66,7 +66,7 @@ pub fn tick_step(columns: Columns) -> u32
     }
 }
 
-/// The number of the last time.
+/// The number of the ruler's last time, counted from 0.
 pub fn last_tick(columns: Columns) -> u32
     ensures value { result ≡ last_tick columns }
     ensures within { tick_step columns * result < count columns }

@@ -7,11 +7,11 @@ pub struct PictureWords<'a> {
     pub wires: Vec<&'a str>,
     /// The time of the level of which the causes are drawn, if they are.
     pub causes: Option<u64>,
-    /// The first time that is shown, 0 where none is given.
+    /// The first time that is shown, in units, 0 if none is given.
     pub from: u64,
-    /// The end of the times that are shown, 2^64 - 1 where none is given.
+    /// The time before which the picture ends, in units, 2^64 - 1 if none is given.
     pub to: u64,
-    /// How many columns there are at most, 72 where none is given.
+    /// The greatest number of columns, 72 if none is given.
     pub columns: u32,
     /// Whether ASCII alone is written.
     pub ascii: bool,

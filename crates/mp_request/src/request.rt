@@ -15,7 +15,7 @@ pub enum Command<'a> {
     Dump,
     /// Write a timing diagram of a netlist's text.
     Show(PictureWords<'a>),
-    /// Write the chain of causes of a wire's level at a time, in so many steps at most.
+    /// Write the chain of causes of a wire's level at a time, in at most `steps` lines.
     Why {
         wire: &'a str,
         time: u64,
@@ -43,7 +43,7 @@ pub enum Command<'a> {
     Play,
     /// Have designers edit a netlist at the same time, while viewers read.
     Desk,
-    /// Serve so many designers, and viewers, at the named pipes of a folder.
+    /// Serve this number of designers, and viewers, at the named pipes of a folder.
     LiveDesk {
         folder: &'a str,
         designers: u32,
@@ -58,11 +58,11 @@ pub struct Request<'a> {
     pub command: Command<'a>,
     /// The path of the file that is read; `None` for standard input.
     pub file: Option<&'a str>,
-    /// How many workers there are, 2 where none is given.
+    /// The number of threads, 2 if none is given.
     pub workers: u32,
-    /// With fewer modules than these the workers are not called on, 256 where none is given.
+    /// The least number of modules for which several threads are used, 256 if none is given.
     pub least: u32,
-    /// How many viewers a desk has, 2 where none is given.
+    /// The number of viewers of a desk, 2 if none is given.
     pub viewers: u32,
 }
 

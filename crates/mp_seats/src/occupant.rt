@@ -26,7 +26,7 @@ pub trait Occupant: Drop {
         requires shared { IsSync R.row }
         ensures { Submits edits result (seated self.old) (seated self.new) edit.now };
 
-    /// Reads the newest version, and waits for nobody: it is the one that was seen last, or a later one. The error comes where memory is wanting:
+    /// Reads the newest version, and waits for nobody: it is the one that was seen last, or a later one. The error comes if memory runs out:
     /// then the version that was seen last stays.
     fn read(&mut self) -> Result<Arc<Version>, AllocError>
         ensures later { IfOk result (λ v. Extends (arc_value v) (seated self.old).seen) }

@@ -21,7 +21,7 @@ pub trait ReplyWriter: Drop {
     // Any other reply.
     ghost reply_text: { Reply → List ℕ };
 
-    /// Writes the answer to a question about a version. `WriteFailed` comes with a fault of the sink, and `OutOfMemory` where memory is wanting:
+    /// Writes the answer to a question about a version. `WriteFailed` comes if the sink fails, and `OutOfMemory` if memory runs out:
     /// then a part of the answer may be written. The clause `shared` says what the bound `Sync` says: in a trait the prover asks for both.
     fn put_answer<R: Threads + Wait + Sync, T: Sink>(
         &self,

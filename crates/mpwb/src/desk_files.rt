@@ -32,7 +32,7 @@ impl DeskFiles {
         })
     }
 
-    /// What the journal has; nothing where there is none. `Failed` comes where it can't be read or is too long, and `OutOfMemory` where memory is wanting.
+    /// What the journal has; nothing where there is none. `Failed` comes where it can't be read or is too long, and `OutOfMemory` if memory runs out.
     pub(crate) fn read_edits(
         &self,
         files: &HostRuntime,

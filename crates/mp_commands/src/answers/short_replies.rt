@@ -6,7 +6,7 @@ use mp_netlist::EditError;
 use mp_streams::{Failed, Out, Sink, Text};
 use mp_text::LineError;
 
-/// Writes that an edit is accepted, and how many were so far.
+/// Writes that an edit is accepted, and how many edits were accepted so far, this one included.
 pub fn put_accepted<T: Sink>(out: &mut Out<T>, accepted: u32) -> Result<(), Failed>
     ensures { Writes result out.old out.new (accepted_text accepted) }
 {

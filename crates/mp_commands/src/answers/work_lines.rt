@@ -8,7 +8,8 @@ use mp_depend::{Work, WorkEntry};
 use mp_netlist::Netlist;
 use mp_streams::{Failed, Out, Sink, Text, WriteError};
 
-/// Writes a line for each entry of work, `MODULE FROM TO`, as it comes. An entry of a module that doesn't stand has none.
+/// Writes a line for each entry of work, `MODULE FROM TO`, as it comes: the module works from the unit FROM to before the unit TO. An entry whose
+/// module doesn't exist has no line.
 #[tactic(auto, using(crate::proofs::lemmas::answers::EditAnswerLemmas::lines_left_steps))]
 pub fn put_work_lines<T: Sink>(
     out: &mut Out<T>,

@@ -19,8 +19,8 @@ use std::thread::Threads;
 
 /// Reads the text of a netlist, all of it first, and writes its check. Returns whether anything is wrong: whether a line is written that is no note.
 ///
-/// `ReadFailed` comes with a fault of the source; then `Text` where the input is too long or the text is not read, `BadCount` where the options have
-/// no valid crew, and `OutOfMemory` where memory is wanting: then nothing is written. `WriteFailed` comes with a fault of the sink: then a part of
+/// `ReadFailed` comes if the source fails; then `Text` where the input is too long or the text is not read, `BadCount` where the options have
+/// no valid crew, and `OutOfMemory` if memory runs out: then nothing is written. `WriteFailed` comes if the sink fails: then a part of
 /// the text, from its front, is written.
 pub fn run_check<R: Threads + Wait + Sync, S: Source, T: Sink>(
     rt: &R,

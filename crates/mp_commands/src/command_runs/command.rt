@@ -39,10 +39,10 @@ pub trait InputCommand {
 
 /// Reads an input, all of it first, and writes what the command makes of it.
 ///
-/// `ReadFailed` comes with a fault of the source; then `Text` where the input is too long or the netlist's text is not read;
+/// `ReadFailed` comes if the source fails; then `Text` where the input is too long or the netlist's text is not read;
 /// `BadCount` where the options have no valid crew, and for a desk where there are not 1 to 8 blocks or not 1 to 32 viewers; and
 /// `NoPlace` where a designer or a viewer finds no place at a desk: then nothing is written. `WriteFailed` comes with a fault of the
-/// sink, and `OutOfMemory` where memory is wanting: then nothing, or a part of the text from its front, is written.
+/// sink, and `OutOfMemory` if memory runs out: then nothing, or a part of the text from its front, is written.
 pub fn run_command<R: Threads + Wait + Sync, S: Source, T: Sink, C: InputCommand>(
     rt: &R,
     alloc: Global,

@@ -7,8 +7,8 @@ use mp_streams::{Source, TakeError, take_all};
 use mp_text::{MAX_SHORT_TEXT, TextCode, TextError, text_limit};
 use std::alloc::Global;
 
-/// Reads an input, all that the source has. `ReadFailed` comes with a fault of the source, `Text` where the input is longer than its format
-/// allows, and `OutOfMemory` where memory is wanting.
+/// Reads an input, all that the source has. `ReadFailed` comes if the source fails, `Text` where the input is longer than its format
+/// allows, and `OutOfMemory` if memory runs out.
 pub(crate) fn read_input<S: Source>(alloc: Global, source: &mut S) -> Result<Vec<u8>, RunFault>
     ensures input { IfOk result (λ input. IsInput (S.left source.old) input.items) }
     ensures within { IfOk result (λ input. length input.items ≤ text_limit input.items) }

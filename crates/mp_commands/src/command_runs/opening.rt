@@ -9,8 +9,8 @@ use mp_streams::Source;
 use mp_text::read_lines;
 use std::alloc::Global;
 
-/// Reads the text of a netlist, all that the source has. `ReadFailed` comes with a fault of the source; then `Text` where the input is too long
-/// or the text is not read, `BadCount` where there is no crew, and `OutOfMemory` where memory is wanting.
+/// Reads the text of a netlist, all that the source has. `ReadFailed` comes if the source fails; then `Text` where the input is too long
+/// or the text is not read, `BadCount` where there is no crew, and `OutOfMemory` if memory runs out.
 pub fn read_opening<S: Source, C: Drop>(
     alloc: Global,
     source: &mut S,

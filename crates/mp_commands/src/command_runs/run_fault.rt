@@ -29,7 +29,7 @@ pub enum RunFault {
     /// A designer or a viewer found no place at a desk.
     #[error("no place")]
     NoPlace,
-    /// Of the wires that are asked for, the one at this place is the first that doesn't stand.
+    /// The wire at this place, counted from 0, is the first of those that are asked for that doesn't exist.
     #[error("no such wire")]
     NoSuchWire(usize),
 }

@@ -3,14 +3,14 @@ ghost use Rattle.std.specs.Prelude.{◌<◌};
 
 use mp_netlist::Name;
 
-/// How many columns a picture may have.
+/// The greatest number of columns that may be asked for.
 pub const MAX_COLUMNS: u32 = 10_000;
 
-/// How many columns a picture has at most where no number of them is given.
+/// The number of columns that is asked for if none is given.
 pub const USUAL_COLUMNS: u32 = 72;
 
-/// The picture that is asked for: the wires of these names, or all where there are none, from one time on to before another, in at most
-/// so many columns. The times may be at or above the horizon.
+/// The picture that is asked for: the wires of these names, or all if there are no names, from the time `from` to before the time `to`, in at most
+/// `columns` columns. Times are in units from 0, and may be at or above the horizon.
 #[derive(Clone, Copy)]
 pub struct AskedPicture<'a> {
     pub wires: &'a [Name],
@@ -24,7 +24,7 @@ impl<'a> AskedPicture<'a> {
     ghost use Rattle.std.specs.Prelude.{◌≡◌, ◌&&◌, nat_le, is_some, IfSome};
     ghost use Rattle.mp_commands.specs.views.Limits.{max_columns};
 
-    /// This picture, where it has 1 to `MAX_COLUMNS` columns at most.
+    /// This picture, if `columns` is 1 to `MAX_COLUMNS`.
     pub fn new(wires: &'a [Name], from: u64, to: u64, columns: u32) -> Option<AskedPicture<'a>>
         ensures valid { is_some result ≡ (nat_le 1 columns && nat_le columns max_columns) }
         ensures columns { IfSome result (λ asked. asked.columns ≡ columns) }

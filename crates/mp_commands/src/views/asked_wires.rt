@@ -7,7 +7,7 @@ ghost use Rattle.mp_commands.specs.views.AskedWires.{is_wire, with_wire, missing
 use mp_netlist::{Name, Netlist, WireId};
 use std::alloc::{AllocError, Global};
 
-/// The place of the first of the names that no wire has, where there is one.
+/// The place, counted from 0, of the first of the names that no wire has; `None` if a wire has each of them.
 pub fn missing_at(netlist: &Netlist, names: &[Name]) -> Option<usize>
     ensures { result ≡ missing_at netlist.now names.now }
 {
@@ -16,7 +16,7 @@ pub fn missing_at(netlist: &Netlist, names: &[Name]) -> Option<usize>
         .position(|name| is_missing(netlist, name.as_str()))
 }
 
-/// The place 0 where no wire has the name.
+/// The place 0 if no wire has the name, and else `None`.
 pub fn missing_wire(netlist: &Netlist, name: &Name) -> Option<usize>
     ensures { result ≡ missing_at netlist.now (name.now ∷ []) }
 {
@@ -32,7 +32,8 @@ fn is_missing(netlist: &Netlist, name: &str) -> bool
     netlist.wire_named(name).is_none()
 }
 
-/// The wires of these names, each once, in order, without those that don't stand; where there are no names the wires of all slots.
+/// The wires of these names, each once, in order, without names that no wire has. Without names: all numbers of wires, also those whose wire is gone.
+/// The error comes if memory runs out.
 pub fn wires_of(alloc: Global, netlist: &Netlist, names: &[Name]) -> Result<Vec<WireId>, AllocError>
     ensures { IfOk result (λ wires. wires.items ≡ wires_of netlist.now names.now) }
 {

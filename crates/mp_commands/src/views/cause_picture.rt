@@ -17,9 +17,9 @@ use mp_streams::{Out, Sink, WriteError};
 use std::alloc::{AllocError, Global};
 use std::thread::Threads;
 
-/// The SVG of a picture that is asked for, with levels in these numerals and this title above the times, and with an arrow from each cause to
-/// its effect in the chain that led to a level at a time. The first wire that is asked for has that level, and the others are shown, or all
-/// wires if there are no others.
+/// The SVG of a picture that is asked for, with levels in these numerals and this title above the times. It has an arrow from each cause to its
+/// effect in the chain that leads to a level at `time`, in units. The first wire that is asked for has that level. The others are shown, or all wires
+/// if there are no others.
 #[derive(Clone, Copy)]
 pub struct CausePicture<'a> {
     pub asked: AskedPicture<'a>,

@@ -11,7 +11,7 @@ use mp_streams::{Out, Sink, WriteError};
 use std::alloc::Global;
 use std::thread::Threads;
 
-/// The events and gaps of wires, and the margins and late data of bundles, in a range of times.
+/// The events and gaps of wires, and the margins and late data of bundles, in a range of times, in units.
 #[derive(Clone, Copy)]
 pub struct MeasureLines {
     pub range: TimeRange,

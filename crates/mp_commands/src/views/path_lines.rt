@@ -11,7 +11,8 @@ use mp_streams::{Out, Sink, WriteError};
 use std::alloc::Global;
 use std::thread::Threads;
 
-/// Where the time of the chain of causes went of the level that the wire of this name has at a time.
+/// Where the time went of the chain of causes of the level that the wire of this name has at a time, in units from 0. It may be at or above the
+/// horizon.
 #[derive(Clone, Copy)]
 pub struct PathLines<'a> {
     pub wire: &'a Name,

@@ -19,7 +19,7 @@ pub trait View {
     // The names of the wires that it speaks of.
     ghost wires: { Self → List (List ℕ) };
 
-    /// The place of the first of its wires that doesn't stand in a netlist; none where all stand.
+    /// The place, counted from 0, of the first of its wires that doesn't exist in a netlist; `None` if all exist.
     fn missing(&self, netlist: &Netlist) -> Option<usize>
         ensures { result ≡ missing_at netlist.now (wires self.now) };
 

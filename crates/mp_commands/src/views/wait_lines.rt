@@ -10,7 +10,7 @@ use mp_streams::{Out, Sink, WriteError};
 use std::alloc::Global;
 use std::thread::Threads;
 
-/// Which modules and bundles wait at a time.
+/// Which modules and bundles wait at a time, in units from 0. It may be at or above the horizon.
 #[derive(Clone, Copy)]
 pub struct WaitLines {
     pub time: u64,

@@ -12,7 +12,8 @@ use mp_text::MAX_STEPS;
 use std::alloc::Global;
 use std::thread::Threads;
 
-/// The chain of causes of the level that the wire of this name has at a time, in so many steps at most.
+/// The chain of causes of the level that the wire of this name has at a time, in at most `steps` lines. The time is in units from 0, and may be at or
+/// above the horizon.
 #[derive(Clone, Copy)]
 pub struct WhyLines<'a> {
     pub wire: &'a Name,
@@ -24,7 +25,7 @@ impl<'a> WhyLines<'a> {
     ghost use Rattle.std.specs.Prelude.{◌≡◌, ◌&&◌, nat_le, is_some, IfSome};
     ghost use Rattle.mp_text.specs.Limits.{max_steps};
 
-    /// This chain, where there may be 1 to `MAX_STEPS` steps.
+    /// This chain, if `steps` is 1 to `MAX_STEPS`.
     pub fn new(wire: &'a Name, time: u64, steps: u32) -> Option<WhyLines<'a>>
         ensures valid { is_some result ≡ (nat_le 1 steps && nat_le steps max_steps) }
         ensures wire { IfSome result (λ lines. lines.wire.now ≡ wire.now) }

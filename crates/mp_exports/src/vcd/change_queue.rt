@@ -4,7 +4,7 @@ ghost use Rattle.mp_exports.specs.vcd.Clauses.{ℕ, List, [], IfOk, OnOk, slice_
 
 use std::alloc::{AllocError, Global};
 
-/// A change of a wire, and the place of the next change of the same time.
+/// A change of a wire, by number, to a level, and the place of the next change of the same time, 0 if there is none.
 #[derive(Clone, Copy)]
 pub struct QueuedChange {
     pub level: u64,
@@ -12,7 +12,8 @@ pub struct QueuedChange {
     pub next: u32,
 }
 
-/// For each time from one on a list of changes, whose first place is in `firsts`. Places are counted from 1, and 0 ends a list.
+/// A list of changes for each time from `from` on. `firsts` has the place of the first change of each time. Places are counted from 1, and 0 ends a
+/// list.
 #[derive(Drop)]
 pub struct ChangeQueue {
     pub from: u32,
@@ -21,7 +22,7 @@ pub struct ChangeQueue {
 }
 
 impl ChangeQueue {
-    /// An agenda of no changes at so many times from one on, with room for some.
+    /// A queue without changes for `times` times from `from` on, with room for `room` changes. The error comes if memory runs out.
     pub fn new(alloc: Global, from: u32, times: u32, room: usize) -> Result<ChangeQueue, AllocError>
         ensures from { IfOk result (λ agenda. agenda.from ≡ from) }
         ensures times { IfOk result (λ agenda. vec_len agenda.firsts ≡ times) }
@@ -36,7 +37,8 @@ impl ChangeQueue {
         })
     }
 
-    /// Puts a change before the others of its time. More than 2^32 - 1 changes are too many for memory.
+    /// Puts a change of a wire, by number, before the other changes of its time. A change at another time than those of the queue is left out. The
+    /// error comes if memory runs out, and with more than 2^32 - 1 changes.
     pub fn add(&mut self, time: u32, wire: u32, level: u64) -> Result<(), AllocError>
         ensures from { OnOk result (self.new.from ≡ self.old.from) }
         ensures times { OnOk result (vec_len self.new.firsts ≡ vec_len self.old.firsts) }
@@ -59,7 +61,7 @@ impl ChangeQueue {
         Ok(())
     }
 
-    /// The place of the first change of a time, or 0.
+    /// The place of the first change of a time, counted from 1; 0 if there is none.
     #[inline]
     pub fn first(&self, time: u32) -> u32
         requires from { self.now.from ≤ time }

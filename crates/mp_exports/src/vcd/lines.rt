@@ -17,7 +17,7 @@ pub fn put_declaration<S: Sink>(
     ("$var wire ", wire.width, " ", named).put_to(out)
 }
 
-/// Writes the line of a time.
+/// Writes the line of a time, in units.
 pub fn put_time_mark<S: Sink>(out: &mut Out<S>, time: u32) -> Result<(), Failed>
     ensures { Writes result out.old out.new (time_mark time) }
 {

@@ -4,7 +4,8 @@ ghost use Rattle.mp_exports.specs.vcd.Clauses.{ℕ, true, false, take, length, s
 
 use mp_wave::{Wave, WaveChanges};
 
-/// The changes of a wave from a time to before another. They are looked for at a place first, and by search where they don't begin there.
+/// The changes of a wave from `from` to before `to`. They are looked for first at `place`, counted from 0 among all changes of the wave, and by
+/// search if they don't begin there.
 pub fn part(wave: &Wave, from: u32, to: u32, place: usize) -> WaveChanges<'_>
     requires { 0 < from }
     ensures { changes_in result ≡ between (from - 1) to wave.now.changes }

@@ -5,7 +5,8 @@ ghost use Rattle.mp_exports.specs.vcd.Clauses.{ℕ, IfOk, map, slice_index, wire
 use mp_netlist::{Netlist, WireId};
 use std::alloc::{AllocError, Global};
 
-/// The width of each wire by number, 0 where none stands: so that no record is looked at for a change.
+/// The width in bits of each wire by number, 0 for a number without a wire. So no record is looked at for a change. The error comes if memory runs
+/// out.
 #[tactic(auto, using(crate::proofs::lemmas::vcd::StandingLemmas::widths_of_steps))]
 pub fn widths_of(alloc: Global, netlist: &Netlist) -> Result<Vec<u32>, AllocError>
     ensures are { IfOk result (λ widths. widths.items ≡ map width_of netlist.now.wires) }

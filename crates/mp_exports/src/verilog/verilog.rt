@@ -15,7 +15,7 @@ use mp_streams::{Failed, Out, Sink, Text, WriteError};
 use std::alloc::Global;
 
 /// Writes a netlist as Verilog: a module for each kind that occurs, one for the netlist, and a test bench that drives it and dumps the levels
-/// of its wires. `WriteFailed` comes with a fault of the sink: then some of what was held and of the text, from the front, is with the sink,
+/// of its wires. `WriteFailed` comes if the sink fails: then some of what was held and of the text, from the front, is with the sink,
 /// and nothing is held. `OutOfMemory` comes before anything is written. It takes memory for the driver of each wire.
 pub fn put_verilog<S: Sink>(
     alloc: Global,

@@ -1,8 +1,8 @@
 //! Where the row of a wire stands in an SVG.
 use crate::Numerals;
 
-/// The row of a wire in an SVG, by number from 0, with its columns from a point on, which have so many units each, and with levels in these
-/// numerals.
+/// The row of a wire in an SVG. Rows are counted from 0. Its columns begin at the point `left` of the SVG and have `units` units of time each. Levels
+/// are written in these numerals.
 #[derive(Clone, Copy, Debug)]
 pub struct Lane {
     pub left: u32,

@@ -39,8 +39,8 @@ struct Sheet<'a> {
 /// of the arrows of which both ends are in the picture.
 /// Control characters of the title are blanks.
 ///
-/// `WriteFailed` comes with a fault of the sink: then some of what was held and of the SVG, from the front, is with the sink, and nothing
-/// is held. `OutOfMemory` comes where memory is wanting, or where there are 2^32 rows or more, which no netlist has: then a part of the
+/// `WriteFailed` comes if the sink fails: then some of what was held and of the SVG, from the front, is with the sink, and nothing
+/// is held. `OutOfMemory` comes if memory runs out, or where there are 2^32 rows or more, which no netlist has: then a part of the
 /// SVG, from its front, is written. It takes memory for the findings in the range and for the cells of one wire.
 pub fn put_svg<S: Sink>(
     alloc: Global,

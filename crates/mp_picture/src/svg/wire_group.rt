@@ -14,7 +14,8 @@ use mp_streams::{Failed, Out, Sink, Text};
 
 const PATH_START: &str = "<path class=\"level\" d=\"";
 
-/// Writes the row of the wire of this number: its name, a path, and bands or values. `Failed` is as that of `Out::put_bytes`.
+/// Writes the row of the wire of this number: its name, a path, and bands or values. `cells` has a cell for each column. `Failed` is as that of
+/// `Out::put_bytes`.
 pub fn put_wire_group<S: Sink>(
     out: &mut Out<S>,
     lane: Lane,

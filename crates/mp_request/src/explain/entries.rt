@@ -29,7 +29,7 @@ use crate::explain::text_faults::{
 use std::alloc::{AllocError, Global};
 
 /// All that can be explained: each code of a text, of an edit, of a seat and of a finding, by number, each word of a check, and each kind of module.
-/// `AllocError` comes where memory runs out.
+/// `AllocError` comes if memory runs out.
 ///
 /// Each part of it is a function of its own: the more text a function names, the more steps its proof takes.
 pub fn guide(alloc: Global) -> Result<Vec<Entry>, AllocError>

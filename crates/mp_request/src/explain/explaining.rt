@@ -8,7 +8,7 @@ ghost use Rattle.mp_request.specs.explain.Subjects.{is_called};
 use crate::explain::entry::Entry;
 use mp_streams::{Failed, Out, Sink, Text};
 
-/// Writes the titles of a guide, a line each. `Failed` comes with a fault of the sink: then some of what was held and of the lines, from the
+/// Writes the titles of a guide, a line each. `Failed` comes if the sink fails: then some of what was held and of the lines, from the
 /// front, is with the sink, and nothing is held.
 pub fn put_titles<S: Sink>(out: &mut Out<S>, guide: &[Entry]) -> Result<(), Failed>
     ensures { Writes result out.old out.new (flat_map title_line guide.now) }

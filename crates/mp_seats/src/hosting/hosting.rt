@@ -26,7 +26,7 @@ use std::thread::Threads;
 /// Serves all who come to the doors of a desk, each seat on a thread of its own, and answers the lines of whoever runs it meanwhile. It ends where
 /// these lines end and all seats are left. Where no thread can be started for a seat, that seat stays free.
 ///
-/// `BadSize` comes where there are not doors for 1 to 8 designers and for at most 31 viewers. `OutOfMemory` comes where memory is wanting, and
+/// `BadSize` comes where there are not doors for 1 to 8 designers and for at most 31 viewers. `OutOfMemory` comes if memory runs out, and
 /// `NoPlace` where there is no place for a viewer or designer. The lines of whoever runs the desk may end with a fault: it is told once all
 /// seats are left.
 pub fn host<

@@ -63,7 +63,7 @@ impl Model for Places {
 }
 
 impl Places {
-    /// So many free seats for designers and for viewers.
+    /// This many free seats for designers and for viewers. The error comes if memory runs out.
     pub fn new(alloc: Global, designers: u32, viewers: u32) -> Result<Places, AllocError> {
         Ok(Places {
             designers: free_places(alloc, designers, SeatName::Designer)?,

@@ -36,7 +36,7 @@ impl<T: Sink, N: JournalNotice> Model for Journal<T, N> {
 impl<T: Sink + Drop, N: JournalNotice> Journal<T, N> {
     ghost use Rattle.std.specs.Prelude.{◌≡◌, true, IfOk};
 
-    /// A journal into which no edit was appended yet. The error comes where memory is wanting.
+    /// A journal to which no edit was appended yet. The error comes if memory runs out.
     pub fn new(alloc: Global, sink: T, notice: N) -> Result<Self, AllocError>
         ensures { IfOk result (λ journal. journal ≡ record { before = T.taken sink; taken = T.taken sink; is_whole = true }) }
     {

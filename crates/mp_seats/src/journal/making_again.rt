@@ -12,10 +12,10 @@ use std::alloc::Global;
 use std::sync::Wait;
 use std::thread::Threads;
 
-/// Makes the edits of a journal in a session, in order.
+/// Makes the edits of a journal in a session, in order. `text` is all of the journal: a line for each edit, with its line feed.
 ///
 /// `Unended` comes first, where the text has a last line without a line feed: its edit may not be whole. Then the first line decides that isn't
-/// read, asks a question, or has an edit that is refused after those before it. `OutOfMemory` comes where memory is wanting.
+/// read, asks a question, or has an edit that is refused after those before it. `OutOfMemory` comes if memory runs out.
 pub fn make_again<R: Threads + Wait + Sync, S: EditSession>(
     rt: &R,
     alloc: Global,

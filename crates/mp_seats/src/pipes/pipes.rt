@@ -30,7 +30,7 @@ pub struct Pipes<'a> {
 }
 
 impl<'a> Pipes<'a> {
-    /// The pipes of these seats in a folder. They needn't be there.
+    /// The pipes of these seats in the folder of this path. They needn't be there. The error comes if memory runs out.
     pub fn new(
         files: &'a HostRuntime,
         folder: &str,
@@ -48,7 +48,7 @@ impl<'a> Pipes<'a> {
         })
     }
 
-    /// The first path at which there is no named pipe.
+    /// The first path at which there is no named pipe; `None` if all are there.
     pub fn missing(&self) -> Option<&str> {
         match first_missing(self.files, self.designers.as_slice()) {
             Some(path) => Some(path),
@@ -56,7 +56,7 @@ impl<'a> Pipes<'a> {
         }
     }
 
-    /// Makes the desk's own links to the pipes, in place of those that another desk left there. The first path that can't be made is returned.
+    /// Makes the desk's own links to the pipes, in place of those that another desk left there. Returns the first path that can't be made, or `None`.
     pub fn link(&self) -> Option<&str> {
         // (it may be there: then its links are made)
         let _ = fs::create_dir(self.files, self.own.as_str());

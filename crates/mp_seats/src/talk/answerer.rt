@@ -13,7 +13,7 @@ pub trait Answerer {
     // Whether one who stands so may answer a line so, and stand so after it. None is a line that is too long to be read.
     ghost Answers: { Self → Option (List ℕ) → Self → List ℕ → Type 0 };
 
-    /// Writes the answer to a line. `None` is a line that is too long to be read. `WriteFailed` comes with a fault of the sink, and `OutOfMemory`
+    /// Writes the answer to a line. `None` is a line that is too long to be read. `WriteFailed` comes if the sink fails, and `OutOfMemory`
     /// where memory is wanting: then a part of the answer may be written. The clause `shared` says what the bound `Sync` says: in a trait the
     /// prover asks for both.
     fn put_answer<R: Threads + Wait + Sync, T: Sink>(

@@ -13,8 +13,8 @@ use std::thread::Threads;
 
 /// Has each line answered, and passes the answer on to the sink, before it reads the next one. It ends where the source ends.
 ///
-/// `ReadFailed` comes with a fault of the source, after the answers to all lines that ended before. `WriteFailed` comes with a fault of the
-/// sink, and `OutOfMemory` where memory is wanting for an answer: then a part of the last answer may be written.
+/// `ReadFailed` comes if the source fails, after the answers to all lines that ended before. `WriteFailed` comes with a fault of the
+/// sink, and `OutOfMemory` if memory runs out for an answer: then a part of the last answer may be written.
 pub fn converse<R: Threads + Wait + Sync, A: Answerer, S: Source, T: Sink>(
     rt: &R,
     who: &mut A,
