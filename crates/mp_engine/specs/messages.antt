@@ -1,3 +1,4 @@
 pub mod Messages
+pub mod LineRules
 pub mod Lines
 pub mod Mails

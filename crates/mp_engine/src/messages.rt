@@ -2,6 +2,8 @@
 
 mod channels;
 mod given_up;
+mod line;
+mod line_rule;
 mod lines;
 mod message;
 

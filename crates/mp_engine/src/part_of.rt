@@ -44,7 +44,7 @@ impl<'a> PartOf<'a> {
         rt: &R,
         alloc: Global,
         gate: &G,
-        channels: Channels<J>,
+        mut channels: Channels<J>,
     ) -> Result<PartRun, GivenUp>
         requires open { IsOpen (G.may gate.now) }
         requires channels { IsMailOf J.netlist J.wires J.heards self channels }

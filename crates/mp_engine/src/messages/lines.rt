@@ -7,9 +7,9 @@ ghost use Rattle.mp_partition.specs.regions.Regions.{partition_of};
 ghost use Rattle.mp_partition.specs.regions.Divisions.{heard_by};
 ghost use Rattle.mp_engine.specs.messages.Lines.{parts_of};
 
-use crate::messages::channels::{Channels, LineFrom, LineTo};
+use crate::messages::channels::Channels;
+use crate::messages::line::{LineFrom, LineTo, open_line};
 use crate::messages::message::Subject;
-use crossbeam_channel::bounded;
 use mp_netlist::{Netlist, WireId};
 use mp_partition::{Division, heard_by, is_heard, partition_of};
 use mp_phase::LOOKS;
@@ -146,12 +146,9 @@ fn lines_from<J: Subject>(
     let mut lines = Vec::new(alloc);
     for by in 0..marks.len() {
         if marks[by] {
-            let (messages, line) = bounded(alloc, 1)?;
-            add_line(to, by, LineTo { to: part, messages })?;
-            lines.push(LineFrom {
-                by: by as u32,
-                messages: line,
-            })?;
+            let (end, other) = open_line(alloc, by as u32, part)?;
+            add_line(to, by, end)?;
+            lines.push(other)?;
         }
     }
     Ok(lines)

@@ -1,8 +1,8 @@
 -- Which parts have lines to another.
-use Rattle.std.proofs.Common.{◌≡◌, ◌≢◌, ◌⊎◌, ℕ, ◌+◌, ◌<◌, ◌≤◌, Bool, true, false, cond, nat_lt, List, [], ◌∷◌, ◌++◌, None, is_some, length, slice_index_or, refl, sym, ap, ◌∙◌, arith, inl, inr}
+use Rattle.std.proofs.Common.{◌≡◌, ◌≢◌, ◌⊎◌, ℕ, ◌+◌, ◌<◌, ◌≤◌, Bool, true, false, cond, nat_lt, List, [], ◌∷◌, ◌++◌, None, is_some, length, map, take, drop, set, slice_index_or, refl, sym, ap, ◌∙◌, arith, inl, inr}
 use Rattle.std.specs.Prelude.{◌==◌, ◌&&◌}
 use Rattle.std.proofs.lemmas.Bool.{cases_eq, cases_lt, lt-ltb, le-ltb, eq-eqb, ne_eqb}
-use Rattle.std.proofs.lemmas.List.{get_or_past, get_or_push, get_or_append_left, length_push}
+use Rattle.std.proofs.lemmas.List.{get_or_past, get_or_push, get_or_append_left, length_push, take_all, take-append-le, map-set, set-get_or, length-map}
 use Rattle.std.proofs.lemmas.List.Sums.{sum_by-cons}
 use Rattle.mp_netlist.specs.Circuit.{Circuit, wire_at}
 use Rattle.mp_kernel.specs.automata.Codes.{bit}
@@ -70,3 +70,18 @@ module _ {J : Type 0} {subject : Ghosts J} where
         let last : length mails ≡ k = omega (arith, past, within, long) in
         ap (λ (xs : List (Channels J subject)). (slice_index_or xs k d).part) is ∙ ap (λ (x : Channels J subject). x.part) (get_or_push mails channels d k last) ∙ part ∙ last
   ]
+
+module _ {A : Type 0} where
+  -- an item is written over by one of which the same is said
+  pub map_same : {B : Type 0} (f : A → B) (xs : List A) (i : ℕ) (y d : A) → f y ≡ f (slice_index_or xs i d) → map f (set xs i y) ≡ map f xs
+  map_same f xs i y d same = map-set f xs i y ∙ ap (set (map f xs) i) same ∙ sym (map-set f xs i (slice_index_or xs i d)) ∙ ap (map f) (set-get_or xs i d)
+
+  -- what is written back in the place of items of which the same is said
+  pub written : {B : Type 0} (f : A → B) (n : ℕ) (xs ys : List A) → map f xs ≡ map f ys → n ≡ length ys → take n (xs ++ drop (length xs) ys) ≡ xs
+  written f n xs ys same long =
+      let as_long : length xs ≡ n = sym (length-map xs f) ∙ ap (length) same ∙ length-map ys f ∙ sym long in
+      take-append-le n xs (drop (length xs) ys) (omega arith) ∙ take_all n xs (omega arith)
+
+  -- so the same is said of what is written back
+  pub written_same : {B : Type 0} (f : A → B) (n : ℕ) (xs ys : List A) → map f xs ≡ map f ys → n ≡ length ys → map f (take n (xs ++ drop (length xs) ys)) ≡ map f ys
+  written_same f n xs ys same long = ap (map f) (written f n xs ys same long) ∙ same

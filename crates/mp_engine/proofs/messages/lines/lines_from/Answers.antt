@@ -1,4 +1,4 @@
-use Rattle.std.proofs.Common.{◌≡◌, ◌⊎◌, ◌<◌, ◌≤◌, Bool, true, false, nat_lt, length, refl, ap, ◌∙◌, sym, arith, inl, inr}
+use Rattle.std.proofs.Common.{◌≡◌, ◌⊎◌, ◌<◌, ◌≤◌, ◌++◌, [], ◌∷◌, Bool, true, false, nat_lt, length, refl, ap, ◌∙◌, sym, arith, inl, inr}
 use Rattle.std.specs.Prelude.{◌&&◌}
 use Rattle.std.proofs.lemmas.Bool.{cases_lt, lt-ltb, le-ltb}
 use Rattle.std.proofs.lemmas.List.{map_push, get_or_past}
@@ -8,17 +8,18 @@ use Rattle.mp_partition.specs.runs.Marks.{is_marked}
 use Rattle.mp_engine.specs.messages.Lines.{parts_of}
 use Rattle.mp_engine.proofs.lemmas.messages.LineLemmas.{line_added, line_left_out}
 use Rattle.mp_engine.proofs.messages.lines.lines_from.Goals as goal
-use Rattle.mp_engine.proofs.messages.lines.lines_from.Goals.{then-marks-by+in_ok-messages+in_ok-add_line+in_ok-push, else-marks-by}
+use Rattle.mp_engine.proofs.messages.lines.lines_from.Goals.{then-marks-by+in_ok-end+in_ok-add_line+in_ok-push, else-marks-by}
 
 pub loop-by-init : goal.loop-by-init
 loop-by-init g c k = ap (λ lines. listed k (parts_of lines)) c.new-lines.ensures.items ∙ sym (ap (λ b. bit (b && is_marked c.args.marks.now k)) (le-ltb k 0 (omega arith)))
 
 pub loop-by-preserved : goal.loop-by-preserved
 loop-by-preserved g c = elim c.if-marks-by.branch [
-  | then-marks-by+in_ok-messages+in_ok-add_line+in_ok-push w ↦ λ k.
+  | then-marks-by+in_ok-end+in_ok-add_line+in_ok-push w ↦ λ k.
       ap (λ lines. listed k (parts_of lines.items)) w.lines-is
       ∙ ap (λ lines. listed k (parts_of lines)) w.in_ok-push.ensures.items
       ∙ ap (listed k) (map_push (λ l. l.by) c.loop-by.lines.items _)
+      ∙ ap (λ by. listed k (parts_of c.loop-by.lines.items ++ by ∷ [])) w.in_ok-end.ensures.1
       ∙ line_added c.args.marks.now c.loop-by.by k (parts_of c.loop-by.lines.items) (c.loop-by.invariant k) w.if-marks-by.true
   | else-marks-by w ↦ λ k.
       ap (λ lines. listed k (parts_of lines.items)) w.lines-is

@@ -39,6 +39,7 @@ loop-from-init g c =
       within = low;
       horizon = c.horizon-horizon.ensures.value;
       span = refl;
+      channels = c.requires.channels.1;
       under_way = c.in_ok-run.ensures heard 1 (subst (λ (r : Circuit). HasStimuli n r heard) (sym here) (has_stimuli n homes part heard)) (λ w marked. (c.requires.channels.0.division.heard part w marked).unset) (λ w marked. omega arith);
     }
 
@@ -61,7 +62,7 @@ send-requires-clause-knows g c =
     let sum = c.saturating_add.ensures in
     let high = c.horizon-horizon.type_inv in
     let about = c.requires.channels.0 in
-    renamed about.netlist about.wires_are about.heards_are (sym c.requires.channels.1) (λ m ws hs p. KnowsAhead m ws hs p (record { from = c.loop-from.from; until = c.min-until.result }) c.loop-from.run.simulation) (record {
+    renamed about.netlist about.wires_are about.heards_are (sym before.channels) (λ m ws hs p. KnowsAhead m ws hs p (record { from = c.loop-from.from; until = c.min-until.result }) c.loop-from.run.simulation) (record {
       homes = homes;
       parts = c.args.self.division.now.parts;
       form = c.horizon-horizon.ensures.form;
@@ -92,13 +93,13 @@ run_units-requires-clause-before g c =
     let from = c.loop-from.from in
     let until = c.min-until.result in
     let changes = c.in_ok-receive.field-0.items in
-    let bys = parts_of c.args.channels.from.items in
+    let bys = parts_of c.send.new.self.from.items in
     let later = before.later in
     let horizon = before.horizon in
     let next : c.loop-from.from ≡ c.loop-from.from - 1 + 1 = omega (arith, later) in
     let about = c.requires.channels.0 in
-    let once = renamed (sym about.netlist) (sym about.wires_are) (sym about.heards_are) c.requires.channels.1 (λ m ws hs p. IsToldOnce m ws (heard_by hs p) bys) c.args.channels.once in
-    let told = renamed (sym about.netlist) (sym about.wires_are) (sym about.heards_are) c.requires.channels.1 (λ m ws hs p. AreTold m ws (heard_by hs p) bys (record { from = from; until = until }) changes) c.in_ok-receive.ensures in
+    let once = renamed (sym about.netlist) (sym about.wires_are) (sym about.heards_are) (c.send.ensures.same.0 ∙ before.channels) (λ m ws hs p. IsToldOnce m ws (heard_by hs p) bys) c.send.new.self.once in
+    let told = renamed (sym about.netlist) (sym about.wires_are) (sym about.heards_are) (c.send.ensures.same.0 ∙ before.channels) (λ m ws hs p. AreTold m ws (heard_by hs p) bys (record { from = from; until = until }) changes) c.in_ok-receive.ensures.told in
     let told_next = subst (λ k. AreTold n wires (heard_by heards part) bys (record { from = k; until = until }) changes) next told in
     let low = c.min-until.ensures in
     let tidings = tidings_are n c.horizon-horizon.ensures.form homes wires heards c.args.self.division.now.parts about.division part bys (from - 1) until changes (omega (arith, low, horizon)) once told_next in
@@ -122,13 +123,13 @@ loop-from-preserved g c =
     let from = c.loop-from.from in
     let until = c.min-until.result in
     let changes = c.in_ok-receive.field-0.items in
-    let bys = parts_of c.args.channels.from.items in
+    let bys = parts_of c.send.new.self.from.items in
     let later = before.later in
     let horizon = before.horizon in
     let next : c.loop-from.from ≡ c.loop-from.from - 1 + 1 = omega (arith, later) in
     let about = c.requires.channels.0 in
-    let once = renamed (sym about.netlist) (sym about.wires_are) (sym about.heards_are) c.requires.channels.1 (λ m ws hs p. IsToldOnce m ws (heard_by hs p) bys) c.args.channels.once in
-    let told = renamed (sym about.netlist) (sym about.wires_are) (sym about.heards_are) c.requires.channels.1 (λ m ws hs p. AreTold m ws (heard_by hs p) bys (record { from = from; until = until }) changes) c.in_ok-receive.ensures in
+    let once = renamed (sym about.netlist) (sym about.wires_are) (sym about.heards_are) (c.send.ensures.same.0 ∙ before.channels) (λ m ws hs p. IsToldOnce m ws (heard_by hs p) bys) c.send.new.self.once in
+    let told = renamed (sym about.netlist) (sym about.wires_are) (sym about.heards_are) (c.send.ensures.same.0 ∙ before.channels) (λ m ws hs p. AreTold m ws (heard_by hs p) bys (record { from = from; until = until }) changes) c.in_ok-receive.ensures.told in
     let told_next = subst (λ k. AreTold n wires (heard_by heards part) bys (record { from = k; until = until }) changes) next told in
     let low = c.min-until.ensures in
     let tidings = tidings_are n c.horizon-horizon.ensures.form homes wires heards c.args.self.division.now.parts about.division part bys (from - 1) until changes (omega (arith, low, horizon)) once told_next in
@@ -141,6 +142,7 @@ loop-from-preserved g c =
       within = omega (arith, low);
       horizon = before.horizon;
       span = before.span;
+      channels = c.in_ok-receive.ensures.same.0 ∙ c.send.ensures.same.0 ∙ before.channels;
       under_way = c.in_ok-run_units.ensures c.args.self.keeps (is_marked heard) until (omega arith) over;
     }
 

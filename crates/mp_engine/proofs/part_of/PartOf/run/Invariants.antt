@@ -11,6 +11,7 @@ invariant-loop-from g l = record {
   within : l.from ≤ l.horizon;
   horizon : l.horizon ≡ l.self.netlist.now.horizon;
   span : l.span ≡ l.division.delay;
+  channels : l.channels.part ≡ l.self.part;
   under_way : IsUnderWay l.region l.keeps (is_marked (heard_by l.division.heard.items l.part)) (l.from - 1) l.from l.run;
 }
 
