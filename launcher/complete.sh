@@ -23,13 +23,16 @@ words_of() {
     } | sort -u | tr '\n' ' '
 }
 
-# the options that take a value, of all commands: those of which the value is a folder, or the others
+# the options, of all commands, whose first value is a folder, or another one, or that have a `second` one
 options_with() {
-    local command option value
+    local command option values
     while read -r command _; do
-        while read -r option value _; do
-            if [ "$value" = - ]; then continue; fi
-            if value_is_folder "$value"; then echo "folder $option"; else echo "other $option"; fi
+        while read -r option values _; do
+            case $values in
+            -) ;;
+            *,*) printf '%s\n' "other $option" "second $option" ;;
+            *) if value_is_folder "$values"; then echo "folder $option"; else echo "other $option"; fi ;;
+            esac
         done < <(options_in "$1/$command")
     done <"$1/commands" | sort -u | sed -n "s/^$2 //p" | paste -s -d '|'
 }
@@ -57,6 +60,9 @@ EOF
         case \${COMP_WORDS[COMP_CWORD - 1]} in
         $(options_with "$1" folder)) words="" operands=folders ;;
         $(options_with "$1" other)) words="" operands=none ;;
+        esac
+        case \${COMP_WORDS[COMP_CWORD - 2]} in
+        $(options_with "$1" second)) words="" operands=none ;;
         esac
     fi
 EOF
@@ -109,13 +115,11 @@ EOF
 }
 
 zsh_arguments() {
-    local option value text action
-    { options_in "$1/$2" && echo '--help - Print help'; } | sort -u -k 1,1 | while read -r option value text; do
+    local option values text
+    { options_in "$1/$2" && echo '--help - Print help'; } | sort -u -k 1,1 | while read -r option values text; do
         text=${text//[/\\[} && text=${text//]/\\]} && text=${text//:/\\:}
-        action=""
-        if value_is_folder "$value"; then action=":$value:_files -/"; elif [ "$value" != - ]; then action=":$value:"; fi
         # (an option may come more than once)
-        quoted "*$option""[$text]$action"
+        quoted "*$option""[$text]$(zsh_values "$values")"
     done
     case $(operands_of "$2") in
     files) quoted '*:file:_files' ;;
@@ -125,16 +129,24 @@ zsh_arguments() {
     esac
 }
 
+# what is offered for the values of an option: folders for a folder, and else their names alone
+zsh_values() {
+    local value
+    if [ "$1" = - ]; then return; fi
+    for value in ${1//,/ }; do
+        if value_is_folder "$value"; then printf ':%s:_files -/' "$value"; else printf ':%s: ' "$value"; fi
+    done
+}
+
 complete_in_fish() {
-    local command about option value text
+    local command about option values text
     echo "# completion of mpwb for fish"
     echo "complete -c mpwb -n __fish_use_subcommand -f -l help -d 'Print help'"
     echo "complete -c mpwb -n __fish_use_subcommand -f -l version -d 'Print version'"
     while read -r command about; do
         echo "complete -c mpwb -n __fish_use_subcommand -f -a $command -d $(quoted "$about")"
-        { options_in "$1/$command" && echo '--help - Print help'; } | sort -u -k 1,1 | while read -r option value text; do
-            case $value in -) value="" ;; FOLDER) value="-x -a '(__fish_complete_directories)'" ;; *) value=-x ;; esac
-            echo "complete -c mpwb -n '__fish_seen_subcommand_from $command' -l ${option#--} $value -d $(quoted "$text")"
+        { options_in "$1/$command" && echo '--help - Print help'; } | sort -u -k 1,1 | while read -r option values text; do
+            fish_option "$command" "$option" "$values" "$text"
         done
         case $(operands_of "$command") in
         words) text=$(tr '\n' ' ' <"$1/words") ;;
@@ -145,4 +157,12 @@ complete_in_fish() {
         esac
         echo "complete -c mpwb -n '__fish_seen_subcommand_from $command' -f -a $(quoted "$text")"
     done <"$1/commands"
+}
+
+# (fish knows of one value of an option: behind it nothing but the second one is looked for)
+fish_option() {
+    local takes of="__fish_seen_subcommand_from $1"
+    case $3 in -) takes="" ;; FOLDER) takes="-x -a '(__fish_complete_directories)'" ;; *) takes=-x ;; esac
+    echo "complete -c mpwb -n '$of' -l ${2#--} $takes -d $(quoted "$4")"
+    if [[ $3 == *,* ]]; then echo "complete -c mpwb -n '$of; and string match -q -- $2 (commandline -opc)[-2]' -f"; fi
 }

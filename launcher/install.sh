@@ -59,11 +59,17 @@ write_help() {
 # the names of commands and what they do, as a help lists them
 commands_in() { sed -n 's/^  \([a-z][a-z]*\)  *\([A-Z].*\)$/\1 \2/p' "$1"; }
 
-# the options of a command, each in a line with the value that it takes, or -, and what it is
+# the options of a command, each in a line with the values that it takes, as WIRE,TIME or as -, and what it is
 options_in() {
     awk '
-        function done() { if (option != "") print option, value, text; option = "" }
-        /^  +(-h, )?--[a-z]/ { done(); sub(/^ +(-h, )?/, ""); option = $1; value = $2 ~ /^</ ? substr($2, 2, length($2) - 2) : "-"; text = ""; next }
+        function done() { if (option != "") print option, values == "" ? "-" : values, text; option = "" }
+        /^  +(-h, )?--[a-z]/ {
+            done()
+            sub(/^ +(-h, )?/, "")
+            option = $1; values = ""; text = ""
+            for (at = 2; at <= NF; at++) values = values (at == 2 ? "" : ",") substr($at, 2, length($at) - 2)
+            next
+        }
         option != "" && text == "" { sub(/^ +/, ""); text = $0; next }
         /^[^ ]/ { done() }
         END { done() }' "$1"
