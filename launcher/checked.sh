@@ -40,8 +40,7 @@ make_checked() {
     take_program &
     taker=$!
     TMPDIR=$room/tmp try_words -- waves "$room/netlist" || true
-    kill "$taker" 2>/dev/null || true
-    wait "$taker" 2>/dev/null || true
+    end_process "$taker"
     taker=""
     # (where it can't be kept, it serves this run alone)
     if [ -x "$room/program" ]; then { mkdir -p "$folder" && put_program "$room/program" "$checked"; } 2>/dev/null || true; fi

@@ -71,7 +71,7 @@ end_input() {
     fi
 }
 
-stop_feeding() { if [ -n "$feeder" ]; then kill "$feeder" 2>/dev/null || true; fi; }
+stop_feeding() { if [ -n "$feeder" ]; then kill -KILL "$feeder" 2>/dev/null || true; fi; }
 
 interrupt() {
     if [ -z "$ended" ] || [ -z "$desk" ]; then
@@ -94,6 +94,7 @@ serve_desk() {
     desk=$!
     "${leash[@]}" cat <&"$given" >&"$lines" {lock}<&- &
     feeder=$!
+    disown "$feeder"
     exec {given}<&- {lines}>&-
     if [ -n "$ended" ]; then stop_feeding; fi
     while :; do

@@ -17,9 +17,15 @@ begin_work() {
 }
 
 end_work() {
-    if [ -n "$taker" ]; then kill "$taker" 2>/dev/null || true; fi
+    if [ -n "$taker" ]; then end_process "$taker"; fi
     if [ -n "$gate" ]; then end_group "$gate"; fi
     rm -rf "$room" "$program.$$" "$checked.$$"
+}
+
+# Ends a process that has nothing to remove. (One that has just begun would take another signal as the script does, and remove the room.)
+end_process() {
+    kill -KILL "$1" 2>/dev/null || true
+    wait "$1" 2>/dev/null || true
 }
 
 # (it first removes what it made)
