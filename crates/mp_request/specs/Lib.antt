@@ -2,3 +2,4 @@ pub mod Asking
 pub mod Wires
 pub mod WordErrors
 pub mod explain
+pub mod faults

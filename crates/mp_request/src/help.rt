@@ -106,7 +106,10 @@ request led to it nor anything that was set from outside since; then a line
 `TIME deadlock MODULE waits for WIRE, ..` for each cycle of modules that wait
 for each other's wires for ever; then `note wire NAME ..` for each wire that
 becomes another level than it is declared with, that nothing drives, or that has
-a stimulus that nothing reads. The exit status is 5 if a line is no note.";
+a stimulus that nothing reads. The exit status is 5 if a line is no note.
+
+If FILE isn't read, standard error also shows its line, a mark below the word at
+fault, what is wrong with it, and a name that is near to it.";
 
 /// What `dump` does.
 pub(crate) const DUMP: &str = "Writes the waves of a netlist as a value change dump";

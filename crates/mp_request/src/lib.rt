@@ -1,7 +1,7 @@
 //! What the program is asked for: the words of its command line, read by `clap`, and the texts that explain its answers.
 //!
 //! The files at the top have the commands with their words, and the help. `explain` says what the codes that the program answers with and the kinds of
-//! event module mean. Begin with `request.rt`.
+//! event module mean. `faults` shows the word at fault of a netlist's text that isn't read. Begin with `request.rt`.
 #![tactic(auto)]
 
 mod argument_form;
@@ -9,6 +9,7 @@ mod arguments;
 mod command_form;
 mod command_line;
 pub mod explain;
+mod faults;
 mod help;
 mod help_editing;
 mod parser;
@@ -19,6 +20,7 @@ mod telling;
 
 pub use command_line::CommandLine;
 pub use explain::{CheckWord, Entry, SeatCode, Topic, guide, put_explanation, put_titles};
+pub use faults::fault_text;
 pub use picture_words::PictureWords;
 pub use reading::{read_words, unknown_word};
 pub use request::{Command, Request};

@@ -8,6 +8,7 @@ mod live_desk;
 mod live_play;
 mod open_sessions;
 mod running;
+mod showing;
 mod telling;
 
 use crate::explained::explain;
@@ -15,6 +16,7 @@ use crate::input_file::{FileFault, open_file};
 use crate::live_desk::run_live_desk;
 use crate::live_play::run_live_play;
 use crate::running::run_on;
+use crate::showing::show_fault;
 use crate::telling::{fault_of_telling, tell_fault, tell_unread};
 use mp_commands::{Options, RunFault, exit_status};
 use mp_request::{Command, CommandLine, Request, read_words, tell};
@@ -95,12 +97,25 @@ fn run_told<R: Runtime + Threads + Wait + Sync + AllocGlobal>(
 }
 
 /// The status with which the program ends after a run, whose fault is told where it has one.
-fn ended<R: Eprint + AllocGlobal>(rt: &R, request: &Request<'_>, run: Result<u8, RunFault>) -> u8 {
+fn ended<R: Runtime + AllocGlobal>(rt: &R, request: &Request<'_>, run: Result<u8, RunFault>) -> u8 {
     match run {
         Ok(status) => status,
         Err(fault) => {
             tell_fault(rt, &fault, request.wires());
+            show_if_checked(rt, &fault, request);
             exit_status(&fault)
+        }
+    }
+}
+
+/// Shows the line of FILE at which its text isn't read, where it was to be checked.
+fn show_if_checked<R: Runtime + AllocGlobal>(rt: &R, fault: &RunFault, request: &Request<'_>) {
+    if !matches!(request.command, Command::Check) {
+        return;
+    }
+    if let RunFault::Text(error) = fault {
+        if let Some(path) = request.file {
+            show_fault(rt, path, *error);
         }
     }
 }

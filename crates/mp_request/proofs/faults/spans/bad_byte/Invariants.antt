@@ -1,0 +1,8 @@
+use Rattle.std.specs.Prelude.{◌≡◌, ◌+◌, drop, not}
+use Rattle.std.specs.List.{position_or_len}
+use Rattle.mp_text.specs.Names.{is_allowed}
+use Rattle.mp_request.proofs.faults.spans.bad_byte.Given as goal
+
+-- the first is among those that are left
+abbrev pub invariant-loop-place : goal.invariant-loop-place
+invariant-loop-place l = l.place + position_or_len (λ b. not (is_allowed b)) (drop l.place l.line) ≡ position_or_len (λ b. not (is_allowed b)) l.line

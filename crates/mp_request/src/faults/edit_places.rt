@@ -1,0 +1,116 @@
+//! The word at fault in a line whose edit is refused.
+ghost use Rattle.std.specs.Prelude.{◌≡◌, ◌<◌, IfOk, length};
+ghost use Rattle.mp_request.specs.faults.EditPlaces.{wire_place, bundle_place, is_good, good_changes, stimulus_place, edit_place, edit_at, refusal_place};
+
+use crate::faults::module_places::module_place;
+use crate::faults::place::Place;
+use crate::faults::wires::{stands, width_named};
+use mp_modules::fits_width;
+use mp_netlist::{Changes, Edit, EditError, Name, Netlist, NewBundle, SingleEdit};
+use mp_text::{Line, LineError, read_line};
+use std::alloc::{AllocError, Global};
+
+/// The word at fault in a line whose edit this netlist refuses. The error comes where memory is wanting.
+pub(crate) fn refusal_place(
+    alloc: Global,
+    netlist: &Option<Netlist>,
+    line: &[u8],
+    error: EditError,
+) -> Result<Place, AllocError>
+    ensures { IfOk result (λ place. place ≡ refusal_place netlist.now (edit_at line.now) error) }
+{
+    let Some(edit) = edit_at(alloc, line)? else {
+        return Ok(Place::Word(0));
+    };
+    match netlist {
+        Some(netlist) => Ok(edit_place(netlist, &edit, error)),
+        None => Ok(Place::Word(0)),
+    }
+}
+
+/// The edit that a line states, where it states one.
+fn edit_at(alloc: Global, line: &[u8]) -> Result<Option<SingleEdit>, AllocError>
+    ensures { IfOk result (λ edit. edit ≡ edit_at line.now) }
+{
+    match read_line(alloc, line) {
+        Ok(Line::Change(Edit::Single(edit))) => Ok(Some(edit)),
+        Ok(_) => Ok(None),
+        Err(LineError::OutOfMemory) => Err(AllocError),
+        Err(_) => Ok(None),
+    }
+}
+
+/// The word at fault in the line of an edit that is refused.
+fn edit_place(netlist: &Netlist, edit: &SingleEdit, error: EditError) -> Place
+    ensures { result ≡ edit_place netlist.now edit.now error }
+{
+    match edit {
+        SingleEdit::AddWire { .. } => wire_place(error),
+        SingleEdit::AddModule(new) => module_place(netlist, new.get(), error),
+        SingleEdit::AddBundle(new) => bundle_place(netlist, new.get(), error),
+        SingleEdit::SetStimulus { wire, changes } => stimulus_place(netlist, wire, changes, error),
+        _ => Place::Word(0),
+    }
+}
+
+fn wire_place(error: EditError) -> Place
+    ensures { result ≡ wire_place error }
+{
+    match error {
+        EditError::BadName | EditError::NameTaken => Place::Word(1),
+        EditError::BadWidth => Place::Word(2),
+        EditError::BadLevel => Place::Word(3),
+        _ => Place::Word(0),
+    }
+}
+
+fn bundle_place(netlist: &Netlist, new: &NewBundle, error: EditError) -> Place
+    ensures { result ≡ bundle_place netlist.now new.now error }
+{
+    match error {
+        EditError::BadName | EditError::NameTaken => Place::Word(1),
+        EditError::NoSuchWire if !stands(netlist, &new.request) => Place::Word(2),
+        EditError::NoSuchWire if !stands(netlist, &new.acknowledge) => Place::Word(3),
+        EditError::NoSuchWire => Place::Word(4),
+        EditError::WidthMismatch if width_named(netlist, &new.request) == 1 => Place::Word(3),
+        EditError::WidthMismatch => Place::Word(2),
+        EditError::BadParam => Place::Word(5),
+        _ => Place::Word(0),
+    }
+}
+
+fn stimulus_place(netlist: &Netlist, wire: &Name, changes: &Changes, error: EditError) -> Place
+    ensures { result ≡ stimulus_place netlist.now wire.now changes.now error }
+{
+    match error {
+        EditError::NoSuchWire | EditError::AlreadyDriven => Place::Word(1),
+        EditError::BadStimulus => {
+            let width = u64::from(width_named(netlist, wire));
+            let horizon = u64::from(netlist.horizon());
+            Place::Word(2 + good_changes(horizon, width, changes.as_slice()))
+        }
+        _ => Place::Word(0),
+    }
+}
+
+/// How many changes stand before the first whose time isn't above the one before and below the horizon, or whose value doesn't fit.
+fn good_changes(horizon: u64, width: u64, changes: &[(u64, u64)]) -> usize
+    ensures value { result ≡ good_changes horizon width 0 changes.now }
+    ensures small { result < 9223372036854775808 }
+{
+    let mut before = 0;
+    for (place, &(time, value)) in changes.iter().enumerate() {
+        if !is_good(horizon, width, before, (time, value)) {
+            return place;
+        }
+        before = time;
+    }
+    changes.len()
+}
+
+/// Whether a change's time is above the one before and below the horizon, and its value fits.
+fn is_good(horizon: u64, width: u64, before: u64, change: (u64, u64)) -> bool
+    ensures { result ≡ is_good horizon width before change }
+{
+    before < change.0 && change.0 < horizon && fits_width(change.1, width)
+}

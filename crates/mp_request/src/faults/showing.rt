@@ -1,0 +1,195 @@
+//! What is shown of a line that isn't read.
+ghost use Rattle.std.specs.Prelude.{◌≡◌, ◌++◌, ◌-◌, IfOk, map, take, drop, replicate};
+ghost use Rattle.std.specs.Fmt.{decimal};
+ghost use Rattle.mp_request.specs.faults.FaultTexts.{shown_byte, dots_before, dots_behind, shown_part, marks, margin, located, fault_line, meant, suggestion, fault_text, width, lead};
+
+use crate::faults::fault::find_fault;
+use crate::faults::spans::{is_allowed, is_gap};
+use crate::faults::text_lines::line_numbered;
+use mp_netlist::Name;
+use mp_text::TextError;
+use std::alloc::{AllocError, Global};
+
+/// How many bytes of a line are shown.
+const WIDTH: usize = 68;
+
+/// How many of these at most stand before the word at fault.
+const LEAD: usize = 32;
+
+/// What is shown of a line of a text that isn't read, without the last line feed: the line with its number, marks below the word at fault, and
+/// the meaning of the error, with a name that is near to the word. Of line 0, which is none, it is the meaning alone. The error comes where memory is
+/// wanting.
+pub fn fault_text(
+    alloc: Global,
+    text: &[u8],
+    error: TextError,
+    meaning: &str,
+) -> Result<Vec<u8>, AllocError>
+    ensures { IfOk result (λ shown. shown.items ≡ fault_text text.now error meaning.now) }
+{
+    let fault = find_fault(alloc, text, error)?;
+    let mut shown = Vec::new(alloc);
+    push_fault_line(&mut shown, text, error, fault.span)?;
+    shown.extend_from_slice(b"     ")?;
+    shown.extend_from_slice(meaning.as_bytes())?;
+    push_suggestion(&mut shown, &fault.near)?;
+    Ok(shown)
+}
+
+/// Puts the line of the error behind what is shown, with marks below the word at fault, if there is such a line.
+fn push_fault_line(
+    shown: &mut Vec<u8>,
+    text: &[u8],
+    error: TextError,
+    span: (usize, usize),
+) -> Result<(), AllocError>
+    ensures { IfOk result (λ _. shown.new.items ≡ shown.old.items ++ fault_line text.now error span) }
+{
+    if error.line == 0 {
+        return Ok(());
+    }
+    push_line(shown, line_numbered(text, error.line), error.line, span)
+}
+
+/// Puts the line with its number behind the text, and the marks below.
+fn push_line(
+    text: &mut Vec<u8>,
+    line: &[u8],
+    number: u32,
+    span: (usize, usize),
+) -> Result<(), AllocError>
+    ensures { IfOk result (λ _. text.new.items ≡ text.old.items ++ located line.now number span) }
+{
+    let digits = number.to_string(*text.allocator())?;
+    let mut blank = Vec::new(*text.allocator());
+    push_times(&mut blank, b' ', digits.len())?;
+    push_margin(text, digits.as_bytes())?;
+    push_part(text, line, span.0)?;
+    text.extend_from_slice(b"\n")?;
+    push_margin(text, blank.as_slice())?;
+    push_marks(text, span)?;
+    text.extend_from_slice(b"\n")
+}
+
+/// Puts the number of a line behind the text, and a bar.
+fn push_margin(text: &mut Vec<u8>, number: &[u8]) -> Result<(), AllocError>
+    ensures { IfOk result (λ _. text.new.items ≡ text.old.items ++ margin number.now) }
+{
+    push_times(text, b' ', 4_usize.saturating_sub(number.len()))?;
+    text.extend_from_slice(number)?;
+    text.extend_from_slice(b" | ")
+}
+
+/// Puts the part of the line around a word behind the text, which begins at this place.
+fn push_part(text: &mut Vec<u8>, line: &[u8], from: usize) -> Result<(), AllocError>
+    ensures { IfOk result (λ _. text.new.items ≡ text.old.items ++ shown_part line.now from) }
+{
+    text.extend_from_slice(dots_before(from))?;
+    push_shown(text, front(WIDTH, behind(from.saturating_sub(LEAD), line)))?;
+    text.extend_from_slice(dots_behind(from, line.len()))
+}
+
+/// The first bytes: all where there are fewer.
+#[tactic(auto, using(crate::proofs::lemmas::faults::WordLemmas::part_steps))]
+fn front(count: usize, bytes: &[u8]) -> &[u8]
+    ensures { result.now ≡ take count bytes.now }
+{
+    &bytes[..count.min(bytes.len())]
+}
+
+/// The bytes behind the first ones: none where there are fewer.
+#[tactic(auto, using(crate::proofs::lemmas::faults::WordLemmas::part_steps))]
+fn behind(count: usize, bytes: &[u8]) -> &[u8]
+    ensures { result.now ≡ drop count bytes.now }
+{
+    &bytes[count.min(bytes.len())..]
+}
+
+/// Two dots, if something is left out before a word that begins at this place.
+fn dots_before(from: usize) -> &'static [u8]
+    ensures { result.now ≡ dots_before from }
+{
+    if from <= LEAD {
+        return &[];
+    }
+    b"..".as_slice()
+}
+
+/// Two dots, if something is left out behind the part around a word that begins at this place, in a line of so many bytes.
+fn dots_behind(from: usize, count: usize) -> &'static [u8]
+    ensures { result.now ≡ dots_behind from count }
+{
+    if count.saturating_sub(from.saturating_sub(LEAD)) <= WIDTH {
+        return &[];
+    }
+    b"..".as_slice()
+}
+
+/// Puts the bytes behind the text, as they are shown.
+fn push_shown(text: &mut Vec<u8>, bytes: &[u8]) -> Result<(), AllocError>
+    ensures { IfOk result (λ _. text.new.items ≡ text.old.items ++ map shown_byte bytes.now) }
+{
+    for byte in bytes {
+        text.push(shown_byte(*byte))?;
+    }
+    Ok(())
+}
+
+/// A gap as a space, and another byte that isn't printed as `?`.
+fn shown_byte(byte: u8) -> u8
+    ensures { result ≡ shown_byte byte }
+{
+    if is_gap(byte) {
+        return b' ';
+    }
+    if is_allowed(byte) { byte } else { b'?' }
+}
+
+/// Puts the marks below a word behind the text.
+fn push_marks(text: &mut Vec<u8>, span: (usize, usize)) -> Result<(), AllocError>
+    ensures { IfOk result (λ _. text.new.items ≡ text.old.items ++ marks span) }
+{
+    push_times(text, b' ', dots_before(span.0).len() + span.0.min(LEAD))?;
+    push_times(text, b'^', span.1.saturating_sub(span.0).min(WIDTH - LEAD))
+}
+
+/// Puts the byte behind the text so often.
+fn push_times(text: &mut Vec<u8>, byte: u8, count: usize) -> Result<(), AllocError>
+    ensures { IfOk result (λ _. text.new.items ≡ text.old.items ++ replicate count byte) }
+{
+    for _done in 0..count {
+        text.push(byte)?;
+    }
+    Ok(())
+}
+
+/// Puts the name behind the text that may have been meant, if there is one.
+fn push_suggestion(text: &mut Vec<u8>, near: &Option<Name>) -> Result<(), AllocError>
+    ensures { IfOk result (λ _. text.new.items ≡ text.old.items ++ suggestion near.now) }
+{
+    match near {
+        Some(name) => push_meant(text, name),
+        None => Ok(()),
+    }
+}
+
+/// Puts behind the text that this name may have been meant.
+fn push_meant(text: &mut Vec<u8>, name: &Name) -> Result<(), AllocError>
+    ensures { IfOk result (λ _. text.new.items ≡ text.old.items ++ meant name.now) }
+{
+    push_parts(text, b"; did you mean `", name.as_str().as_bytes(), b"`?")
+}
+
+/// Puts three parts behind the text, in order.
+fn push_parts(
+    text: &mut Vec<u8>,
+    front: &[u8],
+    middle: &[u8],
+    back: &[u8],
+) -> Result<(), AllocError>
+    ensures { IfOk result (λ _. text.new.items ≡ text.old.items ++ (front.now ++ (middle.now ++ back.now))) }
+{
+    text.extend_from_slice(front)?;
+    text.extend_from_slice(middle)?;
+    text.extend_from_slice(back)
+}

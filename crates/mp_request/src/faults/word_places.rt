@@ -1,0 +1,129 @@
+//! The word at fault in a line that is wrong by itself.
+ghost use Rattle.std.specs.Prelude.{◌≡◌, ◌≤◌, ◌<◌, All, IfOk, length};
+ghost use Rattle.mp_text.specs.Names.{texts, AreAscii};
+ghost use Rattle.mp_request.specs.faults.Places.{module_parts};
+ghost use Rattle.mp_request.specs.faults.WordPlaces.{begins_with, first_unread, unread_part, number_place, lack_place, count_place, word_place};
+
+use crate::faults::module_parts::{ModuleParts, behind, module_parts};
+use crate::faults::module_places::port_place;
+use crate::faults::place::Place;
+use mp_records::{InputName, OutputName};
+use mp_text::{LineError, TextCode, Worded};
+use std::alloc::{AllocError, Global};
+
+/// The word at fault in a line that is wrong by itself, in a text whose lines before have no words, or some. The error comes where memory is wanting.
+pub(crate) fn word_place(
+    alloc: Global,
+    is_first: bool,
+    words: &[&[u8]],
+    code: TextCode,
+) -> Result<Place, AllocError>
+    requires { AreAscii words.now }
+    ensures { IfOk result (λ place. place ≡ word_place is_first (texts words.now) code) }
+{
+    match code {
+        TextCode::Line(LineError::UnknownStatement) if begins_with(words, b"module") => {
+            Ok(Place::Word(2))
+        }
+        TextCode::Line(LineError::WordCount) => Ok(count_place(words)),
+        TextCode::Line(LineError::BadNumber) => number_place(alloc, words),
+        TextCode::BadFormat if is_first => Ok(Place::Word(1)),
+        TextCode::NoHorizon if begins_with(words, b"format") => Ok(Place::Word(words.len())),
+        _ => Ok(Place::Word(0)),
+    }
+}
+
+/// Whether this is the first word.
+pub(crate) fn begins_with(words: &[&[u8]], word: &[u8]) -> bool
+    requires { 0 < length word.now }
+    ensures { result ≡ begins_with word.now (texts words.now) }
+{
+    match words {
+        [first, ..] => *first == word,
+        [] => false,
+    }
+}
+
+/// The first word too many, or the end of the line.
+fn count_place(words: &[&[u8]]) -> Place
+    requires { AreAscii words.now }
+    ensures { result ≡ count_place (texts words.now) }
+{
+    if begins_with(words, b"module") {
+        return lack_place(module_parts(words));
+    }
+    if begins_with(words, b"wire") {
+        return Place::Word(4);
+    }
+    if begins_with(words, b"bundle") {
+        return Place::Word(6);
+    }
+    if begins_with(words, b"stim") {
+        return Place::Word(words.len());
+    }
+    Place::Word(2)
+}
+
+/// Where the first input should stand, if there is none, and else the first output.
+fn lack_place(parts: ModuleParts<'_, '_>) -> Place
+    ensures { result ≡ lack_place (record { params = texts parts.entry.params.now; inputs = texts parts.entry.inputs.now; outputs = texts parts.entry.outputs.now }) }
+{
+    if parts.inputs.is_empty() {
+        return Place::Input(0);
+    }
+    Place::Output(0)
+}
+
+/// The first word that should be a number, or a pair with a number, and isn't.
+fn number_place(alloc: Global, words: &[&[u8]]) -> Result<Place, AllocError>
+    requires { AreAscii words.now }
+    ensures { IfOk result (λ place. place ≡ number_place (texts words.now)) }
+{
+    if begins_with(words, b"wire") {
+        let numbers = first_unread::<u64>(alloc, behind(words, 2))?;
+        return Ok(Place::Word(2 + numbers));
+    }
+    if begins_with(words, b"module") {
+        return unread_part(alloc, module_parts(words));
+    }
+    if begins_with(words, b"stim") {
+        let changes = first_unread::<(u64, u64)>(alloc, behind(words, 2))?;
+        return Ok(Place::Word(2 + changes));
+    }
+    if begins_with(words, b"bundle") {
+        return Ok(Place::Word(5));
+    }
+    Ok(Place::Word(1))
+}
+
+/// The first word of a module's parameters and ports that doesn't read.
+fn unread_part(alloc: Global, parts: ModuleParts<'_, '_>) -> Result<Place, AllocError>
+    requires inputs { AreAscii parts.inputs.now }
+    requires outputs { AreAscii parts.outputs.now }
+    ensures { IfOk result (λ place. place ≡ unread_part (record { params = texts parts.entry.params.now; inputs = texts parts.entry.inputs.now; outputs = texts parts.entry.outputs.now })) }
+{
+    let param = first_unread::<u64>(alloc, parts.params)?;
+    if param < parts.params.len() {
+        return Ok(Place::Param(param));
+    }
+    let input = first_unread::<InputName>(alloc, parts.inputs)?;
+    let output = first_unread::<OutputName>(alloc, parts.outputs)?;
+    Ok(port_place(parts.inputs.len(), input, output))
+}
+
+/// How many words stand before the first that doesn't read. The error comes where memory is wanting.
+#[tactic(auto, using(crate::proofs::lemmas::faults::WordLemmas::place_texts))]
+fn first_unread<W: Worded>(alloc: Global, words: &[&[u8]]) -> Result<usize, AllocError>
+    requires { All (λ word. W.may_read word.now) words.now }
+    ensures value { IfOk result (λ count. count ≡ first_unread W.read (texts words.now)) }
+    ensures small { IfOk result (λ count. count < 9223372036854775808) }
+{
+    for (place, word) in words.iter().enumerate() {
+        match W::from_word(alloc, word) {
+            Ok(_) => {}
+            Err(LineError::OutOfMemory) => return Err(AllocError),
+            Err(_) => return Ok(place),
+        }
+    }
+    Ok(words.len())
+}
