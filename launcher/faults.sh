@@ -5,9 +5,11 @@ is_showing="" # whether a command runs for which it will be shown
 
 # whether somebody looks on, and the netlist of a command with these words is in a file that can be read once more
 shows_fault() {
+    local file
     if [ -n "$is_showing" ] || [ ! -t 2 ]; then return 1; fi
     case ${1-} in waves | report | dump | show | why | path | waits | measure | graph | verilog | play | desk) ;; *) return 1 ;; esac
-    [ -f "$(file_of "$@")" ]
+    file=$(file_of "$@")
+    [ "$file" != - ] && [ -f "$file" ]
 }
 
 # runs the program with these words, shows the line of FILE that isn't read, and ends as the program ended
