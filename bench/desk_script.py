@@ -12,8 +12,10 @@ from terminal import Terminal
 TOP = os.path.dirname(os.path.dirname(os.path.abspath(__file__)))
 SCRIPT = f"{TOP}/mpwb"
 NETLIST = f"{TOP}/examples/two-stage-control.net"
-ENDS = "mpwb: the desk ends once all seats are left, and at once if it is interrupted again\n"
-GREETING = "mpwb: {} is yours. Ctrl-D leaves the seat, and ./mpwb desk --help tells what can be typed.\n"
+OPENS = "mpwb: people take seats by ./mpwb join {} designer-1, viewer-1 and so on\nmpwb: the line seats tells who is there, and Ctrl-C ends the desk\n"
+ENDS = "mpwb: the desk ends once all seats are left, or at once if interrupted again\n"
+KILLED = "mpwb: the desk was killed; what was accepted is kept at {}\n"
+GREETING = "mpwb: {} is yours. Ctrl-D leaves it. ./mpwb desk --help tells its lines\n"
 UTF8 = {**os.environ, "LC_ALL": "C.UTF-8"}
 BEGUN = "mpwb: {} edits of {}/edits are made again\n"
 
@@ -48,7 +50,7 @@ class ScriptDesk:
             self.terminal.type("# nothing\nversion\n")
             shown = self.terminal.until("version ")
             self.terminal.until("\n")
-            expect("what the desk shows first", begun, shown)
+            expect("what the desk shows first", OPENS.format(folder) + begun, shown)
         except BaseException:
             self.terminal.kill()
             raise

@@ -1,11 +1,12 @@
 """What a desk has kept that was killed while designers edited: each edit that somebody was told is accepted, and the desk that is begun again."""
+import contextlib
 import os
 import signal
 import threading
 
-from desk_script import BEGUN, NETLIST, ScriptDesk, read, run
+from desk_script import BEGUN, KILLED, NETLIST, ScriptDesk, read, run
 from live import Left, Seat, Unanswered, at_once
-from seat_checks import Wrong, expect, same_edit
+from seat_checks import SECONDS, Wrong, expect, same_edit
 
 
 def line_of(seat, number):
@@ -14,11 +15,12 @@ def line_of(seat, number):
 
 
 class Killer:
-    """Kills a process once so many lines were answered."""
+    """Kills a process once so many lines of two designers were answered."""
 
     def __init__(self, process, count):
         self.process = process
         self.left = count
+        self.all_there = threading.Barrier(2)
         self.lock = threading.Lock()
 
     def count(self):
@@ -29,10 +31,13 @@ class Killer:
 
 
 def edit(at, number, count, killer):
-    """What a designer was told of so many edits, up to the end of the desk: the accepted ones with their numbers, and the line that wasn't answered."""
+    """What a designer was told of so many edits, up to the end of the desk: the accepted ones with their numbers, and the line that wasn't answered.
+    The first edit is made when all designers are there."""
     accepted, line = {}, None
-    try:
-        with Seat(at, f"designer-{number}", 10) as seat:
+    with Seat(at, f"designer-{number}", SECONDS) as seat:
+        seat.ask("version")
+        killer.all_there.wait(SECONDS)
+        with contextlib.suppress(Left, Unanswered, BrokenPipeError):
             for k in range(count):
                 line = line_of(number, k)
                 reply = seat.ask(line)[0].split()
@@ -40,8 +45,6 @@ def edit(at, number, count, killer):
                     accepted[int(reply[1])] = line
                 line = None
                 killer.count()
-    except (Left, Unanswered, BrokenPipeError):
-        pass
     return accepted, line
 
 
@@ -55,7 +58,7 @@ def killed(at, count, answered):
             told[number] = edit(at, number, count, killer)
 
         at_once([lambda number=number: sit(number) for number in (1, 2)])
-        expect("the status of a desk that was killed", 137, desk.terminal.end()[1])
+        expect("a desk that was killed", (KILLED.format(at), 137), desk.terminal.end())
     kept = read(f"{at}/edits").splitlines(keepends=True)
     check_kept(kept, told)
     return len(kept)

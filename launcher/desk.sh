@@ -51,10 +51,12 @@ cut_edits() {
 # the program in the place of this process, which no interrupt of a terminal reaches
 become_program() {
     trap '' INT TERM HUP QUIT
-    exec {given}<&-
+    exec {given}<&- {lines}<&-
     if [ "$chosen" = "$program" ]; then set_up_built; else set_up_checked; fi
     exec "${leash[@]}" "$chosen" "$@"
 }
+
+status_of_kill=137
 
 desk=""   # the process of the program
 feeder="" # the one that gives it the lines of standard input
@@ -66,7 +68,7 @@ end_input() {
     woken=yes
     if [ -z "$ended" ]; then
         ended=yes
-        echo "mpwb: the desk ends once all seats are left, and at once if it is interrupted again" >&2 2>/dev/null || true
+        echo "mpwb: the desk ends once all seats are left, or at once if interrupted again" >&2 2>/dev/null || true
         stop_feeding
     fi
 }
@@ -90,24 +92,31 @@ serve_desk() {
     trap end_input HUP
     trap interrupt INT TERM
     { exec {given}<&0; } 2>/dev/null || exec {given}</dev/null
-    exec {lines}> >(become_program "$@")
-    desk=$!
-    "${leash[@]}" cat <&"$given" >&"$lines" {lock}<&- &
+    exec {lines}< <(exec "${leash[@]}" cat <&"$given" {lock}<&-)
     feeder=$!
-    disown "$feeder"
-    exec {given}<&- {lines}>&-
     if [ -n "$ended" ]; then stop_feeding; fi
+    become_program "$@" <&"$lines" &
+    desk=$!
+    exec {given}<&- {lines}<&-
     while :; do
         woken="" status=0
-        wait "$desk" || status=$?
+        wait "$desk" 2>/dev/null || status=$?
         if [ -z "$woken" ]; then break; fi
     done
     stop_feeding
     if [ "$chosen" != "$program" ]; then tell_failed_check "$status"; fi
+    if [ "$status" = "$status_of_kill" ]; then echo "mpwb: the desk was killed; what was accepted is kept at $desk_at" >&2; fi
     exit "$status"
 }
 
 is_live_desk() { [ "${1-}" = desk ] && [ -n "$(value_of --at "$@")" ] && ! is_given --help "$@" && ! is_given -h "$@"; }
+
+# tells whoever begins a desk at a terminal how others come to it, and how it ends
+tell_seats() {
+    if [ ! -t 0 ] || [ ! -t 2 ]; then return; fi
+    echo "mpwb: people take seats by ./mpwb join $desk_at designer-1, viewer-1 and so on" >&2
+    echo "mpwb: the line seats tells who is there, and Ctrl-C ends the desk" >&2
+}
 
 # a live desk at a folder
 start_desk() {
@@ -117,8 +126,9 @@ start_desk() {
     if ! { exec {lock}<"$desk_at"; } 2>/dev/null; then run "$@"; fi
     lock_folder
     make_seats "$@"
-    cut_edits
     choose_program
     if [ "$chosen" = rt ]; then run_by_rt "$@"; fi
+    tell_seats
+    cut_edits
     serve_desk "$@"
 }

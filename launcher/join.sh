@@ -8,7 +8,7 @@ start_join() {
     take_seat "$1" "$2"
     exec 3<&0
     trap 'exit 130' INT TERM HUP
-    if [ -t 3 ] && [ -t 1 ]; then talk "$1" "$2"; else pass_on "$2"; fi
+    if [ -t 3 ] && [ -t 1 ]; then talk "$1" "$2"; else pass_on "$1" "$2"; fi
 }
 
 # Lines go to the seat as they come, and answers are written as they come. Behind the last line stand two questions whose answers follow each other
@@ -25,21 +25,22 @@ pass_on() {
     LC_ALL=C stdbuf -oL sed -n '
         /^refused 3 NoSuchWire$/ { N; /\nversion [0-9]*$/ d; /\nrefused 23 NoWork$/ q 10; P; D }
         p' <&5 8<&- || status=$?
-    if [ "$status" != 10 ]; then fail_left "$1"; fi
+    if [ "$status" != 10 ]; then fail_left "$1" "$2"; fi
 }
 
 # at a terminal the seat's name stands before each line, once the line before it is answered
 talk() {
-    local name=$2 line="" is_last=""
-    trap 'echo; fail_left "$name"' USR1
+    local at=$1 name=$2 line="" is_last=""
+    trap 'echo; fail_left "$at" "$name"' USR1
+    trap 'echo; exit 130' INT
     # shellcheck disable=SC2016
-    watch_by flock -s "$1" bash -c 'kill -s USR1 "$0"' $$
-    echo "mpwb: $name is yours. Ctrl-D leaves the seat, and ./mpwb desk --help tells what can be typed."
+    watch_by flock -s "$at" bash -c 'kill -s USR1 "$0"' $$
+    echo "mpwb: $name is yours. Ctrl-D leaves it. ./mpwb desk --help tells its lines"
     while [ -z "$is_last" ]; do
         printf '%s> ' "$name"
         if ! IFS= read -r line <&3; then is_last=yes; fi
         if [ -n "$is_last" ] && [ -z "$line" ]; then break; fi
-        { ask_seat "$line" && hear; } || fail_left "$name"
+        { ask_seat "$line" && hear; } || fail_left "$at" "$name"
     done
     echo
     end_watch

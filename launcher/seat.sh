@@ -95,7 +95,11 @@ hear() {
     [ -n "$heard" ]
 }
 
-fail_left() { fail_seat "the desk has left $1 before the answer was complete"; }
+# tells that the desk is gone, or, where it runs on, that it has left the seat
+fail_left() {
+    if flock -s -w "$seconds_for_a_lock" "$1" true 2>/dev/null; then fail_seat "the desk at $1 is gone"; fi
+    fail_seat "the desk has left $2 before the answer was complete"
+}
 
 # --- ./mpwb ask FOLDER SEAT LINE
 
@@ -103,6 +107,6 @@ start_ask() {
     local line=${*:3}
     if [ $# -lt 3 ] || [[ $line == *$'\n'* ]]; then refuse "./mpwb ask FOLDER SEAT LINE, as ./mpwb ask meeting viewer-1 text"; fi
     take_seat "$1" "$2"
-    { ask_seat "$line" && hear; } || fail_left "$2"
+    { ask_seat "$line" && hear; } || fail_left "$1" "$2"
     if [ "$heard" = refusal ]; then exit 1; fi
 }

@@ -19,12 +19,12 @@ start_watch() {
     if [ -z "$room" ]; then begin_work; fi
     exec 4>&1
     trap 'end_screen; end_beside' EXIT
-    trap 'exit 0' INT
-    keep_watch "$2" "$question"
+    trap 'if [ -t 4 ]; then echo >&4; fi; exit 0' INT
+    keep_watch "$1" "$2" "$question"
 }
 
 keep_watch() {
-    local name=$1 question=$2 version="" shown=""
+    local at=$1 name=$2 question=$3 version="" shown=""
     while :; do
         tell_version
         if [ "$version" != "$shown" ]; then
@@ -39,7 +39,7 @@ keep_watch() {
 # asks for the version
 tell_version() {
     local told=""
-    { { printf 'version\n' >&6; } 2>/dev/null && IFS= read -r told <&5; } || fail_left "$name"
+    { { printf 'version\n' >&6; } 2>/dev/null && IFS= read -r told <&5; } || fail_left "$at" "$name"
     if [[ $told == version\ * ]]; then version=${told#version }; fi
 }
 
@@ -59,7 +59,7 @@ look() {
     awk -v last="$version" '$1 <= last' "$room/told" >"$room/edits"
 }
 
-hear_answer() { { ask_seat "$1" && hear; } || fail_left "$name"; }
+hear_answer() { { ask_seat "$1" && hear; } || fail_left "$at" "$name"; }
 
 # the answer to the question, and where there is none a picture as wide as the terminal
 see() {
