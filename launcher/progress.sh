@@ -1,6 +1,7 @@
 # shellcheck shell=bash
 # At a terminal a run of more than two seconds says how long it has run, in one line of standard error that is taken away before the answer. How far it is in
-# the netlist's time it can't say: the program tells nothing before its answer.
+# the netlist's time it can't say: the program tells nothing before its answer. Where the answer goes to a file, it says how much of it is there, and of a dump
+# up to which time.
 
 quiet_seconds=2
 teller="" # the process that says it
@@ -14,10 +15,11 @@ is_told() {
 
 # runs a program with these words, and ends as it ends; what it says on standard error comes behind the answer
 run_told() {
-    local status=0 said
+    local status=0 said before
+    exec 6>&1 7>&2
+    before=$(bytes_written)
     tell_progress "$2" &
     teller=$!
-    exec 6>&1 7>&2
     said=$(run_below "$@" 2>&1) || status=$?
     end_telling
     if [ -n "$said" ]; then echo "$said" >&2; fi
@@ -46,10 +48,25 @@ tell_progress() {
     exec {nothing}<> <(:)
     wait_for "$quiet_seconds"
     while kill -0 "$$" 2>/dev/null; do
-        say "$1 has run for $SECONDS seconds"
+        say "$1 has run for $SECONDS seconds$(tell_written "$1")"
         wait_for 1
     done
 }
+
+# how many bytes the file has that the answer goes to, nothing where it is no file
+bytes_written() { if [ -f /dev/fd/6 ]; then stat -L -c %s /dev/fd/6; fi; }
+
+# what is said of an answer of which a part is written
+tell_written() {
+    local bytes time=""
+    bytes=$(bytes_written)
+    if [ "${bytes:-0}" -le "${before:-0}" ]; then return; fi
+    if [ "$1" = dump ]; then time=$(last_time_written); fi
+    if [ -n "$time" ]; then echo ", and has written up to time $time"; else echo ", and has written $((bytes - before)) bytes"; fi
+}
+
+# the last time of a dump that is being written, of whole lines alone
+last_time_written() { tail -c 4096 /dev/fd/6 2>/dev/null | sed -n '1d; $d; s/^#\([0-9][0-9]*\)$/\1/p' | tail -n 1; }
 
 wait_for() { read -r -t "$1" -u "$nothing" || true; }
 
