@@ -127,6 +127,30 @@ def check_zoom(page):
     page.expect("all times", (0, before[1]), (page.view("from"), page.view("scale")))
 
 
+# draws the picture, and tells of the times above it where each begins and ends
+HEAD_TEXTS = """(() => {
+  const { ink } = page.painter, found = [];
+  ink.fillText = (text, x, y) => { if (y < HEAD) found.push([x, x + ink.measureText(text).width]); };
+  page.painter.draw();
+  delete ink.fillText;
+  return found;
+})()"""
+
+
+def check_times(page):
+    """The times above the picture stand in it whole, and none over another, wherever the cursors are and whatever is seen."""
+    labels, width, horizon = page.view("labels"), page.view("width"), page.view("horizon")
+    for cursor, mark in ((0, horizon - 1), (horizon - 1, horizon // 2)):
+        page.shown.value(f"page.choose(null, {cursor}); view.mark = {mark}")
+        for start in range(20):
+            page.shown.value(f"view.look({start} * view.horizon / 40, view.least * {1 + start % 4 / 2})")
+            texts = sorted(page.shown.value(HEAD_TEXTS))
+            page.expect(f"times that are cut, from {start}", [], [text for text in texts if text[0] < labels - 1 or text[1] > width])
+            page.expect(f"times over times, from {start}", [], [pair for pair in zip(texts, texts[1:]) if pair[0][1] > pair[1][0]])
+    page.shown.key("Escape")
+    page.shown.key("f")
+
+
 def check_rows(page):
     """Search goes to a wire; wires are chosen, hidden and moved, and all come back."""
     names = page.names()

@@ -24,28 +24,34 @@ Object.assign(Painter.prototype, {
     this.box(view.labels, 4, view.width, 8, colour.line);
     this.box(view.labels + view.from * part, 4, Math.max(3, ((view.width - view.labels) / view.scale) * part), 8, colour.busy);
     this.flag(view.cursor, colour.cursor);
-    if (view.mark !== null) this.flag(view.mark, colour.mark);
+    this.flag(view.mark, colour.mark);
   },
 
-  /** A time, where no time of a cursor stands. */
+  /** A time, where it has room and no time of a cursor stands. */
   tickText(time) {
     const { view, letter } = this;
     const x = view.x(time) + 3;
     const end = x + String(time).length * letter;
-    const isOver = (other) => other !== null && view.x(other) < end && this.flagEnd(other) > x;
-    if (![view.cursor, view.mark].some(isOver)) this.ink.fillText(String(time), x, HEAD - 16);
+    const isOver = (flag) => flag !== null && flag.begin < end && flag.end > x;
+    if (end <= view.width && ![view.cursor, view.mark].map((other) => this.flagPlace(other)).some(isOver)) this.ink.fillText(String(time), x, HEAD - 16);
   },
 
-  flagEnd(time) {
-    return this.view.x(time) + (String(time).length + 1) * this.letter;
+  /** Where the time of a cursor stands: from its line on, or up to the end of the picture. Nowhere where the line isn't seen. */
+  flagPlace(time) {
+    const { view, letter } = this;
+    if (time === null || view.x(time) < view.labels - 1 || view.x(time) > view.width) return null;
+    const size = (String(time).length + 1) * letter;
+    const begin = Math.min(view.x(time), view.width - size);
+    return { begin, end: begin + size };
   },
 
   /** The time of a cursor. */
   flag(time, colour) {
-    const { ink, view } = this;
-    this.box(view.x(time), HEAD - 25, this.flagEnd(time) - view.x(time), 18, colour);
-    ink.fillStyle = this.colour.ground;
-    ink.fillText(String(time), view.x(time) + this.letter / 2, HEAD - 16);
+    const place = this.flagPlace(time);
+    if (place === null) return;
+    this.box(place.begin, HEAD - 25, place.end - place.begin, 18, colour);
+    this.ink.fillStyle = this.colour.ground;
+    this.ink.fillText(String(time), place.begin + this.letter / 2, HEAD - 16);
   },
 
   cursors() {
