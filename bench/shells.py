@@ -23,7 +23,9 @@ end
 """
 
 # what is offered stands behind its name in brackets
-ZSH = "PS1='>'; fpath=({} $fpath); autoload -Uz compinit; compinit -u -D; zstyle ':completion:*' format '[%d]'; bindkey '^G' list-choices; echo rea''dy\n"
+ZSH = """PS1='>'; fpath=({} $fpath); autoload -Uz compinit; compinit -u -D; zstyle ':completion:*' format '[%d]'; bindkey '^G' list-choices
+echo rea''dy
+"""
 
 
 def asked(lines, *words):

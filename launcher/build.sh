@@ -8,7 +8,8 @@ log=$folder/build.log
 copy_crates() {
     local crate
     mkdir -p "$room/top/.git" "$folder" # (.git: it is the top of a repository)
-    tar -C "$top" -c --anchored --no-wildcards-match-slash --exclude='crates/*/'{out,must-fail} HANDLES "${crates[@]/#/crates/}" | tar -C "$room/top" -x
+    tar -C "$top" -c --anchored --no-wildcards-match-slash --exclude='crates/*/'{out,must-fail} HANDLES "${crates[@]/#/crates/}" |
+        tar -C "$room/top" -x
     for crate in "${crates[@]}"; do grep "^${crate}[: ]" "$top/crates.txt"; done >"$room/top/crates.txt"
 }
 

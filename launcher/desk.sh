@@ -3,8 +3,8 @@
 # terminal and the program: it holds the lock of FOLDER with it, and an interrupt is the end of the program's input. FILE may be /dev/fd/3, so what is
 # opened here gets a number that nobody has.
 
-# Makes what a seat needs, for so many designers or viewers; the program tells of a number that is out of its range. Those who come to a seat read from
-# two pipes by turns: the second one is made anew, since a desk that was killed may have left it in the place of the first.
+# Makes what each seat needs, for so many designers or viewers; the program tells of a number that is out of its range. Those who come to a seat read
+# from two pipes by turns: the second one is made anew, since a desk that was killed may have left it in the place of the first.
 make_pipes() {
     local kind=$1 count=$2 most=$3 number name end
     if [[ ! $count =~ ^[0-9]{1,2}$ ]] || [ "$count" -gt "$most" ]; then return; fi

@@ -1,7 +1,7 @@
 # shellcheck shell=bash
-# At a terminal a run of more than two seconds says how long it has run, in one line of standard error that is taken away before the answer. How far it is in
-# the netlist's time it can't say: the program tells nothing before its answer. Where the answer goes to a file, it says how much of it is there, and of a dump
-# up to which time.
+# At a terminal a run of more than two seconds says how long it has run, in one line of standard error that is taken away before the answer. How far it
+# is in the netlist's time it can't say: the program tells nothing before its answer. Where the answer goes to a file, it says how much of it is
+# written, and of a dump up to which time.
 
 quiet_seconds=2
 teller="" # the process that says it

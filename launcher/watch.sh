@@ -1,6 +1,6 @@
 # shellcheck shell=bash
-# ./mpwb watch FOLDER SEAT [QUESTION ..]. A viewer's seat asks for the version some times a second, and shows the answer to a question anew where it has
-# changed.
+# ./mpwb watch FOLDER SEAT [QUESTION ..]. A viewer's seat asks for the version some times a second, and shows the answer to a question anew where it
+# has changed.
 
 seconds_between_looks=0.2
 most_tries=10 # to have an answer of one version, while others edit

@@ -32,8 +32,9 @@ Object.assign(Painter.prototype, {
     const { view, letter } = this;
     const x = view.x(time) + 3;
     const end = x + String(time).length * letter;
-    const isOver = (flag) => flag !== null && flag.begin < end && flag.end > x;
-    if (end <= view.width && ![view.cursor, view.mark].map((other) => this.flagPlace(other)).some(isOver)) this.ink.fillText(String(time), x, HEAD - 16);
+    const flags = [view.cursor, view.mark].map((other) => this.flagPlace(other));
+    const isFree = flags.every((flag) => flag === null || flag.begin >= end || flag.end <= x);
+    if (isFree && end <= view.width) this.ink.fillText(String(time), x, HEAD - 16);
   },
 
   /** Where the time of a cursor stands: from its line on, or up to the end of the picture. Nowhere where the line isn't seen. */

@@ -91,7 +91,7 @@ class Painter {
     for (let place = Math.floor(view.top / ROW); place < end; place++) draw(view.rows[place], view.y(place));
   }
 
-  /** Goes through those of some rising times that are seen. One that has a grain for itself is given to `one`, with its place and its number; a run of
+  /** Goes through some rising times, those that are seen. One that has a grain for itself is given to `one`, with its place and its number; a run of
    * grains with more of them to `many`, with its ends and the number of the last. Grains stay where they are in time when the picture moves. */
   eachGrain(times, one, many) {
     const { view } = this;
