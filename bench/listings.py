@@ -12,6 +12,7 @@ LUCK = "rows/measures/measure_late_luck.in"
 # for each section of docs/FORMATS.md the commands that write its listings, in order. A command that ends with `<` reads the listing before.
 FORMATS = {
     "The netlist text": ["grep -v '^#' examples/two-stage-control.net"],
+    "The word at fault": ["mpwb check rows/faults/fault_wire_near.in"],
     "Script lines": [None, "mpwb play <"],
     "Blocks of designers": ["grep -v '^#' examples/two-designers.desk", "mpwb desk --viewers 1 <"],
     "Reports": [None, "cat rows/reports/report_bundle_busy.in", "mpwb report <"],
