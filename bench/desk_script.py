@@ -12,8 +12,8 @@ from terminal import Terminal
 TOP = os.path.dirname(os.path.dirname(os.path.abspath(__file__)))
 SCRIPT = f"{TOP}/mpwb"
 NETLIST = f"{TOP}/examples/two-stage-control.net"
-OPENS = """mpwb: people take seats by ./mpwb join {} designer-1, viewer-1 and so on
-mpwb: the line seats tells who is there, and Ctrl-C ends the desk
+OPENS = """mpwb: a seat is taken by ./mpwb join {} designer-1
+mpwb: the line seats tells which there are, and Ctrl-C ends the desk
 """
 ENDS = "mpwb: the desk ends once all seats are left, or at once if interrupted again\n"
 KILLED = "mpwb: the desk was killed; what was accepted is kept at {}\n"

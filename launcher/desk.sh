@@ -81,6 +81,7 @@ interrupt() {
     else
         kill -KILL "$desk" 2>/dev/null || true
         wait "$desk" 2>/dev/null || true
+        if [ -t 2 ]; then echo >&2; fi
         exit 130
     fi
 }
@@ -114,8 +115,8 @@ is_live_desk() { [ "${1-}" = desk ] && [ -n "$(value_of --at "$@")" ] && ! is_gi
 # tells whoever begins a desk at a terminal how others come to it, and how it ends
 tell_seats() {
     if [ ! -t 0 ] || [ ! -t 2 ]; then return; fi
-    echo "mpwb: people take seats by ./mpwb join $desk_at designer-1, viewer-1 and so on" >&2
-    echo "mpwb: the line seats tells who is there, and Ctrl-C ends the desk" >&2
+    echo "mpwb: a seat is taken by ./mpwb join $desk_at designer-1" >&2
+    echo "mpwb: the line seats tells which there are, and Ctrl-C ends the desk" >&2
 }
 
 # a live desk at a folder
