@@ -127,12 +127,14 @@ def check_zoom(page):
     page.expect("all times", (0, before[1]), (page.view("from"), page.view("scale")))
 
 
-# draws the picture, and tells of the times above it where each begins and ends
+# tells of each time above the picture where it begins and ends
 HEAD_TEXTS = """(() => {
   const { ink } = page.painter, found = [];
-  ink.fillText = (text, x, y) => { if (y < HEAD) found.push([x, x + ink.measureText(text).width]); };
   page.painter.draw();
+  ink.fillText = (text, x) => found.push([x, x + ink.measureText(text).width]);
+  page.painter.head();
   delete ink.fillText;
+  page.painter.draw();
   return found;
 })()"""
 

@@ -77,19 +77,40 @@ Object.assign(Painter.prototype, {
       const step = steps[next];
       for (const event of step.events.slice(1)) this.arrow(event, step, colour.dim);
       if (step.events.length) this.arrow(step.events[0], step, colour.cause);
-      next = firstFrom(ages, LEAST_STEP / view.scale - causes.time(step), next + 1);
+      const after = firstFrom(ages, LEAST_STEP / view.scale - causes.time(step), next + 1);
+      if (after > next + 1 && after < steps.length) this.thread(steps[after], step.events[0], colour.cause);
+      next = after;
     }
     for (const effect of view.effects) this.arrow(last, effect, colour.effect);
   },
 
-  /** An arrow from one change to another, if the rows of both are there. */
-  arrow(from, to, colour) {
-    const { ink, view, causes } = this;
+  /** Where a line from one change to another begins and ends, if the rows of both are there and some of it may be seen. */
+  ends(from, to) {
+    const { view, causes } = this;
     const places = [from, to].map(({ wire }) => view.placesOfWires.get(wire));
-    if (places.includes(undefined)) return;
+    if (places.includes(undefined)) return null;
     const [x, end] = [from, to].map((change) => view.x(causes.time(change)));
     const [y, height] = places.map((place) => view.y(place) + ROW / 2);
-    if (Math.max(y, height) < HEAD || Math.min(y, height) > view.height || x > view.width) return;
+    if (Math.max(y, height) < HEAD || Math.min(y, height) > view.height || x > view.width) return null;
+    return { x, y, end, height };
+  },
+
+  /** A line in the place of arrows that are left out. */
+  thread(from, to, colour) {
+    const ends = this.ends(from, to);
+    if (ends === null) return;
+    this.ink.beginPath();
+    this.ink.moveTo(ends.x, ends.y);
+    this.ink.lineTo(ends.end, ends.height);
+    this.stroke(colour);
+  },
+
+  /** An arrow from one change to another. */
+  arrow(from, to, colour) {
+    const { ink } = this;
+    const ends = this.ends(from, to);
+    if (ends === null) return;
+    const { x, y, end, height } = ends;
     const bend = Math.max(8, (end - x) / 2);
     ink.beginPath();
     ink.moveTo(x, y);

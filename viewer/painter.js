@@ -7,7 +7,7 @@ const EDGE = 6; // from the top of a row to its high level, and from its low lev
 const GRAIN = 3; // in so many pixels more than one change is too much to be seen
 const LEAST_CELL = 10; // between changes that are nearer than this, lines stand upright and don't cross
 const SLOPE = 3; // half the width of a crossing
-const LEAST_STEP = 3; // arrows of steps that end nearer to each other than this are left out
+const LEAST_STEP = 3; // between steps that end nearer to each other than this a line stands for their arrows
 
 class Painter {
   constructor(canvas, view, places, causes) {
