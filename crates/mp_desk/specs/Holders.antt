@@ -10,10 +10,11 @@ use Rattle.mp_version.specs.Stories.{Story, judged}
 use Rattle.mp_desk.specs.Extending.{Extends}
 use Rattle.mp_desk.specs.Chronicles.{unsigned}
 
--- a viewer: the version that was read last, and the longest of those that were learnt of
+-- a viewer: the version that was read last, the longest of those that were learnt of, and all versions that were read at this place, the newest first
 pub record Seeing : Type 0 where
   pub last : Story
   pub learnt : Story
+  pub reads : List Story
 
 -- a designer: the version that was seen last, how many edits were accepted, the designer's number, and the authors of all edits up to the last one that
 -- was accepted
@@ -54,7 +55,13 @@ Signs old new story = (before : List ℕ) × IsPrefix old.signed before × (leng
 
 -- a viewer who has just come
 abbrev pub fresh_viewer : Story → Seeing
-fresh_viewer s = record { last = s; learnt = s }
+fresh_viewer s = record { last = s; learnt = s; reads = s ∷ [] }
+
+-- these viewers have read last and learnt of what those in their places had
+abbrev pub HaveSeenTheSame : List Seeing → List Seeing → Type 0
+HaveSeenTheSame old new =
+    (length new ≡ length old)
+    × ((k : ℕ) (v : Seeing) → ((slice_index_or new k v).last ≡ (slice_index_or old k v).last) × ((slice_index_or new k v).learnt ≡ (slice_index_or old k v).learnt))
 
 -- the story extends what each designer has seen
 abbrev pub ExtendsEach : Story → List Working → Type 0

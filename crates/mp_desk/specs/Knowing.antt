@@ -1,12 +1,17 @@
 -- What a place knows of the published version, and what a step tells it.
-use Rattle.std.specs.Prelude.{◌≡◌, ◌⊎◌, ℕ, List, [], ◌∷◌}
+use Rattle.std.specs.Prelude.{◌≡◌, ◌⊎◌, ℕ, List, [], ◌∷◌, map}
 use mathlib.Core.Option.{some}
 use lib.ListN.{get_elem?}
+use Rattle.mp_version.specs.Stories.{Story}
 use Rattle.mp_desk.specs.Chronicles.{Shown, Follows}
 
 -- what was read
 abbrev pub Known : Type 0
 Known = List Shown
+
+-- the stories that were read
+abbrev pub stories_of : Known → List Story
+stories_of known = map (λ s. s.story) known
 
 -- the version follows all that was read
 abbrev pub Covers : Shown → Known → Type 0

@@ -40,7 +40,7 @@ impl<S: EditSession, L: DeskName, R: Wait + Drop> Model for Desk<S, L, R> {
 impl<S: EditSession, L: DeskName, R: Wait + Drop> Desk<S, L, R> {
     ghost use Rattle.std.specs.Prelude.{◌≢◌, ◌+◌, length, vec_len, All, IfOk, IfErr};
     ghost use Rattle.mp_desk.specs.Extending.{Extends};
-    ghost use Rattle.mp_desk.specs.Holders.{fresh_viewer, AreFresh, ExtendsEach, accepted_by, IsSigned};
+    ghost use Rattle.mp_desk.specs.Holders.{fresh_viewer, AreFresh, ExtendsEach, HaveSeenTheSame, accepted_by, IsSigned};
     ghost use Rattle.mp_desk.specs.declared.desk_refused.DeskCause.TheVariants.{OutOfMemory};
 
     /// Opens the desk under the name that the caller picked for these parts. It is refused for want of memory alone: then the session is handed
@@ -122,7 +122,7 @@ impl<S: EditSession, L: DeskName, R: Wait + Drop> Desk<S, L, R> {
         designers: Vec<Designer<L>>,
         viewers: &mut [Viewer<L>],
     ) -> Result<S, CloseRefused<S, L, R>>
-        ensures viewers { viewers.new ≡ viewers.old }
+        ensures viewers { HaveSeenTheSame viewers.old viewers.new }
         ensures seen { IfOk result (λ s. ExtendsEach (S.story s) designers.items) }
         ensures read { IfOk result (λ s. All (λ v. Extends (S.story s) v.last) viewers.old) }
         ensures counted { IfOk result (λ s. length (S.story s).edits ≡ self.opening + accepted_by designers.items) }

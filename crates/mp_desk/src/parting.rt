@@ -2,7 +2,7 @@
 ghost use Rattle.std.specs.Prelude.{◌≡◌, ◌+◌, length, vec_len, All};
 ghost use mathlib.Core.List.{IsPrefix};
 ghost use Rattle.mp_desk.specs.Extending.{Extends};
-ghost use Rattle.mp_desk.specs.Holders.{ExtendsEach, BeginWithEach, accepted_by};
+ghost use Rattle.mp_desk.specs.Holders.{ExtendsEach, BeginWithEach, accepted_by, HaveSeenTheSame};
 
 use crate::designer::Designer;
 use crate::log_writer::LogWriter;
@@ -67,7 +67,7 @@ pub(crate) fn part_viewers<L: DeskName, R: Wait + Drop>(
     viewers: &mut [Viewer<L>],
 )
     requires { publication.now.book ≡ L.history }
-    ensures same { viewers.new ≡ viewers.old }
+    ensures same { HaveSeenTheSame viewers.old viewers.new }
     ensures extends { All (λ v. Extends publication.now.story v.last) viewers.old }
 {
     for i in 0..viewers.len() {

@@ -9,7 +9,8 @@ use mp_version::Version;
 use std::marker::{Model, PhantomData};
 use std::sync::{Arc, Wait};
 
-/// Reads versions without waiting. A contract sees the version that was read last, and the longest of those that were learnt of.
+/// Reads versions without waiting. A contract sees the version that was read last, the longest of those that were learnt of, and all that were read at
+/// this place, the newest first.
 #[derive(Drop)]
 pub struct Viewer<L: DeskName> {
     pub(crate) pass: Pass,
@@ -23,18 +24,18 @@ pub struct Viewer<L: DeskName> {
 impl<L: DeskName> Model for Viewer<L> {
     ghost use Rattle.std.specs.Prelude.{◌≡◌, length};
     ghost use Rattle.std.specs.Arc.{arc_value};
-    ghost use Rattle.mp_desk.specs.Knowing.{Has};
+    ghost use Rattle.mp_desk.specs.Knowing.{Has, stories_of};
     ghost use Rattle.mp_desk.specs.Holders.{Seeing};
 
     ghost Value = { Seeing };
 
-    ghost view = { λ v. record { last = arc_value v.last; learnt = v.heard.story } };
+    ghost view = { λ v. record { last = arc_value v.last; learnt = v.heard.story; reads = stories_of v.pass } };
 
     ghost invariant = { λ v. Has v.pass (record { book = L.history; story = arc_value v.last }) × (v.heard.book ≡ L.history) × (v.floor ≡ length v.heard.story.edits) };
 }
 
 impl<L: DeskName> Viewer<L> {
-    ghost use Rattle.std.specs.Prelude.{◌≡◌, ◌⊎◌, IfOk, OnErr};
+    ghost use Rattle.std.specs.Prelude.{◌≡◌, ◌⊎◌, ◌∷◌, IfOk, OnErr};
     ghost use Rattle.std.specs.Arc.{arc_value};
     ghost use Rattle.mp_desk.specs.Extending.{Extends};
 
@@ -45,12 +46,13 @@ impl<L: DeskName> Viewer<L> {
         &self.last
     }
 
-    /// Reads what is published, and waits for nobody. `Closed` where the desk is, and `OutOfMemory` where memory is wanting: then the version
-    /// that was read last stays.
+    /// Reads what is published now, never a version that was kept, and waits for nobody. `Closed` where the desk is, and `OutOfMemory` where memory is
+    /// wanting: then the version that was read last stays.
     pub fn read(&mut self) -> Result<Arc<Version>, ReadError>
         ensures later { IfOk result (λ v. Extends (arc_value v) self.old.last) }
         ensures told { IfOk result (λ v. Extends (arc_value v) self.old.learnt) }
         ensures last { IfOk result (λ v. self.new.last ≡ arc_value v) }
+        ensures now { IfOk result (λ v. self.new.reads ≡ arc_value v ∷ self.old.reads) }
         ensures err { OnErr result (self.new.last ≡ self.old.last) }
         ensures learnt { self.new.learnt ≡ self.old.learnt }
     {
@@ -70,7 +72,7 @@ impl<L: DeskName> Viewer<L> {
     /// Shows the viewer what is published, for the last time.
     pub(crate) fn part<R: Wait + Drop>(&mut self, rt: &R, publication: &Publication<R>)
         requires { publication.now.book ≡ L.history }
-        ensures same { self.new ≡ self.old }
+        ensures same { (self.new.last ≡ self.old.last) × (self.new.learnt ≡ self.old.learnt) }
         ensures extends { Extends publication.now.story self.old.last }
     {
         show(rt, publication, &mut self.pass);
@@ -78,7 +80,7 @@ impl<L: DeskName> Viewer<L> {
 
     /// From now on a read extends what the notice tells of. It waits for nobody, and takes no memory.
     pub fn learn(&mut self, notice: &Notice<L>)
-        ensures last { self.new.last ≡ self.old.last }
+        ensures same { (self.new.last ≡ self.old.last) × (self.new.reads ≡ self.old.reads) }
         ensures learnt { Extends self.new.learnt notice.now }
         ensures kept { Extends self.new.learnt self.old.learnt }
         ensures one { (self.new.learnt ≡ notice.now) ⊎ (self.new.learnt ≡ self.old.learnt) }

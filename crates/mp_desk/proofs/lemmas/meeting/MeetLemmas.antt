@@ -99,7 +99,7 @@ seated_fresh ds ss same = subst (All (λ (s : DesignerTally). s ≡ begun (worki
 pub none_more : (now : Story) (numbers : List ℕ) (vs : List Seeing) → length numbers ≡ length vs
     → ((k : ℕ) (v : Seeing) → k < length vs → slice_index numbers k ≡ length (slice_index_or vs k v).last.edits) → All (λ (v : Seeing). Extends now v.last) vs → All (λ (n : ℕ). n ≤ length now.edits) numbers
 none_more now numbers vs count last read k n within =
-    let v : Seeing = record { last = now; learnt = now } in
+    let v : Seeing = record { last = now; learnt = now; reads = [] } in
     let under = longer now (slice_index_or vs k v).last (read k v (omega (arith, within, count))) in
     let same = last k v (omega (arith, within, count)) in
     let plain = get_or_default_zero numbers k n within in

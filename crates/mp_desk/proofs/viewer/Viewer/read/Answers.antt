@@ -1,9 +1,10 @@
-use Rattle.std.proofs.Common.{rules, ◌≡◌, ◌≤◌, length, ap, sym, ◌∙◌, subst, inl, arith}
+use Rattle.std.proofs.Common.{rules, ◌≡◌, ◌≤◌, List, ◌∷◌, length, ap, sym, ◌∙◌, subst, inl, arith}
+use Rattle.mp_version.specs.Stories.{Story}
 use Rattle.std.specs.Arc.{arc_value}
 use Rattle.mp_desk.specs.Extending.{Extends}
 use Rattle.mp_desk.specs.Chronicles.{Shown, Follows}
 use Rattle.mp_desk.specs.Holders.{Seeing}
-use Rattle.mp_desk.specs.Knowing.{Known, Has}
+use Rattle.mp_desk.specs.Knowing.{Known, Has, stories_of}
 use Rattle.mp_desk.proofs.KeepingLemmas.{covers_has}
 use Rattle.mp_desk.proofs.ShowingLemmas.{shown_is}
 use Rattle.mp_desk.proofs.viewer.Viewer.read.Goals as goal
@@ -40,3 +41,9 @@ returns-clause-told g c =
     let le : length c.self.inside.heard.story.edits ≤ length c.prefix.result.now.story.edits = omega (arith, c.if-number-self.false, n, c.self.invariant.2, ap (λ (z : Shown). length z.story.edits) c.prefix.ensures) in
     let heard : Extends p.story c.self.inside.heard.story = subst (λ (z : Shown). Extends z.story c.self.inside.heard.story) c.prefix.ensures (c.agrees.ensures le) in
     rw v (subst (λ (z : Seeing). Extends p.story z.learnt) c.self.view_is heard)
+
+pub returns-clause-now : goal.returns-clause-now
+returns-clause-now g c =
+    let p : Shown = c.in_ok-published.published in
+    let v : arc_value c.into_version-version.result ≡ p.story = c.into_version-version.ensures in
+    rw v (ap stories_of c.in_ok-published.ensures.1 ∙ ap (λ (xs : List Story). p.story ∷ xs) (ap (λ (z : Seeing). z.reads) c.self.view_is))
