@@ -1,2 +1,3 @@
 pub mod SeatReplies
 pub mod TalkFaults
+pub mod LiveDesks

@@ -28,7 +28,7 @@ pub use command_runs::{
     run_check, run_command,
 };
 pub use desk::DeskCommand;
-pub use live::{Prompted, SeatScribe, fault_of_talk};
+pub use live::{LiveOutcome, Prompted, SeatScribe, fault_of_talk, serve_live};
 pub use meeting_faults::fault_of_meeting;
 pub use met_lines::put_met;
 pub use play::Play;

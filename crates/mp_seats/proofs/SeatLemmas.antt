@@ -1,5 +1,5 @@
 -- A seat's lines, one after the other.
-use Rattle.std.proofs.Common.{◌≡◌, inl, inr, ℕ, ◌+◌, Bool, List, [], ◌∷◌, ◌++◌, length, map, Option, Some, Result, slice_get, refl, sym, ap, subst, ◌∙◌, length-append, arith}
+use Rattle.std.proofs.Common.{◌≡◌, inl, inr, ℕ, ◌+◌, ◌-◌, ◌^◌, ◌<◌, min, Bool, true, List, [], ◌∷◌, ◌++◌, length, map, Option, Some, Result, slice_get, refl, sym, ap, subst, ◌∙◌, length-append, arith}
 use mathlib.Core.List.{IsPrefix}
 use Rattle.mp_text.specs.lines.Given.{given}
 use Rattle.mp_text.specs.lines.Incoming.{Incoming}
@@ -10,9 +10,9 @@ use Rattle.mp_desk.proofs.PrefixLemmas.{prefix_self, prefix_trans, extends_self,
 use Rattle.mp_seats.specs.declared.talk.talk_fault.TalkFault.{TalkFault}
 use Rattle.mp_seats.specs.talk.Answers.{AreAnswers}
 use Rattle.mp_seats.specs.talk.Conversations.{Conversed}
-use Rattle.mp_seats.specs.Replies.{Writing, IsReplyAt}
-use Rattle.mp_seats.specs.Marks.{AcceptedAt, AnsweredAt, Rise, places_of, AreSigned}
-use Rattle.mp_seats.specs.Steps.{Seated, IsAcceptedLine, IsAnsweredLine, IsStep}
+use Rattle.mp_seats.specs.Replies.{Writing, IsRefusalAt, IsAnswerAt}
+use Rattle.mp_seats.specs.Marks.{AcceptedAt, RefusedAt, AnsweredAt, Rise, refused_of, told_of, places_of, AreSigned}
+use Rattle.mp_seats.specs.Steps.{Seated, one_more_refused, IsAcceptedLine, IsRefusedLine, IsAnsweredLine, IsStep}
 use Rattle.mp_seats.specs.Seats.{IsSeat, IsVisit}
 use Rattle.mp_seats.proofs.MarkLemmas.{longer, accepted_at, up_to-earlier, signed_at}
 
@@ -29,6 +29,8 @@ module _ (w : Writing) (edits : Bool) where
         replies = λ now more. empty;
         rise = λ now more. longer now start.seen (extends_trans now last.seen start.seen more extends);
         accepted = omega (arith, accepted);
+        refused = λ _ low. let refused : last.refused ≡ start.refused = ap (λ (s : Seated). s.refused) same in omega (arith, refused, low);
+        told = ap (λ (s : Seated). s.told) same;
         number = ap (λ (s : Seated). s.number) same;
         begins = subst (λ (s : Seated). IsPrefix start.signed s.signed) (sym same) (prefix_self start.signed);
         signed = λ authors more. tt;
@@ -36,6 +38,12 @@ module _ (w : Writing) (edits : Bool) where
 
   -- one line before others
   module _ (start next last : Seated) (line : Option (List ℕ)) (lines : List (Option (List ℕ))) (piece later text : List ℕ) (is : text ≡ piece ++ later) (rest : IsSeat w edits next lines last later) where
+    -- a line that isn't counted as refused
+    unrefused : next.refused ≡ start.refused → edits ≡ true → start.refused < 2 ^ 64 → last.refused ≡ min (start.refused + refused_of rest.marks) (2 ^ 64 - 1)
+    unrefused same edits_may low =
+        let there : last.refused ≡ min (next.refused + refused_of rest.marks) (2 ^ 64 - 1) = rest.refused edits_may (omega (arith, same, low)) in
+        there ∙ ap (λ (n : ℕ). min (n + refused_of rest.marks) (2 ^ 64 - 1)) same
+
     accepted : IsAcceptedLine w edits start line next piece → IsSeat w edits start (line ∷ lines) last text
     accepted step =
         let k = length step.before.edits in
@@ -63,6 +71,8 @@ module _ (w : Writing) (edits : Bool) where
           );
           rise = λ now more. (longer step.before start.seen step.extends, subst (λ (n : ℕ). Rise n (length now.edits) rest.marks) size (rest.rise now more));
           accepted = omega (arith, count, counted);
+          refused = unrefused (ap (λ (s : Seated). s.refused) step.stands);
+          told = rest.told ∙ ap (λ (told : ℕ). told_of told rest.marks) (ap (λ (s : Seated). s.told) step.stands);
           number = numbered;
           begins = prefix_trans start.signed next.signed last.signed begins rest.begins;
           signed = λ authors more. (
@@ -72,7 +82,35 @@ module _ (w : Writing) (edits : Bool) where
           );
         }
 
-    answered : IsAnsweredLine w edits start line next piece → IsSeat w edits start (line ∷ lines) last text
+    refused : IsRefusedLine w edits start line next piece → IsSeat w edits start (line ∷ lines) last text
+    refused step =
+        let k = length next.seen.edits in
+        let count = rest.accepted in
+        let counted = ap (λ (s : Seated). s.accepted) step.stands in
+        let same_number : next.number ≡ start.number = ap (λ (s : Seated). s.number) step.stands in
+        record {
+          marks = RefusedAt k ∷ rest.marks;
+          extends = extends_trans last.seen next.seen start.seen rest.extends step.extends;
+          replies = λ now more. (
+            piece,
+            later,
+            subst (λ (s : Story). IsRefusalAt w edits s line piece) (sym (up_to-earlier now next.seen (extends_trans now last.seen next.seen more rest.extends))) step.replied,
+            rest.replies now more,
+            is,
+          );
+          rise = λ now more. (longer next.seen start.seen step.extends, rest.rise now more);
+          accepted = omega (arith, count, counted);
+          refused = λ edits_may low.
+              let here : next.refused ≡ min (start.refused + 1) (2 ^ 64 - 1) = ap (λ (s : Seated). s.refused) step.stands ∙ ap (λ (b : Bool). one_more_refused b start.refused) edits_may in
+              let there : last.refused ≡ min (next.refused + refused_of rest.marks) (2 ^ 64 - 1) = rest.refused edits_may (omega (arith, here)) in
+              omega (arith, here, there, low);
+          told = rest.told ∙ ap (λ (told : ℕ). told_of told rest.marks) (ap (λ (s : Seated). s.told) step.stands);
+          number = rest.number ∙ same_number;
+          begins = subst (λ (signed : List ℕ). IsPrefix signed last.signed) (ap (λ (s : Seated). s.signed) step.stands) rest.begins;
+          signed = λ authors more. subst (λ (author : ℕ). AreSigned author authors (places_of rest.marks)) same_number (rest.signed authors more);
+        }
+
+    answered : IsAnsweredLine w start line next piece → IsSeat w edits start (line ∷ lines) last text
     answered step =
         let k = length next.seen.edits in
         let count = rest.accepted in
@@ -84,12 +122,14 @@ module _ (w : Writing) (edits : Bool) where
           replies = λ now more. (
             piece,
             later,
-            subst (λ (s : Story). IsReplyAt w edits s line piece) (sym (up_to-earlier now next.seen (extends_trans now last.seen next.seen more rest.extends))) step.replied,
+            subst (λ (s : Story). IsAnswerAt w s line piece) (sym (up_to-earlier now next.seen (extends_trans now last.seen next.seen more rest.extends))) step.replied,
             rest.replies now more,
             is,
           );
           rise = λ now more. (longer next.seen start.seen step.extends, rest.rise now more);
           accepted = omega (arith, count, counted);
+          refused = unrefused (ap (λ (s : Seated). s.refused) step.stands);
+          told = rest.told ∙ ap (λ (told : ℕ). told_of told rest.marks) (ap (λ (s : Seated). s.told) step.stands);
           number = rest.number ∙ same_number;
           begins = subst (λ (signed : List ℕ). IsPrefix signed last.signed) (ap (λ (s : Seated). s.signed) step.stands) rest.begins;
           signed = λ authors more. subst (λ (author : ℕ). AreSigned author authors (places_of rest.marks)) same_number (rest.signed authors more);
@@ -97,7 +137,8 @@ module _ (w : Writing) (edits : Bool) where
 
     one : IsStep w edits start line next piece → IsSeat w edits start (line ∷ lines) last text
     one (inl step) = accepted step
-    one (inr step) = answered step
+    one (inr (inl step)) = refused step
+    one (inr (inr step)) = answered step
 
   -- all lines
   pub seat : (start : Seated) (lines : List (Option (List ℕ))) (last : Seated) (text : List ℕ) → AreAnswers (IsStep w edits) start lines last text → IsSeat w edits start lines last text

@@ -32,15 +32,27 @@ abbrev pub IsEditReply : Writing → Bool → Story → Edit → List ℕ → Ty
 IsEditReply w true story edit text = (error : EditError) × IsRefusal story edit error × (text ≡ w.reply (Refused error))
 IsEditReply w false story edit text = text ≡ w.reply NotADesigner
 
--- the reply after this story to a line that was read so, unless it is an edit that is accepted
-abbrev pub IsReadReply : Writing → Bool → Story → Result Line LineError → List ℕ → Type 0
-IsReadReply w edits story (Ok Empty) text = text ≡ []
-IsReadReply w edits story (Ok (Change edit)) text = IsEditReply w edits story edit text
-IsReadReply w edits story (Ok (Ask question)) text = text ≡ w.answer story question
-IsReadReply w edits story (Err error) text = text ≡ w.reply (Unread error)
+-- the answer after this story to what was read, if that is a question or has no words
+abbrev pub IsReadAnswer : Writing → Story → Result Line LineError → List ℕ → Type 0
+IsReadAnswer w story (Ok Empty) text = text ≡ []
+IsReadAnswer w story (Ok (Change edit)) text = ⊥
+IsReadAnswer w story (Ok (Ask question)) text = text ≡ w.answer story question
+IsReadAnswer w story (Err error) text = ⊥
 
--- the reply after this story to a line, None where it is too long, unless it is an edit that is accepted; memory may be wanting for reading a line whose
--- bytes are allowed, whose first word is one that lines have, and that has as many words as it may
-abbrev pub IsReplyAt : Writing → Bool → Story → Option (List ℕ) → List ℕ → Type 0
-IsReplyAt w edits story None text = text ≡ w.reply TooLong
-IsReplyAt w edits story (Some line) text = IsReadReply w edits story (line_at line) text ⊎ (HasForm line × (text ≡ w.reply (Refused OutOfMemory)))
+-- the reply after this story to an edit that isn't accepted, or to a line that isn't read
+abbrev pub IsReadRefusal : Writing → Bool → Story → Result Line LineError → List ℕ → Type 0
+IsReadRefusal w edits story (Ok Empty) text = ⊥
+IsReadRefusal w edits story (Ok (Change edit)) text = IsEditReply w edits story edit text
+IsReadRefusal w edits story (Ok (Ask question)) text = ⊥
+IsReadRefusal w edits story (Err error) text = text ≡ w.reply (Unread error)
+
+-- the answer after this story to a line
+abbrev pub IsAnswerAt : Writing → Story → Option (List ℕ) → List ℕ → Type 0
+IsAnswerAt w story None text = ⊥
+IsAnswerAt w story (Some line) text = IsReadAnswer w story (line_at line) text
+
+-- the reply after this story to a line, None where it is too long, that is refused or isn't read; memory may be wanting for reading a line whose bytes are
+-- allowed, whose first word is one that lines have, and that has as many words as it may
+abbrev pub IsRefusalAt : Writing → Bool → Story → Option (List ℕ) → List ℕ → Type 0
+IsRefusalAt w edits story None text = text ≡ w.reply TooLong
+IsRefusalAt w edits story (Some line) text = IsReadRefusal w edits story (line_at line) text ⊎ (HasForm line × (text ≡ w.reply (Refused OutOfMemory)))

@@ -1,5 +1,5 @@
 -- A seat: the lines that came, their replies, and a number for each line, which says after how many accepted edits it was answered.
-use Rattle.std.specs.Prelude.{◌≡◌, ℕ, ◌+◌, Bool, true, List, [], ◌∷◌, ◌++◌, length, map, Option, Some, Result, slice_get}
+use Rattle.std.specs.Prelude.{◌≡◌, ℕ, ◌+◌, ◌-◌, ◌^◌, ◌<◌, min, Bool, true, List, [], ◌∷◌, ◌++◌, length, map, Option, Some, Result, slice_get}
 use Rattle.std.specs.Io.KnownBytes.{Consumes}
 use mathlib.Core.List.{IsPrefix}
 use Rattle.mp_records.specs.declared.edit.Edit.{Edit}
@@ -12,14 +12,15 @@ use Rattle.mp_desk.specs.Extending.{Extends}
 use Rattle.mp_seats.specs.declared.talk.talk_fault.TalkFault.{TalkFault}
 use Rattle.mp_seats.specs.talk.Conversations.{Closes}
 use Rattle.mp_seats.specs.declared.reply.Reply.TheVariants.{Accepted}
-use Rattle.mp_seats.specs.Marks.{Mark, AcceptedAt, AnsweredAt, up_to, Rise, accepted_of, places_of, AreSigned}
-use Rattle.mp_seats.specs.Replies.{Writing, IsEditLine, IsReplyAt}
+use Rattle.mp_seats.specs.Marks.{Mark, AcceptedAt, RefusedAt, AnsweredAt, up_to, Rise, accepted_of, refused_of, told_of, places_of, AreSigned}
+use Rattle.mp_seats.specs.Replies.{Writing, IsEditLine, IsRefusalAt, IsAnswerAt}
 use Rattle.mp_seats.specs.Steps.{Seated}
 
--- a line has this reply: its edit is accepted, and then stands at its place in the story; or it is answered otherwise, after so many edits
+-- a line has this reply: its edit is accepted, and then stands at its place in the story; or it is refused or answered after so many edits
 abbrev pub IsReply : Writing → Bool → Story → Option (List ℕ) → Mark → List ℕ → Type 0
 IsReply w edits now line (AcceptedAt k) text = (edit : Edit) × (edits ≡ true) × IsEditLine line edit × (slice_get now.edits k ≡ Some edit) × (text ≡ w.reply (Accepted (k + 1)))
-IsReply w edits now line (AnsweredAt k) text = IsReplyAt w edits (up_to now k) line text
+IsReply w edits now line (RefusedAt k) text = IsRefusalAt w edits (up_to now k) line text
+IsReply w edits now line (AnsweredAt k) text = IsAnswerAt w (up_to now k) line text
 
 -- these bytes are the replies to lines in turn, with these numbers
 abbrev pub AreReplies : Writing → Bool → Story → List (Option (List ℕ)) → List Mark → List ℕ → Type 0
@@ -29,13 +30,16 @@ AreReplies w edits now (line ∷ lines) (mark ∷ marks) text =
 AreReplies w edits now lines marks text = ⊥
 
 -- lines came to a seat, and these are their replies in each story that extends the one seen in the end: their numbers never fall, none is less than
--- what the seat had seen before, as many as were accepted are counted for it, and the author of each of these is the one who edits there
+-- what the seat had seen before, as many as were accepted are counted for it, and at a seat that edits as many as were refused, up to the greatest count;
+-- the number that was told last is known, and the author of each accepted edit is the one who edits there
 pub record IsSeat (w : Writing) (edits : Bool) (start : Seated) (lines : List (Option (List ℕ))) (last : Seated) (text : List ℕ) : Type 0 where
   pub marks : List Mark
   pub extends : Extends last.seen start.seen
   pub replies : (now : Story) → Extends now last.seen → AreReplies w edits now lines marks text
   pub rise : (now : Story) → Extends now last.seen → Rise (length start.seen.edits) (length now.edits) marks
   pub accepted : last.accepted ≡ start.accepted + accepted_of marks
+  pub refused : edits ≡ true → start.refused < 2 ^ 64 → last.refused ≡ min (start.refused + refused_of marks) (2 ^ 64 - 1)
+  pub told : last.told ≡ told_of start.told marks
   pub number : last.number ≡ start.number
   pub begins : IsPrefix start.signed last.signed
   pub signed : (authors : List ℕ) → IsPrefix last.signed authors → AreSigned start.number authors (places_of marks)

@@ -1,5 +1,5 @@
 -- What a line makes of who sits at a seat.
-use Rattle.std.specs.Prelude.{◌≡◌, ◌⊎◌, ℕ, ◌+◌, Bool, true, false, List, [], ◌∷◌, ◌++◌, length, Option, Result, Ok, Err}
+use Rattle.std.specs.Prelude.{◌≡◌, ◌⊎◌, ℕ, ◌+◌, ◌-◌, ◌^◌, min, Bool, true, false, List, [], ◌∷◌, ◌++◌, length, Option, Result, Ok, Err}
 use mathlib.Core.List.{IsPrefix}
 use Rattle.mp_records.specs.declared.edit.Edit.{Edit}
 use Rattle.mp_streams.specs.Outgoing.{Outgoing}
@@ -11,13 +11,16 @@ use Rattle.mp_desk.specs.Holders.{RefusedAfter}
 use Rattle.mp_seats.specs.declared.refusal.Refusal.{Refusal}
 use Rattle.mp_seats.specs.declared.refusal.Refusal.TheVariants as refusals
 use Rattle.mp_seats.specs.declared.reply.Reply.TheVariants.{Accepted}
-use Rattle.mp_seats.specs.Replies.{Writing, IsEditLine, IsReplyAt}
+use Rattle.mp_seats.specs.Replies.{Writing, IsEditLine, IsRefusalAt, IsAnswerAt}
 
--- who sits at a seat: the version seen last, how many edits were accepted, the number of the designer who edits there, and the authors of all edits up to
--- the last one that was accepted there
+-- who sits at a seat: the version seen last, how many edits were accepted, how many lines were refused or not read (0 at a seat that doesn't edit), the number
+-- that was told last for an accepted edit (0 where there is none), the number of the designer who edits there, and the authors of all edits up to the last one
+-- that was accepted there
 pub record Seated : Type 0 where
   pub seen : Story
   pub accepted : ℕ
+  pub refused : ℕ
+  pub told : ℕ
   pub number : ℕ
   pub signed : List ℕ
 
@@ -25,9 +28,19 @@ pub record Seated : Type 0 where
 abbrev pub with_seen : Seated → Story → Seated
 with_seen old seen = record old { seen = seen }
 
+-- one line more was refused or not read, at a seat that edits or doesn't: the count stays at its greatest value
+abbrev pub one_more_refused : Bool → ℕ → ℕ
+one_more_refused true refused = min (refused + 1) (2 ^ 64 - 1)
+one_more_refused false refused = refused
+
+-- that was counted, and nothing else changed
+abbrev pub with_refusal : Bool → Seated → Seated
+with_refusal edits old = record old { refused = one_more_refused edits old.refused }
+
 -- the edit was accepted after this story by these authors
 abbrev pub with_edit : Seated → Story → List ℕ → Edit → Seated
-with_edit old before authors edit = record old { seen = one_more before edit; accepted = old.accepted + 1; signed = authors ++ old.number ∷ [] }
+with_edit old before authors edit =
+    record old { seen = one_more before edit; accepted = old.accepted + 1; told = length before.edits + 1; signed = authors ++ old.number ∷ [] }
 
 -- what became of an edit at a seat that edits or doesn't: its number, or why it isn't made
 abbrev pub Submits : Bool → Result ℕ Refusal → Seated → Seated → Edit → Type 0
@@ -51,15 +64,21 @@ pub record IsAcceptedLine (w : Writing) (edits : Bool) (old : Seated) (line : Op
   pub stands : new ≡ with_edit old before authors edit
   pub replied : text ≡ w.reply (Accepted (length before.edits + 1))
 
+-- a line was refused or not read after the story that was then seen, and counted
+pub record IsRefusedLine (w : Writing) (edits : Bool) (old : Seated) (line : Option (List ℕ)) (new : Seated) (text : List ℕ) : Type 0 where
+  pub extends : Extends new.seen old.seen
+  pub stands : new ≡ with_refusal edits (with_seen old new.seen)
+  pub replied : IsRefusalAt w edits new.seen line text
+
 -- a line was answered after the story that was then seen
-pub record IsAnsweredLine (w : Writing) (edits : Bool) (old : Seated) (line : Option (List ℕ)) (new : Seated) (text : List ℕ) : Type 0 where
+pub record IsAnsweredLine (w : Writing) (old : Seated) (line : Option (List ℕ)) (new : Seated) (text : List ℕ) : Type 0 where
   pub extends : Extends new.seen old.seen
   pub stands : new ≡ with_seen old new.seen
-  pub replied : IsReplyAt w edits new.seen line text
+  pub replied : IsAnswerAt w new.seen line text
 
 -- the step of a line
 abbrev pub IsStep : Writing → Bool → Seated → Option (List ℕ) → Seated → List ℕ → Type 0
-IsStep w edits old line new text = IsAcceptedLine w edits old line new text ⊎ IsAnsweredLine w edits old line new text
+IsStep w edits old line new text = IsAcceptedLine w edits old line new text ⊎ (IsRefusedLine w edits old line new text ⊎ IsAnsweredLine w old line new text)
 
 -- an edit was submitted, and its reply was written, or a part of it
 abbrev pub PutsEdit : {S : Type 0} → Writing → Bool → Result (Unit {0}) WriteError → Seated → Seated → Edit → Outgoing S → Outgoing S → Type 0

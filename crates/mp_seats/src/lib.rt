@@ -14,7 +14,7 @@ mod reply_writer;
 mod seat;
 mod talk;
 
-pub use hosting::{Door, Ended, Exit, Hall, HostFault, Places, SeatName, SeatPlace, host};
+pub use hosting::{Door, Ended, Exit, Hall, HostFault, Hosted, Places, SeatName, SeatPlace, host};
 pub use journal::{Journal, JournalNotice, Journaled, ReplayFault, make_again};
 pub use occupant::Occupant;
 pub use pipes::Pipes;

@@ -1,9 +1,10 @@
 //! Those who sit at seats.
-ghost use Rattle.std.specs.Prelude.{◌≡◌, Bool, IfOk, OnErr};
+ghost use Rattle.std.specs.Prelude.{◌≡◌, ◌∷◌, Bool, false, List, IfOk, OnErr};
 ghost use Rattle.std.specs.Arc.{arc_value};
 ghost use Rattle.std.specs.Thread.{IsSync};
+ghost use Rattle.mp_version.specs.Stories.{Story};
 ghost use Rattle.mp_desk.specs.Extending.{Extends};
-ghost use Rattle.mp_seats.specs.Steps.{Seated, with_seen, Submits};
+ghost use Rattle.mp_seats.specs.Steps.{Seated, with_seen, with_refusal, Submits};
 
 use crate::refusal::Refusal;
 use mp_netlist::Edit;
@@ -14,11 +15,14 @@ use std::thread::Threads;
 
 /// Who sits at a seat: a designer, or a viewer.
 pub trait Occupant: Drop {
-    // What was seen last, and how many edits were accepted.
+    // What was seen last, how many edits were accepted, and how many lines refused or not read.
     ghost seated: { Self → Seated };
 
     // Whether edits are made here.
     ghost edits: { Bool };
+
+    // The versions that one who makes no edits has read, the newest first.
+    ghost reads: { Self → List Story };
 
     /// Submits an edit, and tells how many were accepted so far, with this one. The error says why it isn't made. The clause `shared` says what
     /// the bound `Sync` says: in a trait the prover asks for both.
@@ -26,14 +30,15 @@ pub trait Occupant: Drop {
         requires shared { IsSync R.row }
         ensures { Submits edits result (seated self.old) (seated self.new) edit.now };
 
-    /// Reads the newest version, and waits for nobody: it is the one that was seen last, or a later one. The error comes if memory runs out:
-    /// then the version that was seen last stays.
+    /// Reads the newest version, and waits for nobody: it is the one that was seen last, or a later one. One who makes no edits reads what is published
+    /// then, never a version that was kept. The error comes if memory runs out: then the version that was seen last stays.
     fn read(&mut self) -> Result<Arc<Version>, AllocError>
         ensures later { IfOk result (λ v. Extends (arc_value v) (seated self.old).seen) }
         ensures seen { IfOk result (λ v. seated self.new ≡ with_seen (seated self.old) (arc_value v)) }
+        ensures now { edits ≡ false → IfOk result (λ v. reads self.new ≡ arc_value v ∷ reads self.old) }
         ensures err { OnErr result (seated self.new ≡ seated self.old) };
 
-    /// Counts a line that was refused or not read. Nothing else changes.
+    /// Counts a line that was refused or not read, where edits are made. Nothing else changes.
     fn refuse(&mut self)
-        ensures { seated self.new ≡ seated self.old };
+        ensures { seated self.new ≡ with_refusal edits (seated self.old) };
 }

@@ -36,7 +36,7 @@ impl<B: ReplyWriter, G: Occupant> Seat<B, G> {
     ghost use Rattle.mp_streams.specs.WriteErrors.{Writes};
     ghost use Rattle.mp_seats.specs.talk.Answers.{PutsAnswer};
     ghost use Rattle.mp_seats.specs.talk.TalkFaults.{counted_reads};
-    ghost use Rattle.mp_seats.specs.Steps.{with_seen, IsStep, PutsEdit};
+    ghost use Rattle.mp_seats.specs.Steps.{with_seen, with_refusal, IsStep, PutsEdit};
     ghost use Rattle.mp_seats.specs.Seats.{IsVisit};
 
     /// A seat at which this guest sits.
@@ -79,7 +79,7 @@ impl<B: ReplyWriter, G: Occupant> Seat<B, G> {
 
     /// Counts the line, and writes its reply.
     fn put_counted<T: Sink>(&mut self, out: &mut Out<T>, reply: &Reply) -> Result<(), WriteError>
-        ensures same { self.new ≡ self.old }
+        ensures counted { self.new ≡ with_refusal G.edits self.old }
         ensures written { Writes result out.old out.new (B.reply_text reply.now) }
     {
         self.guest.refuse();

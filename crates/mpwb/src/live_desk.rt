@@ -2,12 +2,10 @@
 ghost use Rattle.std.specs.Prelude.{◌≡◌, ◌<◌, ◌≤◌, IfSome, []};
 
 use crate::desk_files::{DeskFiles, PathNotice};
-use mp_commands::{
-    Options, RunFault, SeatScribe, fault_of_meeting, fault_of_talk, put_met, read_opening,
-};
+use mp_commands::{Options, RunFault, SeatScribe, read_opening, serve_live};
 use mp_netlist::Netlist;
 use mp_phase::{Crew, OpenGate};
-use mp_seats::{HostFault, Journal, Journaled, Pipes, Places, ReplayFault, make_again};
+use mp_seats::{Journal, Journaled, Pipes, Places, ReplayFault, make_again};
 use mp_session::Session;
 use mp_streams::{Out, ReadSource, Sink, Source, TakeError, WriteSink};
 use mp_text::LineReader;
@@ -140,14 +138,10 @@ fn serve_lines<R: Eprint + Threads + Wait + Sync + AllocGlobal, I: Source, T: Si
         alloc: rt.alloc(),
         crew: desk.crew,
     };
-    let met = match desk.pipes.host(rt, session, scribe, lines, out) {
-        Ok(met) => met,
-        Err(fault) => return Err(fault_of_host(fault)),
-    };
-    let is_written = is_netlist_written(rt, desk, met.session.version().now());
-    put_met(out, &met, desk.crew)?;
-    out.flush()?;
-    if is_written && met.session.journal().is_whole() {
+    let live = serve_live(rt, desk.pipes, session, scribe, lines, out)?;
+    let is_written = is_netlist_written(rt, desk, live.session.version().now());
+    live.ended?;
+    if is_written && live.session.journal().is_whole() {
         Ok(0)
     } else {
         Ok(CANT_OPEN)
@@ -177,13 +171,4 @@ fn crew_of(options: &Options, designers: u32) -> Option<Crew>
         return None;
     }
     options.crew()
-}
-
-/// The fault of a run whose desk ended early.
-fn fault_of_host(fault: HostFault) -> RunFault {
-    match fault {
-        HostFault::BadSize => RunFault::BadCount,
-        HostFault::Meeting(fault) => fault_of_meeting(fault),
-        HostFault::Talk(fault) => fault_of_talk(fault),
-    }
 }

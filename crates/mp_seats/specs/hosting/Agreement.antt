@@ -10,7 +10,7 @@ use Rattle.mp_version.specs.Stories.{Story, opening}
 use Rattle.mp_desk.specs.declared.meeting.tally.Tally.{Tally}
 use Rattle.mp_desk.specs.meeting.Fates.{Fate, Accepted, Refused}
 use Rattle.mp_desk.specs.meeting.Meetings.{IsWorked, IsMeeting}
-use Rattle.mp_seats.specs.Marks.{Mark, AcceptedAt, AnsweredAt, up_to}
+use Rattle.mp_seats.specs.Marks.{Mark, AcceptedAt, RefusedAt, AnsweredAt, up_to}
 use Rattle.mp_seats.specs.Replies.{Writing}
 use Rattle.mp_seats.specs.Seats.{IsSeat}
 use Rattle.mp_seats.specs.hosting.Guests.{just_come, just_looking}
@@ -20,7 +20,8 @@ abbrev pub with_mark : ℕ → Result Line LineError → List Fate → (ℕ → 
 with_mark seen (Ok Empty) fates others = AnsweredAt seen ∷ others seen fates
 with_mark seen read [] others = AnsweredAt seen ∷ others seen []
 with_mark seen read (Accepted k ∷ fates) others = AcceptedAt k ∷ others (k + 1) fates
-with_mark seen read (Refused k ∷ fates) others = AnsweredAt k ∷ others k fates
+with_mark seen (Ok (Ask question)) (Refused k ∷ fates) others = AnsweredAt k ∷ others k fates
+with_mark seen read (Refused k ∷ fates) others = RefusedAt k ∷ others k fates
 
 -- the numbers of a block's lines that have these fates
 abbrev pub marks_of : ℕ → List (List ℕ) → List Fate → List Mark
@@ -32,8 +33,9 @@ marks_of seen (line ∷ lines) fates = with_mark seen (line_at line) fates (λ s
 abbrev pub BlocksAreSeats : Type 0
 BlocksAreSeats =
     (w : Writing) (number : ℕ) (now : Story) (numbers : List ℕ) (lines : List (List ℕ)) (tally : Tally) (worked : IsWorked now numbers lines tally)
-    → (text : List ℕ) × (signed : List ℕ)
-    × (seat : IsSeat w true (just_come number (opening now.base)) (map (λ line. Some line) lines) (record { seen = now; accepted = tally.accepted; number = number; signed = signed }) text)
+    → (text : List ℕ) × (signed : List ℕ) × (refused : ℕ) × (told : ℕ)
+    × (seat : IsSeat w true (just_come number (opening now.base)) (map (λ line. Some line) lines)
+    (record { seen = now; accepted = tally.accepted; refused = refused; told = told; number = number; signed = signed }) text)
     × (seat.marks ≡ marks_of 0 lines worked.fates)
 
 -- what a viewer saw is answered as at a viewer's seat to a line that asks for it, with the viewer's number

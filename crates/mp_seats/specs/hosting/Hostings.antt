@@ -1,5 +1,5 @@
 -- What becomes of a desk that is served.
-use Rattle.std.specs.Prelude.{ℕ, true, false, List, length, map, All, Option}
+use Rattle.std.specs.Prelude.{◌≡◌, ◌<◌, ℕ, true, false, List, length, map, All, Option}
 use Rattle.mp_version.specs.Stories.{Story}
 use Rattle.mp_desk.specs.Extending.{Extends}
 use Rattle.mp_desk.specs.declared.meeting.tally.Tally.{Tally}
@@ -11,10 +11,20 @@ use Rattle.mp_seats.specs.hosting.Guests.{sitter, just_come, just_looking}
 use Rattle.mp_seats.specs.hosting.Stays.{AreAttended, claims}
 use Rattle.mp_seats.specs.hosting.Claims.{AreClaimed}
 
+-- what a desk that was served from the first story to the last tells of its seats in the end: the last story extends the first one; its other edits are those
+-- that were accepted at all designers' seats, as the tallies count them; and if there are any, each viewer has seen them all
+pub record HasConcluded (first last : Story) (tallies : List Tally) (numbers : List ℕ) : Type 0 where
+  pub sittings : List DesignerTally
+  pub viewers : ℕ
+  pub extends : Extends last first
+  pub adjourned : HasAdjourned (length first.edits) sittings viewers last tallies numbers
+  pub saw : length first.edits < length last.edits → All (λ number. number ≡ length last.edits) numbers
+
 module _ (T : Type 0) {D : Type 0} (Comes : D → D → Option (List ℕ) → Option (List ℕ) → Type 0) (Leaves : D → D → Option (List ℕ) → Type 0) (TurnsAway : D → D → Type 0) (w : Writing) where
   -- a desk was served from the first story to the last: each designer's and each viewer's seat was attended through its door, from the first story on; the
   -- last extends what was seen at each; and the meeting ended with those who then sat there, so that the last story's edits are the first one's and
-  -- as many as were accepted at all seats; and each of these edits has its place by one line of one seat, so that no place is anybody else's
+  -- as many as were accepted at all seats; each of these edits has its place by one line of one seat, so that no place is anybody else's; and if there are
+  -- any, each viewer has seen them all in the end
   pub record IsHosted (first last : Story) (designers viewers : List D) (tallies : List Tally) (numbers : List ℕ) : Type 0 where
     pub sittings : List DesignerTally
     pub looks : List Seated
@@ -25,3 +35,4 @@ module _ (T : Type 0) {D : Type 0} (Comes : D → D → Option (List ℕ) → Op
     pub extends : Extends last first
     pub claimed :
         AreClaimed (length first.edits) (length last.edits) (claims T Comes Leaves TurnsAway w true (λ number. just_come number first) 1 designers (map sitter sittings) edited)
+    pub saw : length first.edits < length last.edits → All (λ number. number ≡ length last.edits) numbers

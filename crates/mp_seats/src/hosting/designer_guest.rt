@@ -16,12 +16,14 @@ pub(crate) struct DesignerGuest<'a, S: EditSession, L: DeskName, R: Wait + Drop>
 }
 
 impl<'a, S: EditSession, L: DeskName, R: Wait + Drop> Occupant for DesignerGuest<'a, S, L, R> {
-    ghost use Rattle.std.specs.Prelude.{true};
+    ghost use Rattle.std.specs.Prelude.{true, []};
     ghost use Rattle.mp_seats.specs.hosting.Guests.{sitter};
 
     ghost seated = { λ guest. sitter guest.sitting };
 
     ghost edits = { true };
+
+    ghost reads = { λ guest. [] };
 
     #[tactic(auto, using(crate::proofs::lemmas::hosting::GuestLemmas::is_accepted, crate::proofs::lemmas::hosting::GuestLemmas::is_refused))]
     fn submit<H: Threads + Wait + Sync>(&mut self, rt: &H, edit: &Edit) -> Result<u32, Refusal> {
@@ -35,6 +37,7 @@ impl<'a, S: EditSession, L: DeskName, R: Wait + Drop> Occupant for DesignerGuest
         self.sitting.read().map_err(|_| AllocError)
     }
 
+    #[tactic(auto, using(crate::proofs::lemmas::hosting::GuestLemmas::is_counted))]
     fn refuse(&mut self) {
         self.sitting.refuse();
     }

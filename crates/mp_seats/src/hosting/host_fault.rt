@@ -1,14 +1,13 @@
-//! Why a desk that was served ends without its lines.
+//! Why a desk isn't served.
 ghost use Rattle.std.specs.Prelude.{◌≡◌};
 ghost use Rattle.mp_desk.specs.declared.meeting.meeting_fault.MeetingFault.TheVariants.{OutOfMemory};
 ghost use Rattle.mp_seats.specs.declared.hosting.host_fault.HostFault.TheVariants as faults;
 
-use crate::talk::TalkFault;
 use mp_desk::MeetingFault;
 use std::alloc::{AllocError, AllocFailed};
 use thiserror::Error;
 
-/// Why a desk that was served ends early.
+/// Why a desk isn't served to its end.
 #[derive(Clone, Copy, Debug, PartialEq, Eq, Error)]
 pub enum HostFault {
     /// The doors aren't those of 1 to 8 designers and of at most 31 viewers.
@@ -17,9 +16,6 @@ pub enum HostFault {
     /// There was no meeting.
     #[error("{0}")]
     Meeting(MeetingFault),
-    /// The lines of whoever runs the desk ended with a fault.
-    #[error("{0}")]
-    Talk(TalkFault),
 }
 
 impl From<MeetingFault> for HostFault {
@@ -27,14 +23,6 @@ impl From<MeetingFault> for HostFault {
 
     fn from(error: MeetingFault) -> HostFault {
         HostFault::Meeting(error)
-    }
-}
-
-impl From<TalkFault> for HostFault {
-    ghost from_gives = { λ error fault. fault ≡ faults.Talk error };
-
-    fn from(error: TalkFault) -> HostFault {
-        HostFault::Talk(error)
     }
 }
 

@@ -1,15 +1,18 @@
 //! A desk at which designers and viewers come and go, from its beginning to its end.
-ghost use Rattle.std.specs.Prelude.{◌≡◌, ◌+◌, ◌<◌, Ok, [], length, vec_len, All, IfOk, IfErr};
+ghost use Rattle.std.specs.Prelude.{◌≡◌, ◌+◌, ◌<◌, ◌++◌, ◌∷◌, ℕ, [], length, vec_len, All, IfOk, IfErr};
 ghost use Rattle.mp_version.specs.Stories.{Story};
 ghost use Rattle.mp_desk.specs.Holders.{fresh_viewer, AreFresh};
-ghost use Rattle.mp_seats.specs.hosting.OwnSeats.{HasTalked, EndsFor};
+ghost use Rattle.mp_seats.specs.hosting.OwnSeats.{HasTalkedWithin};
 ghost use Rattle.mp_seats.specs.hosting.Hostings.{IsHosted};
+ghost use Rattle.mp_seats.specs.declared.hosting.host_fault.HostFault.TheVariants.{BadSize};
 
 use crate::ReplyWriter;
 use crate::hosting::door::{Door, Exit};
 use crate::hosting::hall::Hall;
 use crate::hosting::host_fault::HostFault;
+use crate::hosting::hosted::Hosted;
 use crate::hosting::people::People;
+use crate::hosting::served::Served;
 use crate::hosting::service::serve;
 use mp_desk::{
     BadDeskSize, Desk, DeskName, DeskOutcome, DeskParts, DeskSize, MeetingFault, Staffed, adjourn,
@@ -18,7 +21,7 @@ use mp_desk::{
 use mp_streams::{Out, Sink, Source};
 use mp_text::LineReader;
 use mp_version::EditSession;
-use std::alloc::Global;
+use std::alloc::{AllocError, Global};
 use std::marker::Brand;
 use std::sync::Wait;
 use std::thread::Threads;
@@ -26,9 +29,9 @@ use std::thread::Threads;
 /// Serves all who come to the doors of a desk, each seat on a thread of its own, and answers the lines of whoever runs it meanwhile. It ends where
 /// these lines end and all seats are left. Where no thread can be started for a seat, that seat stays free.
 ///
-/// `BadSize` comes where there are not doors for 1 to 8 designers and for at most 31 viewers. `OutOfMemory` comes if memory runs out, and
-/// `NoPlace` where there is no place for a viewer or designer. The lines of whoever runs the desk may end with a fault: it is told once all
-/// seats are left.
+/// The lines of whoever runs the desk may end with a fault: it is told beside what became of the desk, once all seats are left. `BadSize` comes where
+/// there are not doors for 1 to 8 designers and for at most 31 viewers: then no line is read. `OutOfMemory` comes if memory runs out, and
+/// `NoPlace` where there is no place for a viewer or designer.
 pub fn host<
     S: EditSession + Send,
     R: Threads + Wait + Sync + Send + Copy,
@@ -44,24 +47,24 @@ pub fn host<
     hall: Hall<D, X, B>,
     lines: &mut LineReader<I>,
     out: &mut Out<T>,
-) -> Result<DeskOutcome<S>, HostFault>
+) -> Result<Hosted<S>, HostFault>
 where
     S::Prepared: Send,
     D::Input: Send,
     D::Output: Send,
     requires held { out.old.held ≡ [] }
-    ensures hosted { IfOk result (λ met. IsHosted D.Output D.Comes D.Leaves D.TurnsAway (record { answer = B.answer_text; reply = B.reply_text }) (S.story session) (S.story met.session) hall.designers.items hall.viewers.items met.tallies.items met.numbers.items) }
-    ensures talked { IfOk result (λ met. HasTalked (record { answer = B.answer_text; reply = B.reply_text }) (Ok tt) (S.story session) (X.names hall.exit) lines.old lines.new out.old out.new) }
-    ensures fault { IfErr result (λ fault. EndsFor (record { answer = B.answer_text; reply = B.reply_text }) fault (S.story session) (X.names hall.exit) lines.old lines.new out.old out.new) }
+    ensures hosted { IfOk result (λ met. IsHosted D.Output D.Comes D.Leaves D.TurnsAway (record { answer = B.answer_text; reply = B.reply_text }) (S.story session) (S.story met.outcome.session) hall.designers.items hall.viewers.items met.outcome.tallies.items met.outcome.numbers.items) }
+    ensures talked { IfOk result (λ met. HasTalkedWithin (record { answer = B.answer_text; reply = B.reply_text }) met.talked (S.story session) (S.story met.outcome.session) (X.names hall.exit) lines.old lines.new out.old out.new) }
+    ensures unread { IfErr result (λ fault. fault ≡ BadSize → (lines.new ≡ lines.old) × (out.new ≡ out.old)) }
     ensures flushed { out.new.held ≡ [] }
 {
     let Ok(size) = size_of(hall.designers.as_slice(), hall.viewers.as_slice()) else {
         return Err(HostFault::BadSize);
     };
     match DeskParts::new(rt, alloc, session, size) {
-        Ok(parts) => {
-            host_parts::<S, Brand, _, D, X, B, I, T>(rt, alloc, parts, hall, lines, out)
-        }
+        Ok(parts) => Ok(host_parts::<S, Brand, _, D, X, B, I, T>(
+            rt, alloc, parts, hall, lines, out,
+        )?),
         Err(refused) => Err(HostFault::from(MeetingFault::from(refused.cause))),
     }
 }
@@ -90,7 +93,7 @@ fn host_parts<
     hall: Hall<D, X, B>,
     lines: &mut LineReader<I>,
     out: &mut Out<T>,
-) -> Result<DeskOutcome<S>, HostFault>
+) -> Result<Hosted<S>, MeetingFault>
 where
     S::Prepared: Send,
     D::Input: Send,
@@ -103,14 +106,13 @@ where
     requires some { 0 < vec_len hall.designers }
     requires viewers { parts.viewers ≡ vec_len hall.viewers + 1 }
     requires held { out.old.held ≡ [] }
-    ensures hosted { IfOk result (λ met. IsHosted D.Output D.Comes D.Leaves D.TurnsAway (record { answer = B.answer_text; reply = B.reply_text }) (S.story parts.session) (S.story met.session) hall.designers.items hall.viewers.items met.tallies.items met.numbers.items) }
-    ensures talked { IfOk result (λ met. HasTalked (record { answer = B.answer_text; reply = B.reply_text }) (Ok tt) (S.story parts.session) (X.names hall.exit) lines.old lines.new out.old out.new) }
-    ensures fault { IfErr result (λ fault. EndsFor (record { answer = B.answer_text; reply = B.reply_text }) fault (S.story parts.session) (X.names hall.exit) lines.old lines.new out.old out.new) }
+    ensures hosted { IfOk result (λ met. IsHosted D.Output D.Comes D.Leaves D.TurnsAway (record { answer = B.answer_text; reply = B.reply_text }) (S.story parts.session) (S.story met.outcome.session) hall.designers.items hall.viewers.items met.outcome.tallies.items met.outcome.numbers.items) }
+    ensures talked { IfOk result (λ met. HasTalkedWithin (record { answer = B.answer_text; reply = B.reply_text }) met.talked (S.story parts.session) (S.story met.outcome.session) (X.names hall.exit) lines.old lines.new out.old out.new) }
     ensures flushed { out.new.held ≡ [] }
 {
     match Desk::<S, L, R>::open(parts) {
-        Ok(staffed) => host_staffed(&rt, alloc, staffed, hall, lines, out),
-        Err(refused) => Err(HostFault::from(MeetingFault::from(refused.cause))),
+        Ok(staffed) => Ok(host_staffed(&rt, alloc, staffed, hall, lines, out)?),
+        Err(refused) => Err(MeetingFault::from(refused.cause)),
     }
 }
 
@@ -131,7 +133,7 @@ fn host_staffed<
     hall: Hall<D, X, B>,
     lines: &mut LineReader<I>,
     out: &mut Out<T>,
-) -> Result<DeskOutcome<S>, HostFault>
+) -> Result<Hosted<S>, AllocError>
 where
     S::Prepared: Send,
     D::Input: Send,
@@ -142,9 +144,8 @@ where
     requires some { 0 < vec_len hall.designers }
     requires viewers { vec_len staffed.viewers ≡ vec_len hall.viewers + 1 }
     requires held { out.old.held ≡ [] }
-    ensures hosted { IfOk result (λ met. (start : Story) → AreFresh start staffed.designers.items → All (λ v. v ≡ fresh_viewer start) staffed.viewers.items → staffed.desk.opening ≡ length start.edits → IsHosted D.Output D.Comes D.Leaves D.TurnsAway (record { answer = B.answer_text; reply = B.reply_text }) start (S.story met.session) hall.designers.items hall.viewers.items met.tallies.items met.numbers.items) }
-    ensures talked { IfOk result (λ met. (start : Story) → All (λ v. v ≡ fresh_viewer start) staffed.viewers.items → HasTalked (record { answer = B.answer_text; reply = B.reply_text }) (Ok tt) start (X.names hall.exit) lines.old lines.new out.old out.new) }
-    ensures fault { IfErr result (λ fault. (start : Story) → All (λ v. v ≡ fresh_viewer start) staffed.viewers.items → EndsFor (record { answer = B.answer_text; reply = B.reply_text }) fault start (X.names hall.exit) lines.old lines.new out.old out.new) }
+    ensures hosted { IfOk result (λ met. (start : Story) → AreFresh start staffed.designers.items → All (λ v. v ≡ fresh_viewer start) staffed.viewers.items → staffed.desk.opening ≡ length start.edits → IsHosted D.Output D.Comes D.Leaves D.TurnsAway (record { answer = B.answer_text; reply = B.reply_text }) start (S.story met.outcome.session) hall.designers.items hall.viewers.items met.outcome.tallies.items met.outcome.numbers.items) }
+    ensures talked { IfOk result (λ met. (start : Story) → All (λ v. v ≡ fresh_viewer start) staffed.viewers.items → HasTalkedWithin (record { answer = B.answer_text; reply = B.reply_text }) met.talked start (S.story met.outcome.session) (X.names hall.exit) lines.old lines.new out.old out.new) }
     ensures flushed { out.new.held ≡ [] }
 {
     let Staffed {
@@ -162,6 +163,37 @@ where
         viewers,
         own,
     };
-    let (sittings, viewers) = serve(rt, alloc, people, hall, lines, out)?;
-    Ok(adjourn(rt, alloc, desk, sittings, viewers)?)
+    let Served {
+        sittings,
+        mut viewers,
+        own,
+        talked,
+    } = serve(rt, alloc, people, hall, lines, out)?;
+    viewers.push(own)?;
+    let outcome = adjourn(rt, alloc, desk, sittings, viewers)?;
+    Ok(Hosted {
+        outcome: without_own(outcome),
+        talked,
+    })
+}
+
+/// The outcome without the number of the last viewer.
+fn without_own<S: EditSession>(outcome: DeskOutcome<S>) -> DeskOutcome<S>
+    requires { 0 < vec_len outcome.numbers }
+    ensures same { (result.session ≡ outcome.session) × (result.tallies ≡ outcome.tallies) }
+    ensures numbers { (last : ℕ) × (outcome.numbers.items ≡ result.numbers.items ++ last ∷ []) }
+{
+    let DeskOutcome {
+        session,
+        tallies,
+        mut numbers,
+    } = outcome;
+    let Some(_last) = numbers.pop() else {
+        unreachable!()
+    };
+    DeskOutcome {
+        session,
+        tallies,
+        numbers,
+    }
 }

@@ -1,7 +1,6 @@
 //! The seat of whoever runs the desk.
-ghost use Rattle.std.specs.Prelude.{◌≡◌, ◌∷◌, [], IsTrue, codes};
+ghost use Rattle.std.specs.Prelude.{◌≡◌, Some, MatchBool};
 ghost use Rattle.std.specs.Option.{option_copied};
-ghost use Rattle.mp_text.specs.lexing.Words.{words_of};
 ghost use Rattle.mp_seats.specs.hosting.OwnSeats.{IsSeatsLine};
 
 use crate::hosting::door::Exit;
@@ -10,7 +9,7 @@ use crate::hosting::telling::put_places;
 use crate::talk::Answerer;
 use crate::{Occupant, ReplyWriter, Seat};
 use mp_streams::{Out, Sink, WriteError};
-use mp_text::{first_word, word_count};
+use mp_text::{first_word, is_plain, word_count};
 use std::marker::Model;
 use std::sync::Wait;
 use std::thread::Threads;
@@ -29,6 +28,16 @@ impl<B: ReplyWriter, G: Occupant, X: Exit> Model for OwnSeat<B, G, X> {
     ghost Value = { Owner };
 
     ghost view = { λ own. record { seated = own.seat; names = X.names own.exit } };
+}
+
+impl<B: ReplyWriter, G: Occupant, X: Exit> OwnSeat<B, G, X> {
+    /// The one who sat there.
+    pub(crate) fn into_guest(self) -> G
+        ensures { G.seated result ≡ self.seated }
+    {
+        let OwnSeat { seat, .. } = self;
+        seat.into_guest()
+    }
 }
 
 impl<B: ReplyWriter, G: Occupant, X: Exit> Answerer for OwnSeat<B, G, X> {
@@ -58,9 +67,9 @@ impl<B: ReplyWriter, G: Occupant, X: Exit> EndNotice for OwnSeat<B, G, X> {
     }
 }
 
-/// Whether the line has the one word `seats`.
+/// Whether the line has the one word `seats`, and bytes that are allowed.
 fn asks_for_seats(line: Option<&[u8]>) -> bool
-    ensures { IsTrue result → IsSeatsLine (option_copied line.entry) }
+    ensures { MatchBool result (IsSeatsLine (option_copied line.entry)) (IsSeatsLine (option_copied line.entry) → ⊥) }
 {
     match line {
         Some(line) => is_seats_line(line),
@@ -69,13 +78,16 @@ fn asks_for_seats(line: Option<&[u8]>) -> bool
 }
 
 fn is_seats_line(line: &[u8]) -> bool
-    ensures { IsTrue result → words_of line.now ≡ codes "seats" ∷ [] }
+    ensures { MatchBool result (IsSeatsLine (Some line.now)) (IsSeatsLine (Some line.now) → ⊥) }
 {
-    let Some(word) = first_word(line) else {
+    if !is_plain(line) {
         return false;
-    };
+    }
     if word_count(line) != 1 {
         return false;
     }
-    word == b"seats".as_slice()
+    match first_word(line) {
+        Some(word) => word == b"seats".as_slice(),
+        None => false,
+    }
 }

@@ -1,18 +1,19 @@
 //! All seats of a desk at the same time.
-ghost use Rattle.std.specs.Prelude.{◌≡◌, ◌<◌, true, false, Ok, [], length, map, vec_len, All, IfOk, IfErr};
+ghost use Rattle.std.specs.Prelude.{◌≡◌, ◌<◌, true, false, [], length, map, vec_len, All, IfOk};
 ghost use Rattle.mp_version.specs.Stories.{Story};
 ghost use Rattle.mp_seats.specs.talk.Conversations.{Conversed};
 ghost use Rattle.mp_seats.specs.hosting.Guests.{sitter, looker, just_come, just_looking, HaveCome};
-ghost use Rattle.mp_seats.specs.hosting.OwnSeats.{HasTalked, EndsFor};
+ghost use Rattle.mp_seats.specs.hosting.OwnSeats.{HasTalked};
 ghost use Rattle.mp_seats.specs.hosting.Stays.{Each, AreAttended};
 
 use crate::hosting::designer_guest::DesignerGuest;
 use crate::hosting::door::{Door, Exit};
 use crate::hosting::hall::Hall;
-use crate::hosting::host_fault::HostFault;
 use crate::hosting::own_seat::OwnSeat;
 use crate::hosting::people::{People, designer_posts, people_at, viewer_posts};
+use crate::hosting::rises::Rises;
 use crate::hosting::seat_server::SeatServer;
+use crate::hosting::served::Served;
 use crate::hosting::serves::{EndNotice, Serves};
 use crate::hosting::staff::Staff;
 use crate::hosting::viewer_guest::ViewerGuest;
@@ -43,7 +44,7 @@ pub(crate) fn serve<
     hall: Hall<D, X, B>,
     lines: &mut LineReader<I>,
     out: &mut Out<T>,
-) -> Result<(Vec<DesignerTally<L>>, Vec<Viewer<L>>), HostFault>
+) -> Result<Served<L>, AllocError>
 where
     S::Prepared: Send,
     D::Input: Send,
@@ -51,19 +52,23 @@ where
     requires designers { vec_len people.sittings ≡ vec_len hall.designers }
     requires viewers { vec_len people.viewers ≡ vec_len hall.viewers }
     requires held { out.old.held ≡ [] }
-    ensures counts { IfOk result (λ both. (vec_len both.0 ≡ vec_len people.entry.sittings) × (vec_len both.1 ≡ vec_len people.entry.viewers)) }
-    ensures designers { IfOk result (λ both. (start : Story) → HaveCome start people.entry.sittings.items → AreAttended D.Output D.Comes D.Leaves D.TurnsAway (record { answer = B.answer_text; reply = B.reply_text }) true (λ number. just_come number start) 1 hall.designers.items (map sitter both.0.items)) }
-    ensures viewers { IfOk result (λ both. (start : Story) → All (λ v. looker v ≡ just_looking start) people.entry.viewers.items → AreAttended D.Output D.Comes D.Leaves D.TurnsAway (record { answer = B.answer_text; reply = B.reply_text }) false (λ number. just_looking start) 1 hall.viewers.items (map looker both.1.items)) }
-    ensures talked { IfOk result (λ both. HasTalked (record { answer = B.answer_text; reply = B.reply_text }) (Ok tt) people.entry.own.last (X.names hall.exit) lines.old lines.new out.old out.new) }
-    ensures fault { IfErr result (λ fault. EndsFor (record { answer = B.answer_text; reply = B.reply_text }) fault people.entry.own.last (X.names hall.exit) lines.old lines.new out.old out.new) }
+    ensures counts { IfOk result (λ s. (vec_len s.sittings ≡ vec_len people.entry.sittings) × (vec_len s.viewers ≡ vec_len people.entry.viewers)) }
+    ensures designers { IfOk result (λ s. (start : Story) → HaveCome start people.entry.sittings.items → AreAttended D.Output D.Comes D.Leaves D.TurnsAway (record { answer = B.answer_text; reply = B.reply_text }) true (λ number. just_come number start) 1 hall.designers.items (map sitter s.sittings.items)) }
+    ensures viewers { IfOk result (λ s. (start : Story) → All (λ v. looker v ≡ just_looking start) people.entry.viewers.items → AreAttended D.Output D.Comes D.Leaves D.TurnsAway (record { answer = B.answer_text; reply = B.reply_text }) false (λ number. just_looking start) 1 hall.viewers.items (map looker s.viewers.items)) }
+    ensures talked { IfOk result (λ s. HasTalked (record { answer = B.answer_text; reply = B.reply_text }) s.talked people.entry.own.last s.own.last (X.names hall.exit) lines.old lines.new out.old out.new) }
     ensures flushed { out.new.held ≡ [] }
 {
     let (mut staff, mut own) = seats_of(alloc, people, hall)?;
-    let (ended, held) = serve_all(rt, alloc, &mut staff, &mut own, lines, out);
+    let (talked, held) = serve_all(rt, alloc, &mut staff, &mut own, lines, out);
     drop(held);
-    drop(own);
-    ended?;
-    Ok(people_of(alloc, staff)?)
+    let own = own.into_guest().rise();
+    let (sittings, viewers) = people_of(alloc, staff)?;
+    Ok(Served {
+        sittings,
+        viewers,
+        own,
+        talked,
+    })
 }
 
 /// The posts of the people at a desk, each with the door in its place, and the seat of whoever runs it.

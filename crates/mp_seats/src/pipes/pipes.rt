@@ -1,13 +1,13 @@
 //! The named pipes of a desk's seats.
-ghost use Rattle.std.specs.Prelude.{◌≡◌, ◌++◌, Ok, [], IfOk, IfErr};
-ghost use Rattle.mp_seats.specs.hosting.OwnSeats.{HasTalked, EndsFor};
+ghost use Rattle.std.specs.Prelude.{◌≡◌, ◌++◌, [], IfOk};
+ghost use Rattle.mp_seats.specs.hosting.Hostings.{HasConcluded};
+ghost use Rattle.mp_seats.specs.hosting.OwnSeats.{HasTalkedWithin};
 
 use crate::ReplyWriter;
-use crate::hosting::{Hall, HostFault, Places, SeatPlace, host};
+use crate::hosting::{Hall, HostFault, Hosted, Places, SeatPlace, host};
 use crate::pipes::pipe_door::PipeDoor;
 use crate::pipes::pipe_exit::PipeExit;
 use crate::pipes::pipe_paths::PipePaths;
-use mp_desk::DeskOutcome;
 use mp_streams::{Out, Sink, Source};
 use mp_text::LineReader;
 use mp_version::EditSession;
@@ -88,12 +88,12 @@ impl<'a> Pipes<'a> {
         scribe: B,
         lines: &mut LineReader<I>,
         out: &mut Out<T>,
-    ) -> Result<DeskOutcome<S>, HostFault>
+    ) -> Result<Hosted<S>, HostFault>
     where
         S::Prepared: Send,
         requires { out.old.held ≡ [] }
-        ensures talked { IfOk result (λ met. HasTalked (record { answer = B.answer_text; reply = B.reply_text }) (Ok tt) (S.story session) (self.now.places.now.designers ++ self.now.places.now.viewers) lines.old lines.new out.old out.new) }
-        ensures fault { IfErr result (λ fault. EndsFor (record { answer = B.answer_text; reply = B.reply_text }) fault (S.story session) (self.now.places.now.designers ++ self.now.places.now.viewers) lines.old lines.new out.old out.new) }
+        ensures talked { IfOk result (λ met. HasTalkedWithin (record { answer = B.answer_text; reply = B.reply_text }) met.talked (S.story session) (S.story met.outcome.session) (self.now.places.now.designers ++ self.now.places.now.viewers) lines.old lines.new out.old out.new) }
+        ensures concluded { IfOk result (λ met. HasConcluded (S.story session) (S.story met.outcome.session) met.outcome.tallies.items met.outcome.numbers.items) }
         ensures flushed { out.new.held ≡ [] }
     {
         let hall = self.hall(scribe)?;

@@ -1,5 +1,5 @@
 -- Blocks of a meeting as lines of a seat.
-use Rattle.std.proofs.Common.{◌≡◌, ℕ, ◌+◌, ◌≤◌, zero, suc, true, false, List, [], ◌∷◌, ◌++◌, length, map, take, Option, Some, Result, Ok, Err, slice_get, slice_index_or, refl, sym, ap, subst, ◌∙◌, inl, arith}
+use Rattle.std.proofs.Common.{◌≡◌, ℕ, ◌+◌, ◌-◌, ◌^◌, ◌≤◌, min, zero, suc, true, false, List, [], ◌∷◌, ◌++◌, length, map, take, Option, Some, Result, Ok, Err, slice_get, slice_index_or, refl, sym, ap, subst, ◌∙◌, inl, arith}
 use Rattle.std.proofs.lemmas.List.{append-nil}
 use mathlib.Core.List.{IsPrefix}
 use Rattle.mp_text.specs.declared.lexing.line_error.LineError.{LineError}
@@ -11,8 +11,8 @@ use Rattle.mp_desk.specs.Extending.{Extends}
 use Rattle.mp_desk.specs.meeting.Fates.{Fate, Accepted, Refused, said, unless_empty, AreFates}
 use Rattle.mp_desk.specs.meeting.Fates as fates_of
 use Rattle.mp_seats.specs.declared.reply.Reply.TheVariants as replies
-use Rattle.mp_seats.specs.Marks.{Mark, AnsweredAt, up_to, Rise, accepted_of, places_of, AreSigned}
-use Rattle.mp_seats.specs.Replies.{Writing, IsReadReply}
+use Rattle.mp_seats.specs.Marks.{Mark, RefusedAt, AnsweredAt, up_to, Rise, accepted_of, refused_of, told_of, places_of, AreSigned}
+use Rattle.mp_seats.specs.Replies.{Writing, IsReadRefusal, IsReadAnswer}
 use Rattle.mp_seats.specs.Seats.{AreReplies}
 use Rattle.mp_seats.specs.hosting.Agreement.{with_mark, marks_of, BlocksAreSeats, IsSeenAtSeat, NumbersAreSeats}
 
@@ -69,7 +69,7 @@ module _ (w : Writing) (number : ℕ) (now : Story) where
           replied = λ later more. (
             [],
             rest.text,
-            inl (subst (λ read. IsReadReply w true (up_to later seen) read []) (sym is) refl),
+            subst (λ read. IsReadAnswer w (up_to later seen) read []) (sym is) refl,
             rest.replied later more,
             refl,
           );
@@ -78,15 +78,32 @@ module _ (w : Writing) (number : ℕ) (now : Story) where
           signed = rest.signed;
         }
 
-    after_refusal : (seen k : ℕ) (fates : List Fate) (piece : List ℕ) → seen ≤ k → k ≤ length now.edits → IsReadReply w true (up_to now k) (line_at line) piece
+    after_answer : (seen k : ℕ) (fates : List Fate) (piece : List ℕ) → seen ≤ k → k ≤ length now.edits → IsReadAnswer w (up_to now k) (line_at line) piece
         → Answered k (map (λ l. Some l) lines) (marks_of k lines fates) fates
         → Answered seen (Some line ∷ map (λ l. Some l) lines) (AnsweredAt k ∷ marks_of k lines fates) (Refused k ∷ fates)
+    after_answer seen k fates piece low within is rest = record {
+      text = piece ++ rest.text;
+      replied = λ later more. (
+        piece,
+        rest.text,
+        subst (λ (s : Story). IsReadAnswer w s (line_at line) piece) (sym (same_up_to now later k more within)) is,
+        rest.replied later more,
+        refl,
+      );
+      rise = λ last le. (low, rest.rise last le);
+      count = rest.count;
+      signed = rest.signed;
+    }
+
+    after_refusal : (seen k : ℕ) (fates : List Fate) (piece : List ℕ) → seen ≤ k → k ≤ length now.edits → IsReadRefusal w true (up_to now k) (line_at line) piece
+        → Answered k (map (λ l. Some l) lines) (marks_of k lines fates) fates
+        → Answered seen (Some line ∷ map (λ l. Some l) lines) (RefusedAt k ∷ marks_of k lines fates) (Refused k ∷ fates)
     after_refusal seen k fates piece low within is rest = record {
       text = piece ++ rest.text;
       replied = λ later more. (
         piece,
         rest.text,
-        inl (subst (λ (s : Story). IsReadReply w true s (line_at line) piece) (sym (same_up_to now later k more within)) is),
+        inl (subst (λ (s : Story). IsReadRefusal w true s (line_at line) piece) (sym (same_up_to now later k more within)) is),
         rest.replied later more,
         refl,
       );
@@ -119,17 +136,17 @@ module _ (w : Writing) (number : ℕ) (now : Story) where
         }
     one (Ok (Change edit)) is seen (Refused k ∷ fates) are rise =
         after_refusal seen k fates (w.reply (replies.Refused are.0.0)) rise.0 (rise_within k (length now.edits) fates rise.1)
-        (subst (λ read. IsReadReply w true (up_to now k) read (w.reply (replies.Refused are.0.0))) (sym is) (are.0.0, inl are.0.1, refl)) (others k fates are.1 rise.1)
+        (subst (λ read. IsReadRefusal w true (up_to now k) read (w.reply (replies.Refused are.0.0))) (sym is) (are.0.0, inl are.0.1, refl)) (others k fates are.1 rise.1)
     one (Ok (Ask question)) is seen [] are rise = absurd are
     one (Ok (Ask question)) is seen (Accepted k ∷ fates) are rise = absurd are.0
     one (Ok (Ask question)) is seen (Refused k ∷ fates) are rise =
-        after_refusal seen k fates (w.answer (up_to now k) question) rise.0 (rise_within k (length now.edits) fates rise.1)
-        (subst (λ read. IsReadReply w true (up_to now k) read (w.answer (up_to now k) question)) (sym is) refl) (others k fates are.1 rise.1)
+        after_answer seen k fates (w.answer (up_to now k) question) rise.0 (rise_within k (length now.edits) fates rise.1)
+        (subst (λ read. IsReadAnswer w (up_to now k) read (w.answer (up_to now k) question)) (sym is) refl) (others k fates are.1 rise.1)
     one (Err error) is seen [] are rise = absurd are
     one (Err error) is seen (Accepted k ∷ fates) are rise = absurd are.0
     one (Err error) is seen (Refused k ∷ fates) are rise =
         after_refusal seen k fates (w.reply (replies.Unread error)) rise.0 (rise_within k (length now.edits) fates rise.1)
-        (subst (λ read. IsReadReply w true (up_to now k) read (w.reply (replies.Unread error))) (sym is) refl) (others k fates are.1 rise.1)
+        (subst (λ read. IsReadRefusal w true (up_to now k) read (w.reply (replies.Unread error))) (sym is) refl) (others k fates are.1 rise.1)
 
   all : (lines : List (List ℕ)) (seen : ℕ) (fates : List Fate) → AreFates now (said lines) fates → fates_of.Rise seen (length now.edits) fates
       → Answered seen (map (λ l. Some l) lines) (marks_of seen lines fates) fates
@@ -145,12 +162,16 @@ blocks_are_seats w number now numbers lines tally worked =
     let accepted = worked.accepted in (
       answered.text,
       signed,
+      min (0 + refused_of (marks_of 0 lines worked.fates)) (2 ^ 64 - 1),
+      told_of 0 (marks_of 0 lines worked.fates),
       record {
         marks = marks_of 0 lines worked.fates;
         extends = record { same_base = refl; begins = (now.edits, refl) };
         replies = answered.replied;
         rise = λ later more. answered.rise (length later.edits) (prefix_length now.edits later.edits more.begins);
         accepted = omega (arith, count, accepted);
+        refused = λ _ _. refl;
+        told = refl;
         number = refl;
         begins = (signed, refl);
         signed = answered.signed;
@@ -166,14 +187,15 @@ seen_at_seat w now number within line question asks = (
     replies = λ later more. (
       w.answer (up_to now number) question,
       [],
-      inl
-          (subst (λ read. IsReadReply w false (up_to later number) read (w.answer (up_to now number) question)) (sym asks)
-          (ap (λ (s : Story). w.answer s question) (sym (same_up_to now later number more within)))),
+      subst (λ read. IsReadAnswer w (up_to later number) read (w.answer (up_to now number) question)) (sym asks)
+          (ap (λ (s : Story). w.answer s question) (sym (same_up_to now later number more within))),
       refl,
       sym (append-nil (w.answer (up_to now number) question)),
     );
     rise = λ later more. (omega arith, let long = prefix_length now.edits later.edits more.begins in omega (arith, long, within));
     accepted = refl;
+    refused = λ edits. absurd (cc edits);
+    told = refl;
     number = refl;
     begins = ([], refl);
     signed = λ authors more. tt;

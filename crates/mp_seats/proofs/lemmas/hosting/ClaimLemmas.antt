@@ -78,6 +78,28 @@ none_behind place from to (k ∷ places) behind rise =
     let first = elsewhere place k (inl (omega (arith, behind, up))) in
     omega (arith, times_cons place k places, first, rest)
 
+-- each place is below a number
+abbrev pub AreBelow : ℕ → List ℕ → Type 0
+AreBelow n [] = Unit {0}
+AreBelow n (k ∷ places) = (k < n) × AreBelow n places
+
+pub below_more : (n more : ℕ) (places : List ℕ) → n ≤ more → AreBelow n places → AreBelow more places
+below_more n more [] le below = tt
+below_more n more (k ∷ places) le below = let first = below.0 in (omega (arith, first, le), below_more n more places le below.1)
+
+pub below_append : (n : ℕ) (xs ys : List ℕ) → AreBelow n xs → AreBelow n ys → AreBelow n (xs ++ ys)
+below_append n [] ys first second = second
+below_append n (k ∷ xs) ys first second = (first.0, below_append n xs ys first.1 second)
+
+-- a place that isn't below it is none of them
+pub times_below : (place n : ℕ) (places : List ℕ) → AreBelow n places → n ≤ place → times place places ≡ 0
+times_below place n [] below le = refl
+times_below place n (k ∷ places) below le =
+    let low = below.0 in
+    let rest = times_below place n places below.1 le in
+    let first = elsewhere place k (inl (omega (arith, low, le))) in
+    omega (arith, times_cons place k places, first, rest)
+
 -- none of them comes twice
 pub once_at_most : (place from to : ℕ) (places : List ℕ) → AreRising from to places → times place places ≤ 1
 once_at_most place from to [] rise = omega arith

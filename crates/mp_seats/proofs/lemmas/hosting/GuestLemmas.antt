@@ -1,11 +1,11 @@
 -- What becomes of a designer's edit, at the seat.
-use Rattle.std.proofs.Common.{◌≡◌, ℕ, true, Ok, Err, refl, ap, ◌∙◌}
+use Rattle.std.proofs.Common.{◌≡◌, ◌+◌, ◌-◌, ◌^◌, min, ℕ, true, Ok, Err, refl, ap, ◌∙◌}
 use Rattle.mp_records.specs.declared.edit.Edit.{Edit}
 use Rattle.mp_records.specs.declared.edit_error.EditError.{EditError}
 use Rattle.mp_desk.specs.Extending.{Extends}
 use Rattle.mp_desk.specs.Holders.{RefusedAfter}
 use Rattle.mp_desk.specs.meeting.Sittings.{DesignerTally, with_seen, IsAccepted}
-use Rattle.mp_seats.specs.Steps.{Submits}
+use Rattle.mp_seats.specs.Steps.{Submits, with_refusal}
 use Rattle.mp_seats.specs.declared.refusal.Refusal.TheVariants as refusals
 use Rattle.mp_seats.specs.hosting.Guests.{sitter}
 
@@ -17,3 +17,7 @@ is_accepted old new edit n is same = (refl, is.0, is.1, is.2, is.3, is.4, ap sit
 pub is_refused : (old new : DesignerTally) (edit : Edit) (error : EditError) → RefusedAfter old.seen new.seen edit error → new ≡ with_seen old new.seen → Extends new.seen old.seen
     → Submits true (Err (refusals.Refused error)) (sitter old) (sitter new) edit
 is_refused old new edit error refused same extends = (refl, refused, ap sitter same, extends)
+
+-- a line that is refused or not read is counted
+pub is_counted : (old new : DesignerTally) → new ≡ record old { refused = min (old.refused + 1) (2 ^ 64 - 1) } → sitter new ≡ with_refusal true (sitter old)
+is_counted old new same = ap sitter same

@@ -1,11 +1,12 @@
 -- Those who sit at a desk, as lists.
-use Rattle.std.proofs.Common.{◌≡◌, ◌<◌, ℕ, zero, suc, List, [], ◌∷◌, ◌++◌, length, map, slice_index_or, All, refl, sym, ap, subst, ◌∙◌, append_assoc, arith}
+use Rattle.std.proofs.Common.{◌≡◌, ◌+◌, ◌<◌, ◌≤◌, ℕ, zero, suc, List, [], ◌∷◌, ◌++◌, length, map, slice_index_or, All, refl, sym, ap, subst, ◌∙◌, append_assoc, length-append, arith}
 use Rattle.std.proofs.lemmas.List.{map-append, length-map}
 use Rattle.mp_version.specs.Stories.{Story}
 use Rattle.mp_desk.specs.Extending.{Extends}
 use Rattle.mp_desk.specs.Holders.{Working, Seeing, fresh_viewer, AreFresh, ExtendsEach}
 use Rattle.mp_desk.specs.meeting.Sittings.{DesignerTally, begun}
-use Rattle.mp_desk.specs.meeting.Seats.{working}
+use Rattle.mp_desk.specs.declared.meeting.tally.Tally.{Tally}
+use Rattle.mp_desk.specs.meeting.Seats.{working, HasAdjourned}
 use Rattle.mp_seats.specs.Steps.{Seated}
 use Rattle.mp_seats.specs.hosting.Guests.{sitter, looker, just_looking, HaveCome}
 
@@ -73,3 +74,17 @@ module _ (now : Story) where
   lookers_extend [] extends k s within = absurd (omega (arith, within))
   lookers_extend (x ∷ xs) extends zero s within = extends 0 x (omega arith)
   lookers_extend (x ∷ xs) extends (suc k) s within = lookers_extend xs (λ j e w. extends (suc j) e (omega (arith, w))) k s (omega (arith, within))
+
+-- the end of a desk without the number of its last viewer
+pub without_last : (opening : ℕ) (ss : List DesignerTally) (viewers : ℕ) (now : Story) (tallies : List Tally) (numbers : List ℕ) (last : ℕ)
+    → HasAdjourned opening ss (viewers + 1) now tallies (numbers ++ last ∷ []) → HasAdjourned opening ss viewers now tallies numbers
+without_last opening ss viewers now tallies numbers last all = record {
+  whole = all.whole;
+  seen = all.seen;
+  counted = all.counted;
+  signed = all.signed;
+  tallies_are = all.tallies_are;
+  told = front_all (λ (n : ℕ). All (λ (s : DesignerTally). s.told ≤ n) ss) numbers last all.told;
+  within = front_all (λ (n : ℕ). n ≤ length now.edits) numbers last all.within;
+  viewers_are = let count = all.viewers_are in omega (arith, count, length-append numbers (last ∷ []));
+}

@@ -1,28 +1,39 @@
 -- What those who come to a seat claim in the story, and what all seats do.
-use Rattle.std.proofs.Common.{◌≡◌, ℕ, ◌+◌, ◌≤◌, Bool, true, List, [], ◌∷◌, ◌++◌, length, map, Option, sym, ap, subst, inl, inr, length-append, arith}
+use Rattle.std.proofs.Common.{◌≡◌, ℕ, ◌+◌, ◌-◌, ◌<◌, ◌≤◌, suc, Bool, true, List, [], ◌∷◌, ◌++◌, length, map, slice_index_or, All, Option, refl, sym, ap, subst, ◌∙◌, inl, inr, length-append, arith}
 use mathlib.Core.List.{IsPrefix}
 use Rattle.mp_version.specs.Stories.{Story}
 use Rattle.mp_desk.specs.Holders.{ExtendsEach, accepted_by, BeginWithEach, IsSigned}
 use Rattle.mp_desk.proofs.PrefixLemmas.{prefix_self, prefix_trans, extends_self, extends_length}
 use Rattle.mp_desk.specs.meeting.Sittings.{DesignerTally}
 use Rattle.mp_desk.specs.meeting.Seats.{working}
-use Rattle.mp_seats.specs.Marks.{Mark, AcceptedAt, AnsweredAt, Rise, accepted_of, places_of, AreSigned}
+use Rattle.mp_seats.specs.Marks.{Mark, AcceptedAt, RefusedAt, AnsweredAt, Rise, accepted_of, told_of, places_of, AreSigned}
 use Rattle.mp_seats.specs.Replies.{Writing}
 use Rattle.mp_seats.specs.Steps.{Seated}
 use Rattle.mp_seats.specs.hosting.Guests.{sitter, just_come}
-use Rattle.mp_seats.specs.hosting.Claims.{AreClaimed}
+use Rattle.mp_seats.specs.hosting.Claims.{times_claimed, AreClaimed}
 use Rattle.mp_seats.specs.hosting.Stays.{IsStay, AreStays, AreAttended, claims_of_stay, claims_of_stays, claims}
-use Rattle.mp_seats.proofs.lemmas.hosting.ClaimLemmas.{AreRising, rising_sooner, rising_later, rising_append, signed_append, AreClaims, count_claims, all_claimed}
+use Rattle.mp_seats.proofs.lemmas.hosting.ClaimLemmas.{AreRising, rising_sooner, rising_later, rising_append, signed_append, AreBelow, below_more, below_append, times_below, AreClaims, count_claims, all_claimed}
 
 marks_rise : (seen last : ℕ) (marks : List Mark) → Rise seen last marks → AreRising seen last (places_of marks)
 marks_rise seen last [] rise = rise
 marks_rise seen last (AcceptedAt k ∷ marks) rise = (rise.0, marks_rise (k + 1) last marks rise.1)
+marks_rise seen last (RefusedAt k ∷ marks) rise = rising_sooner seen k last (places_of marks) rise.0 (marks_rise k last marks rise.1)
 marks_rise seen last (AnsweredAt k ∷ marks) rise = rising_sooner seen k last (places_of marks) rise.0 (marks_rise k last marks rise.1)
 
 marks_counted : (marks : List Mark) → accepted_of marks ≡ length (places_of marks)
 marks_counted [] = omega arith
 marks_counted (AcceptedAt k ∷ marks) = let rest = marks_counted marks in omega (arith, rest)
+marks_counted (RefusedAt k ∷ marks) = marks_counted marks
 marks_counted (AnsweredAt k ∷ marks) = marks_counted marks
+
+-- the number that is told last is no less than the one that was told before, no more than there are edits, and above the place of each accepted edit
+marks_below : (told seen last : ℕ) (marks : List Mark) → told ≤ seen → Rise seen last marks → (told ≤ told_of told marks) × (told_of told marks ≤ last) × AreBelow (told_of told marks) (places_of marks)
+marks_below told seen last [] low rise = let up = rise in (omega arith, omega (arith, low, up), tt)
+marks_below told seen last (AcceptedAt k ∷ marks) low rise =
+    let rest = marks_below (k + 1) (k + 1) last marks (omega arith) rise.1 in let least = rest.0 in let here = rise.0 in
+    (omega (arith, least, here, low), rest.1, (omega (arith, least), rest.2))
+marks_below told seen last (RefusedAt k ∷ marks) low rise = let here = rise.0 in marks_below told k last marks (omega (arith, low, here)) rise.1
+marks_below told seen last (AnsweredAt k ∷ marks) low rise = let here = rise.0 in marks_below told k last marks (omega (arith, low, here)) rise.1
 
 module _ (T : Type 0) {D : Type 0} (Comes : D → D → Option (List ℕ) → Option (List ℕ) → Type 0) (Leaves : D → D → Option (List ℕ) → Type 0) (TurnsAway : D → D → Type 0) (w : Writing) (edits : Bool) where
   -- ---- somebody who came
@@ -51,6 +62,16 @@ module _ (T : Type 0) {D : Type 0} (Comes : D → D → Option (List ℕ) → Op
   stay_counts seat last before after (inl left) =
       let at = left.served.visit.seat in let accepted = at.accepted in let counted = marks_counted at.marks in omega (arith, accepted, counted)
   stay_counts seat last before after (inr turned) = let same = ap (λ (s : Seated). s.accepted) turned.same in omega (arith, same)
+
+  stay_below : (seat last : Seated) (before after : D) (stay : IsStay T Comes Leaves TurnsAway w edits seat last before after) → seat.told ≤ length seat.seen.edits
+      → (seat.told ≤ last.told) × (last.told ≤ length last.seen.edits) × AreBelow last.told (claims_of_stay T Comes Leaves TurnsAway w edits seat last before after stay)
+  stay_below seat last before after (inl left) low =
+      let at = left.served.visit.seat in
+      subst (λ (told : ℕ). (seat.told ≤ told) × (told ≤ length last.seen.edits) × AreBelow told (places_of at.marks)) (sym at.told)
+      (marks_below seat.told (length seat.seen.edits) (length last.seen.edits) at.marks low (at.rise last.seen (extends_self last.seen)))
+  stay_below seat last before after (inr turned) low =
+      let told = ap (λ (s : Seated). s.told) turned.same in let seen = ap (λ (s : Seated). length s.seen.edits) turned.same in
+      (omega (arith, told), omega (arith, told, seen, low), tt)
 
   -- ---- all who came
 
@@ -86,6 +107,19 @@ module _ (T : Type 0) {D : Type 0} (Comes : D → D → Option (List ℕ) → Op
       omega
       (arith, first, rest, length-append (claims_of_stay T Comes Leaves TurnsAway w edits seat next.0 door next.1 are.0) (claims_of_stays T Comes Leaves TurnsAway w edits next.0 next.1 others last end are.1))
 
+  stays_below : (seat : Seated) (door : D) (stays : List (Seated × D)) (last : Seated) (end : D) (are : AreStays T Comes Leaves TurnsAway w edits seat door stays last end)
+      → seat.told ≤ length seat.seen.edits → (seat.told ≤ last.told) × AreBelow last.told (claims_of_stays T Comes Leaves TurnsAway w edits seat door stays last end are)
+  stays_below seat door [] last end are low = let told = ap (λ (s : Seated). s.told) are.0 in (omega (arith, told), tt)
+  stays_below seat door (next ∷ others) last end are low =
+      let first = stay_below seat next.0 door next.1 are.0 low in
+      let rest = stays_below next.0 next.1 others last end are.1 first.1 in
+      let here = first.0 in let up = rest.0 in (
+        omega (arith, here, up),
+        below_append last.told (claims_of_stay T Comes Leaves TurnsAway w edits seat next.0 door next.1 are.0)
+            (claims_of_stays T Comes Leaves TurnsAway w edits next.0 next.1 others last end are.1)
+            (below_more next.0.told last.told (claims_of_stay T Comes Leaves TurnsAway w edits seat next.0 door next.1 are.0) rest.0 first.2) rest.1,
+      )
+
 -- ---- all seats of designers
 
 module _ (T : Type 0) {D : Type 0} (Comes : D → D → Option (List ℕ) → Option (List ℕ) → Type 0) (Leaves : D → D → Option (List ℕ) → Type 0) (TurnsAway : D → D → Type 0) (w : Writing) (first now : Story) where
@@ -119,3 +153,32 @@ module _ (T : Type 0) {D : Type 0} (Comes : D → D → Option (List ℕ) → Op
   claimed_once doors ss are extends signed counted =
       all_claimed signed.0 (length first.edits) (length now.edits) (claims T Comes Leaves TurnsAway w true (λ n. just_come n first) 1 doors (map sitter ss) are)
       (seats_claim signed.0 1 doors ss are extends signed.2) (let all = seats_count 1 doors ss are in omega (arith, counted, all))
+
+  -- no place is claimed from a number on that is no less than what each seat was told
+  none_claimed : (place n : ℕ) → n ≤ place → (number : ℕ) (doors : List D) (ss : List DesignerTally) (are : AreAttended T Comes Leaves TurnsAway w true (λ n. just_come n first) number doors (map sitter ss))
+      → All (λ (s : DesignerTally). s.told ≤ n) ss → times_claimed place (claims T Comes Leaves TurnsAway w true (λ n. just_come n first) number doors (map sitter ss) are) ≡ 0
+  none_claimed place n up number [] [] are told = refl
+  none_claimed place n up number [] (s ∷ ss) are told = absurd are
+  none_claimed place n up number (door ∷ doors) [] are told = absurd are
+  none_claimed place n up number (door ∷ doors) (s ∷ ss) are told =
+      let mine = claims_of_stays T Comes Leaves TurnsAway w true (just_come number first) door are.0.1.stays (sitter s) are.0.0 are.0.1.are in
+      let below = stays_below T Comes Leaves TurnsAway w true (just_come number first) door are.0.1.stays (sitter s) are.0.0 are.0.1.are (omega arith) in
+      let low : s.told ≤ n = told 0 s (omega arith) in
+      let here = times_below place s.told mine below.1 (omega (arith, low, up)) in
+      let rest = none_claimed place n up (number + 1) doors ss are.1 (λ k d within. told (suc k) d (omega (arith, within))) in
+      omega (arith, here, rest)
+
+  -- where edits came, each viewer whose number is no less than what the designers were told has seen them all
+  pub all_seen : (doors : List D) (ss : List DesignerTally) (are : AreAttended T Comes Leaves TurnsAway w true (λ n. just_come n first) 1 doors (map sitter ss))
+      → AreClaimed (length first.edits) (length now.edits) (claims T Comes Leaves TurnsAway w true (λ n. just_come n first) 1 doors (map sitter ss) are) → (numbers : List ℕ)
+      → All (λ (n : ℕ). All (λ (s : DesignerTally). s.told ≤ n) ss) numbers → All (λ (n : ℕ). n ≤ length now.edits) numbers
+      → length first.edits < length now.edits → All (λ (n : ℕ). n ≡ length now.edits) numbers
+  all_seen doors ss are claimed numbers told within some k d low =
+      let n = slice_index_or numbers k d in
+      let most : n ≤ length now.edits = within k d low in
+      let unseen : n < length now.edits → ◌≡◌ {A = ℕ} 0 1 =
+      λ less.
+      let once = claimed.once (length now.edits - 1) (omega (arith, some)) (omega (arith, some)) in
+      let none = none_claimed (length now.edits - 1) n (omega (arith, less)) 1 doors ss are (told k d low) in
+      omega (arith, once, none) in
+      grind (arith, most, unseen)

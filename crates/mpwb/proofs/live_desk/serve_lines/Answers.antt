@@ -8,7 +8,7 @@ use Rattle.mp_session.proofs.session.Session.TheSendSync as session
 use Rattle.mpwb.proofs.live_desk.serve_lines.Goals as goal
 
 -- a search that goes down through the session and the journal runs out of steps, so the session's part is given
-pub host-requires-send-S : goal.host-requires-send-S
-host-requires-send-S g c κs =
+pub serve_live-requires-send-S : goal.serve_live-requires-send-S
+serve_live-requires-send-S g c κs =
     let netlist : IsSend (Session.the_row OpenGate.the_row ghosts) = session.the_send OpenGate.the_row ghosts gate.the_send in
     search (crosses, sendable) depth 60 fits 20000

@@ -1,4 +1,5 @@
-use Rattle.std.proofs.Common.{◌≡◌, true, false, Ok, length, sym, subst, arith, rules}
+use Rattle.std.proofs.Common.{◌≡◌, true, false, length, sym, ap, subst, ◌∙◌, arith}
+use Rattle.mp_seats.specs.Steps.{Seated}
 use Rattle.mp_seats.specs.hosting.Guests.{sitter, looker, just_come, just_looking}
 use Rattle.mp_seats.specs.hosting.Stays.{AreAttended}
 use Rattle.mp_seats.proofs.lemmas.hosting.PeopleLemmas.{as_many}
@@ -8,46 +9,47 @@ use Rattle.mp_seats.proofs.hosting.service.serve.Goals as goal
 pub returns-clause-counts : goal.returns-clause-counts
 returns-clause-counts g c =
     let people = c.args.people in
-    let both = c.in_ok-people_of.field-0 in
+    let sittings = c.in_ok-sittings.sittings in
+    let viewers = c.in_ok-sittings.viewers in
     let old = c.in_ok-staff.staff in
-    let new = c.serve_all-ended.new.staff in
-    let d1 = as_many sitter (λ p. p.seat) both.0.items new.designers.items c.in_ok-people_of.ensures.designers in
-    let d2 = c.serve_all-ended.ensures.designers.0 in
+    let new = c.serve_all-talked.new.staff in
+    let d1 = as_many sitter (λ p. p.seat) sittings.items new.designers.items c.in_ok-sittings.ensures.designers in
+    let d2 = c.serve_all-talked.ensures.designers.0 in
     let d3 = as_many (λ p. p.seat) sitter old.designers.items people.sittings.items c.in_ok-staff.ensures.designers in
-    let v1 = as_many looker (λ p. p.seat) both.1.items new.viewers.items c.in_ok-people_of.ensures.viewers in
-    let v2 = c.serve_all-ended.ensures.viewers.0 in
+    let v1 = as_many looker (λ p. p.seat) viewers.items new.viewers.items c.in_ok-sittings.ensures.viewers in
+    let v2 = c.serve_all-talked.ensures.viewers.0 in
     let v3 = as_many (λ p. p.seat) looker old.viewers.items people.viewers.items c.in_ok-staff.ensures.viewers in (
-      omega (arith, d1, d2, d3, both.0.ok.0, new.designers.ok.0, old.designers.ok.0, people.sittings.ok.0),
-      omega (arith, v1, v2, v3, both.1.ok.0, new.viewers.ok.0, old.viewers.ok.0, people.viewers.ok.0),
+      omega (arith, d1, d2, d3, sittings.ok.0, new.designers.ok.0, old.designers.ok.0, people.sittings.ok.0),
+      omega (arith, v1, v2, v3, viewers.ok.0, new.viewers.ok.0, old.viewers.ok.0, people.viewers.ok.0),
     )
 
 pub returns-clause-designers : goal.returns-clause-designers
 returns-clause-designers g c = λ start came.
-    let new = c.serve_all-ended.new.staff.designers in
+    let new = c.serve_all-talked.new.staff.designers in
     let old = c.in_ok-staff.staff.designers in
-    let same : length new.items ≡ length old.items = omega (arith, c.serve_all-ended.ensures.designers.0, new.ok.0, old.ok.0) in
+    let same : length new.items ≡ length old.items = omega (arith, c.serve_all-talked.ensures.designers.0, new.ok.0, old.ok.0) in
     subst
     (λ lasts. AreAttended g.row.D-Output.Denot g.D.Door.Comes g.D.Door.Leaves g.D.Door.TurnsAway (record { answer = g.B.ReplyWriter.answer_text; reply = g.B.ReplyWriter.reply_text }) true
     (λ number. just_come number start) 1 c.args.hall.designers.items lasts)
-    (sym c.in_ok-people_of.ensures.designers)
+    (sym c.in_ok-sittings.ensures.designers)
     (all_attended g.row.D-Output.Denot g.D.Door.Comes g.D.Door.Leaves g.D.Door.TurnsAway (record { answer = g.B.ReplyWriter.answer_text; reply = g.B.ReplyWriter.reply_text }) true (λ p. p.seat) (λ p. p.door)
     (λ number. just_come number start) sitter c.args.people.sittings.items c.args.hall.designers.items old.items new.items c.in_ok-staff.ensures.designers came c.in_ok-staff.ensures.designer_doors same
-    c.serve_all-ended.ensures.designers.1)
+    c.serve_all-talked.ensures.designers.1)
 
 pub returns-clause-viewers : goal.returns-clause-viewers
 returns-clause-viewers g c = λ start came.
-    let new = c.serve_all-ended.new.staff.viewers in
+    let new = c.serve_all-talked.new.staff.viewers in
     let old = c.in_ok-staff.staff.viewers in
-    let same : length new.items ≡ length old.items = omega (arith, c.serve_all-ended.ensures.viewers.0, new.ok.0, old.ok.0) in
+    let same : length new.items ≡ length old.items = omega (arith, c.serve_all-talked.ensures.viewers.0, new.ok.0, old.ok.0) in
     subst
     (λ lasts. AreAttended g.row.D-Output.Denot g.D.Door.Comes g.D.Door.Leaves g.D.Door.TurnsAway (record { answer = g.B.ReplyWriter.answer_text; reply = g.B.ReplyWriter.reply_text }) false
     (λ number. just_looking start) 1 c.args.hall.viewers.items lasts)
-    (sym c.in_ok-people_of.ensures.viewers)
+    (sym c.in_ok-sittings.ensures.viewers)
     (all_attended g.row.D-Output.Denot g.D.Door.Comes g.D.Door.Leaves g.D.Door.TurnsAway (record { answer = g.B.ReplyWriter.answer_text; reply = g.B.ReplyWriter.reply_text }) false (λ p. p.seat) (λ p. p.door)
     (λ number. just_looking start) looker c.args.people.viewers.items c.args.hall.viewers.items old.items new.items c.in_ok-staff.ensures.viewers came c.in_ok-staff.ensures.viewer_doors same
-    c.serve_all-ended.ensures.viewers.1)
+    c.serve_all-talked.ensures.viewers.1)
 
 pub returns-clause-talked : goal.returns-clause-talked
 returns-clause-talked g c =
-    let ended : c.serve_all-ended.result.0 ≡ Ok tt = search rules in
-    (c.serve_all-ended.new.own, rw (ended, c.in_ok-staff.ensures.own) at c.serve_all-ended.ensures.talked)
+    let seen : c.serve_all-talked.new.own.seated.seen ≡ c.rise-own.result.last = ap (λ (s : Seated). s.seen) (sym (c.rise-own.ensures ∙ c.into_guest.ensures)) in
+    (c.serve_all-talked.new.own, seen, rw c.in_ok-staff.ensures.own at c.serve_all-talked.ensures.talked)
