@@ -4,3 +4,4 @@ pub mod AskedWires
 pub mod Pictures
 pub mod Chains
 pub mod CausePictures
+pub mod Views

@@ -13,4 +13,4 @@ pub use command::{InputCommand, run_command};
 pub use opening::{opened, read_opening};
 pub use options::Options;
 pub use run_fault::{RunFault, exit_status, fault_line};
-pub use viewed::Viewed;
+pub use viewed::{Viewed, run_view};

@@ -1,6 +1,6 @@
 //! The commands and the questions, which share their texts.
 //!
-//! `views` has the texts over a netlist and its waves, each a `View`. `answers` answers the questions of scripts and seats. `command_runs` runs a command
+//! `views` has the texts over a netlist and its waves: a `View` is one of them. `answers` answers the questions of scripts and seats. `command_runs` runs a command
 //! that writes a view. The files at the top play scripts and hold meetings, and `live` has what lines need that are answered as they come. Begin
 //! with `views/view.rt` and `player.rt`.
 #![tactic(auto)]
@@ -25,7 +25,7 @@ pub use answers::{
 };
 pub use command_runs::{
     InputCommand, Options, RunFault, Viewed, exit_status, fault_line, opened, read_opening,
-    run_check, run_command,
+    run_check, run_command, run_view,
 };
 pub use desk::DeskCommand;
 pub use live::{LiveOutcome, Prompted, SeatScribe, fault_of_talk, serve_live};
@@ -38,7 +38,6 @@ pub use script_opening::open_keeper;
 pub use script_session::ScriptSession;
 pub use sessions::Sessions;
 pub use views::{
-    AskedPicture, CausePicture, Charset, Drawing, DumpText, Evaluated, GraphText, MAX_COLUMNS,
-    MeasureLines, Numerals, PathLines, PictureText, ReportLines, TimeRange, USUAL_COLUMNS,
-    VerilogText, View, WaitLines, WaveLines, WhyLines, put_wave_line, put_wave_lines,
+    AskedPicture, CausePicture, Charset, Drawing, Evaluated, MAX_COLUMNS, Numerals, PathLines,
+    PictureText, TimeRange, USUAL_COLUMNS, View, WhyLines, put_wave_line, put_wave_lines,
 };

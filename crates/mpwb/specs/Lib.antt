@@ -1,1 +1,2 @@
+pub mod CommandTexts
 pub mod InputFiles

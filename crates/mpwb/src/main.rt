@@ -1,6 +1,7 @@
 //! The workbench for micropipelines.
 #![tactic(auto)]
 
+mod asked_view;
 mod desk_files;
 mod explained;
 mod input_file;

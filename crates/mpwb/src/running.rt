@@ -1,14 +1,13 @@
 //! How each command is run.
-ghost use Rattle.std.specs.Prelude.{◌≡◌, []};
+ghost use Rattle.std.specs.Prelude.{◌≡◌, [], IfOk, IfSome, OnOk, map};
+ghost use Rattle.mp_commands.specs.command_runs.Runs.{WritesText};
+ghost use Rattle.mpwb.specs.CommandTexts.{names_in, text_of};
 
+use crate::asked_view::view_of;
 use crate::open_sessions::OpenSessions;
-use mp_commands::{
-    AskedPicture, CausePicture, Charset, DeskCommand, Drawing, DumpText, GraphText, MeasureLines,
-    Numerals, Options, PathLines, PictureText, Play, ReportLines, RunFault, TimeRange, VerilogText,
-    View, Viewed, WaitLines, WaveLines, WhyLines, run_check, run_command,
-};
+use mp_commands::{DeskCommand, Options, Play, RunFault, run_check, run_command, run_view};
 use mp_netlist::Name;
-use mp_request::{Command, PictureWords, Request};
+use mp_request::{Command, Request};
 use mp_streams::{Out, Sink, Source, WriteSink};
 use std::alloc::{AllocError, Global};
 use std::io;
@@ -36,7 +35,7 @@ pub(crate) fn run_on<R: Print + Threads + Wait + Sync + AllocGlobal, S: Source>(
     Ok(0)
 }
 
-/// Runs the command on the source, where the wires of which the command speaks have these names.
+/// Runs the command on the source, if the wires of which the command speaks have these names. A command that writes a view writes the text of that view.
 fn run_named<R: Threads + Wait + Sync + AllocGlobal, S: Source, T: Sink>(
     rt: &R,
     source: &mut S,
@@ -45,38 +44,14 @@ fn run_named<R: Threads + Wait + Sync + AllocGlobal, S: Source, T: Sink>(
     names: &[Name],
     options: &Options,
 ) -> Result<(), RunFault>
-    requires { out.old.held ≡ [] }
+    requires empty { out.old.held ≡ [] }
+    requires names { names.now ≡ names_in command.now }
+    ensures { OnOk result (IfSome (text_of command.now) (λ text. WritesText (S.left source.old) text out.old out.new)) }
 {
+    let sessions = OpenSessions;
     match command {
-        Command::Waves => run_view(rt, source, out, options, Some(WaveLines)),
-        Command::Report => run_view(rt, source, out, options, Some(ReportLines)),
-        Command::Dump => run_view(rt, source, out, options, Some(DumpText)),
-        Command::Graph => run_view(rt, source, out, options, Some(GraphText)),
-        Command::Verilog => run_view(rt, source, out, options, Some(VerilogText)),
-        Command::Show(words) => match words.causes {
-            None => run_view(rt, source, out, options, picture(names, words)),
-            Some(time) => run_view(rt, source, out, options, cause_picture(names, words, time)),
-        },
-        Command::Waits { time } => {
-            run_view(rt, source, out, options, Some(WaitLines { time: *time }))
-        }
-        Command::Measure { from, to } => {
-            let range = TimeRange {
-                from: *from,
-                to: *to,
-            };
-            run_view(rt, source, out, options, Some(MeasureLines { range }))
-        }
-        Command::Why { time, steps, .. } => {
-            run_view(rt, source, out, options, chain(names, *time, *steps))
-        }
-        Command::Path { time, .. } => run_view(rt, source, out, options, path(names, *time)),
-        Command::Play => {
-            let sessions = OpenSessions;
-            run_command(rt, rt.alloc(), source, out, options, &Play { sessions })
-        }
+        Command::Play => run_command(rt, rt.alloc(), source, out, options, &Play { sessions }),
         Command::Desk => {
-            let sessions = OpenSessions;
             run_command(
                 rt,
                 rt.alloc(),
@@ -88,79 +63,24 @@ fn run_named<R: Threads + Wait + Sync + AllocGlobal, S: Source, T: Sink>(
         }
         // its netlist is in a file, since its standard input has lines; and a check has a status of its own
         Command::LiveDesk { .. } | Command::Check => Err(RunFault::ReadFailed),
+        _ => run_view(
+            rt,
+            rt.alloc(),
+            source,
+            out,
+            options,
+            view_of(command, names),
+        ),
     }
 }
 
-/// Runs the command that writes this view.
-fn run_view<R: Threads + Wait + Sync + AllocGlobal, S: Source, T: Sink, V: View + Drop>(
-    rt: &R,
-    source: &mut S,
-    out: &mut Out<T>,
-    options: &Options,
-    view: Option<V>,
-) -> Result<(), RunFault>
-    requires { out.old.held ≡ [] }
-{
-    run_command(rt, rt.alloc(), source, out, options, &Viewed { view })
-}
-
-/// The chain of causes of the level that the first of these wires has at a time, where there may be so many steps.
-fn chain<'a>(names: &'a [Name], time: u64, steps: u32) -> Option<WhyLines<'a>> {
-    WhyLines::new(names.first()?, time, steps)
-}
-
-/// Where the time went of the chain of causes of the level that the first of these wires has at a time.
-fn path<'a>(names: &'a [Name], time: u64) -> Option<PathLines<'a>> {
-    Some(PathLines {
-        wire: names.first()?,
-        time,
-    })
-}
-
 /// The words as names.
-fn names_of(alloc: Global, words: &[&str]) -> Result<Vec<Name>, AllocError> {
+fn names_of(alloc: Global, words: &[&str]) -> Result<Vec<Name>, AllocError>
+    ensures { IfOk result (λ names. names.items ≡ map (λ word. word.now) words.now) }
+{
     let mut names = Vec::with_capacity(alloc, words.len())?;
     for word in words {
         names.push(Name::new(alloc, word)?)?;
     }
     Ok(names)
-}
-
-/// The picture of the wires of these names that the words ask for, where its number of columns is one.
-fn picture<'a>(names: &'a [Name], words: &PictureWords<'a>) -> Option<PictureText<'a>> {
-    let asked = AskedPicture::new(names, words.from, words.to, words.columns)?;
-    let drawing = match (words.svg, words.ascii) {
-        (true, _) => Drawing::Svg(words.unit),
-        (false, true) => Drawing::Text(Charset::Ascii),
-        (false, false) => Drawing::Text(Charset::Unicode),
-    };
-    Some(PictureText {
-        asked,
-        drawing,
-        numerals: numerals_of(words),
-    })
-}
-
-/// The picture that the words ask for with the causes of the level that the first of these wires has at a time, where its number of columns is
-/// one. The other wires are shown.
-fn cause_picture<'a>(
-    names: &'a [Name],
-    words: &PictureWords<'a>,
-    time: u64,
-) -> Option<CausePicture<'a>> {
-    let asked = AskedPicture::new(names, words.from, words.to, words.columns)?;
-    Some(CausePicture {
-        asked,
-        time,
-        title: words.unit,
-        numerals: numerals_of(words),
-    })
-}
-
-fn numerals_of(words: &PictureWords<'_>) -> Numerals {
-    if words.hex {
-        Numerals::Hex
-    } else {
-        Numerals::Decimal
-    }
 }

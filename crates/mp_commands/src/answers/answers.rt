@@ -1,9 +1,9 @@
 //! The answers to questions.
 ghost use Rattle.std.specs.Prelude.{◌≡◌};
-ghost use Rattle.std.specs.Thread.{IsSync};
 ghost use Rattle.mp_commands.specs.answers.Names.{wire_named, Writes, Unicode, Decimal, missing_at, usual_columns};
 ghost use Rattle.mp_streams.specs.WriteErrors.{Writes as WritesAll};
 ghost use Rattle.mp_commands.specs.declared.views.drawing.Drawing.TheVariants.{Text};
+ghost use Rattle.mp_commands.specs.views.Views.{view_text, view_wires};
 ghost use Rattle.mp_commands.specs.answers.Answers.{asked_text, wire_text, version_text, edits_text, answer_text};
 
 use crate::answers::edit_answers::put_edits;
@@ -11,8 +11,7 @@ use crate::answers::short_replies::{put_refused, put_unread};
 use crate::answers::snapshot::Snapshot;
 use crate::answers::work_lines::put_work_lines;
 use crate::views::{
-    AskedPicture, CheckLines, Drawing, DumpText, GraphText, MeasureLines, PathLines, PictureText,
-    ReportLines, USUAL_COLUMNS, VerilogText, View, WaitLines, WaveLines, WhyLines, put_wave_line,
+    AskedPicture, Drawing, PathLines, PictureText, USUAL_COLUMNS, View, WhyLines, put_wave_line,
 };
 use mp_netlist::{EditError, Name};
 use mp_picture::{Charset, Numerals};
@@ -35,32 +34,38 @@ pub fn put_answer<R: Threads + Sync, T: Sink>(
 {
     match question {
         Question::Wave(name) => Ok(put_wire(out, of, name)?),
-        Question::Waves => put_view(rt, alloc, out, of, &WaveLines),
+        Question::Waves => put_view(rt, alloc, out, of, &View::Waves),
         Question::Text => Ok(put_netlist(out, of.netlist())?),
-        Question::Report => put_view(rt, alloc, out, of, &ReportLines),
-        Question::Check => put_view(rt, alloc, out, of, &CheckLines),
-        Question::Dump => put_view(rt, alloc, out, of, &DumpText),
+        Question::Report => put_view(rt, alloc, out, of, &View::Report),
+        Question::Check => put_view(rt, alloc, out, of, &View::Check),
+        Question::Dump => put_view(rt, alloc, out, of, &View::Dump),
         Question::Work => put_work_lines(out, of.netlist(), of.work),
-        Question::Graph => put_view(rt, alloc, out, of, &GraphText),
-        Question::Verilog => put_view(rt, alloc, out, of, &VerilogText),
+        Question::Graph => put_view(rt, alloc, out, of, &View::Graph),
+        Question::Verilog => put_view(rt, alloc, out, of, &View::Verilog),
         Question::Version => Ok(("version ", of.version.number(), "\n").put_to(out)?),
         Question::Edits { from } => Ok(put_edits_from(out, of.version, *from)?),
         Question::Show { from, to, wires } => {
-            put_view(rt, alloc, out, of, &shown(*from, *to, wires))
+            put_view(rt, alloc, out, of, &View::Picture(shown(*from, *to, wires)))
         }
-        Question::Waits { time } => put_view(rt, alloc, out, of, &WaitLines { time: *time }),
+        Question::Waits { time } => put_view(rt, alloc, out, of, &View::Waits { time: *time }),
         Question::Measure { from, to } => {
             let range = TimeRange {
                 from: *from,
                 to: *to,
             };
-            put_view(rt, alloc, out, of, &MeasureLines { range })
+            put_view(rt, alloc, out, of, &View::Measure(range))
         }
         Question::Why { wire, time, steps } => {
-            put_view(rt, alloc, out, of, &why(wire, *time, *steps))
+            put_view(rt, alloc, out, of, &View::Why(why(wire, *time, *steps)))
         }
         Question::Path { wire, time } => {
-            put_view(rt, alloc, out, of, &PathLines { wire, time: *time })
+            put_view(
+                rt,
+                alloc,
+                out,
+                of,
+                &View::Path(PathLines { wire, time: *time }),
+            )
         }
     }
 }
@@ -92,15 +97,14 @@ fn why(wire: &Name, time: u64, steps: u32) -> WhyLines<'_>
 }
 
 /// Writes a view, or that a wire of it doesn't stand.
-fn put_view<R: Threads + Sync, T: Sink, V: View>(
+fn put_view<R: Threads + Sync, T: Sink>(
     rt: &R,
     alloc: Global,
     out: &mut Out<T>,
     of: &Snapshot<'_>,
-    view: &V,
+    view: &View<'_>,
 ) -> Result<(), WriteError>
-    requires shared { IsSync R.row }
-    ensures { WritesAll result out.old out.new (asked_text (missing_at of.now.netlist (V.wires view.now)) (V.text view.now of.now.netlist)) }
+    ensures { WritesAll result out.old out.new (asked_text (missing_at of.now.netlist (view_wires view.now)) (view_text view.now of.now.netlist)) }
 {
     match view.missing(of.netlist()) {
         None => view.put(rt, alloc, out, &of.evaluated()),

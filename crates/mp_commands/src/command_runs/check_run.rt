@@ -1,6 +1,6 @@
 //! The command that tells whether a netlist works.
 ghost use Rattle.std.specs.Prelude.{◌≡◌};
-ghost use Rattle.mp_commands.specs.command_runs.Clauses.{[], IfErr, IfOk, IsSync, TakesInput, counted_reads, has_valid_crew};
+ghost use Rattle.mp_commands.specs.command_runs.Clauses.{[], IfErr, IfOk, TakesInput, counted_reads, has_valid_crew};
 ghost use Rattle.mp_commands.specs.command_runs.CheckRuns.{ChecksInput, ChecksNetlist, StopsInput, StopsNetlist};
 
 use crate::command_runs::opening::read_opening;

@@ -1,8 +1,9 @@
 //! The command that writes a view.
 ghost use Rattle.std.specs.Prelude.{◌≡◌, ◌&&◌};
-ghost use Rattle.mp_commands.specs.command_runs.Clauses.{false, is_some, Some, Ok, IfSome, IsSomeAnd, IsSync, Ran, lines_of, has_valid_crew, opening_of, viewed_opening, with_wires};
+ghost use Rattle.mp_commands.specs.views.Views.{view_text, view_wires};
+ghost use Rattle.mp_commands.specs.command_runs.Clauses.{[], OnOk, WritesText, false, is_some, Some, Ok, IfSome, IsSomeAnd, Ran, lines_of, has_valid_crew, opening_of, viewed_opening, with_wires};
 
-use crate::command_runs::command::InputCommand;
+use crate::command_runs::command::{InputCommand, run_command};
 use crate::command_runs::opening::opened_input;
 use crate::command_runs::options::Options;
 use crate::command_runs::run_fault::RunFault;
@@ -10,7 +11,7 @@ use crate::views::{Evaluated, View};
 use mp_engine::find_waves;
 use mp_netlist::Netlist;
 use mp_phase::Crew;
-use mp_streams::{Out, Sink};
+use mp_streams::{Out, Sink, Source};
 use std::alloc::{AllocError, Global};
 use std::mem::forget;
 use std::sync::Wait;
@@ -20,13 +21,13 @@ use std::thread::Threads;
 /// range: then `BadCount` comes, after the faults of the text. A wire of the view that doesn't stand comes last, as `NoSuchWire` with its
 /// place among the wires of the view; then nothing is written.
 #[derive(Drop)]
-pub struct Viewed<V> {
-    pub view: Option<V>,
+pub struct Viewed<'a> {
+    pub view: Option<View<'a>>,
 }
 
-impl<V: View> Viewed<V> {
+impl<'a> Viewed<'a> {
     /// The view with the crew of the options, where there are both.
-    fn crewed(&self, options: &Options) -> Option<(&V, Crew)>
+    fn crewed(&self, options: &Options) -> Option<(&View<'a>, Crew)>
         ensures both { is_some result ≡ (has_valid_crew options.now && is_some self.now.view) }
         ensures view { IfSome result (λ both. self.now.view ≡ Some both.0.now) }
     {
@@ -37,10 +38,10 @@ impl<V: View> Viewed<V> {
     }
 }
 
-impl<V: View> InputCommand for Viewed<V> {
-    ghost opening = { λ command input options. viewed_opening V.wires command.view (opening_of (lines_of input) (has_valid_crew options && is_some command.view)) };
+impl<'a> InputCommand for Viewed<'a> {
+    ghost opening = { λ command input options. viewed_opening view_wires command.view (opening_of (lines_of input) (has_valid_crew options && is_some command.view)) };
 
-    ghost IsText = { λ command _ _ n text. IsSomeAnd command.view (λ view. text ≡ V.text view n) };
+    ghost IsText = { λ command _ _ n text. IsSomeAnd command.view (λ view. text ≡ view_text view n) };
 
     ghost seats = { false };
 
@@ -64,17 +65,34 @@ impl<V: View> InputCommand for Viewed<V> {
     }
 }
 
+/// Reads the text of a netlist, all of it first, and writes a view of it, which is flushed. There is no view if a number that it was given is out of its
+/// range.
+///
+/// The errors are those of `run_command` with this view.
+pub fn run_view<R: Threads + Wait + Sync, S: Source, T: Sink>(
+    rt: &R,
+    alloc: Global,
+    source: &mut S,
+    out: &mut Out<T>,
+    options: &Options,
+    view: Option<View<'_>>,
+) -> Result<(), RunFault>
+    requires { out.old.held ≡ [] }
+    ensures { OnOk result (IsSomeAnd view.entry (λ v. WritesText (S.left source.old) (view_text v) out.old out.new)) }
+{
+    run_command(rt, alloc, source, out, options, &Viewed { view })
+}
+
 /// Writes a view of a netlist.
-fn answer_of<V: View, R: Threads + Wait + Sync, T: Sink>(
+fn answer_of<R: Threads + Wait + Sync, T: Sink>(
     rt: &R,
     alloc: Global,
     out: &mut Out<T>,
     netlist: &Netlist,
-    view: &V,
+    view: &View<'_>,
     crew: Crew,
 ) -> Result<(), RunFault>
-    requires { IsSync R.row }
-    ensures { Ran false result (with_wires (V.wires view.now) (Ok netlist.now)) (λ n text. text ≡ V.text view.now n) out.old out.new }
+    ensures { Ran false result (with_wires (view_wires view.now) (Ok netlist.now)) (λ n text. text ≡ view_text view.now n) out.old out.new }
 {
     if let Some(place) = view.missing(netlist) {
         return Err(RunFault::NoSuchWire(place));

@@ -4,12 +4,11 @@ ghost use Rattle.mp_netlist.specs.Circuit.{wire_named};
 ghost use Rattle.mp_commands.specs.views.CausePictures.{point_of, arrow_of, wire_arrows, arrows_of, cause_picture};
 
 use crate::views::asked_picture::AskedPicture;
-use crate::views::asked_wires::{missing_at, wires_of};
+use crate::views::asked_wires::wires_of;
 use crate::views::drawing::Drawing;
 use crate::views::evaluated::Evaluated;
 use crate::views::picture_text::columns_of;
-use crate::views::view::View;
-use mp_netlist::{Name, Netlist};
+use mp_netlist::Name;
 use mp_picture::{Arrow, Numerals, Picture, WirePoint, put_svg};
 use mp_questions::{CauseLink, Moment, WireChange, links};
 use mp_report::report;
@@ -28,22 +27,19 @@ pub struct CausePicture<'a> {
     pub numerals: Numerals,
 }
 
-impl<'a> View for CausePicture<'a> {
-    ghost text = { λ view n. cause_picture n view.asked.wires.now view.time view.asked.from view.asked.to view.asked.columns view.title.now view.numerals };
+impl<'a> CausePicture<'a> {
+    ghost use Rattle.mp_streams.specs.WriteErrors.{Writes};
 
-    ghost wires = { λ view. view.asked.wires.now };
-
-    fn missing(&self, netlist: &Netlist) -> Option<usize> {
-        missing_at(netlist, self.asked.wires)
-    }
-
-    fn put<R: Threads + Sync, T: Sink>(
+    /// Writes its text.
+    pub(crate) fn put<R: Threads + Sync, T: Sink>(
         &self,
         rt: &R,
         alloc: Global,
         out: &mut Out<T>,
         of: &Evaluated<'_>,
-    ) -> Result<(), WriteError> {
+    ) -> Result<(), WriteError>
+        ensures { Writes result out.old out.new (cause_picture of.now.netlist.now self.now.asked.wires.now self.now.time self.now.asked.from self.now.asked.to self.now.asked.columns self.now.title.now self.now.numerals) }
+    {
         let findings = report(rt, alloc, of.netlist, of.waves, of.threads())?;
         let wires = wires_of(alloc, of.netlist, shown(self.asked.wires))?;
         let arrows = arrows_of(alloc, of, self.asked.wires, self.time)?;

@@ -1,15 +1,11 @@
 //! Where the time of a chain of causes went.
-ghost use Rattle.std.specs.Prelude.{[], ◌∷◌};
 ghost use Rattle.mp_commands.specs.views.Chains.{path_of};
 
-use crate::views::asked_wires::missing_wire;
 use crate::views::evaluated::Evaluated;
-use crate::views::view::View;
-use mp_netlist::{Name, Netlist};
+use mp_netlist::Name;
 use mp_questions::{Moment, put_path};
 use mp_streams::{Out, Sink, WriteError};
 use std::alloc::Global;
-use std::thread::Threads;
 
 /// Where the time went of the chain of causes of the level that the wire of this name has at a time, in units from 0. It may be at or above the
 /// horizon.
@@ -19,22 +15,18 @@ pub struct PathLines<'a> {
     pub time: u64,
 }
 
-impl<'a> View for PathLines<'a> {
-    ghost text = { λ view n. path_of n view.wire.now view.time };
+impl<'a> PathLines<'a> {
+    ghost use Rattle.mp_streams.specs.WriteErrors.{Writes};
 
-    ghost wires = { λ view. view.wire.now ∷ [] };
-
-    fn missing(&self, netlist: &Netlist) -> Option<usize> {
-        missing_wire(netlist, self.wire)
-    }
-
-    fn put<R: Threads + Sync, T: Sink>(
+    /// Writes its text; nothing if the wire doesn't exist.
+    pub(crate) fn put<T: Sink>(
         &self,
-        _rt: &R,
         alloc: Global,
         out: &mut Out<T>,
         of: &Evaluated<'_>,
-    ) -> Result<(), WriteError> {
+    ) -> Result<(), WriteError>
+        ensures { Writes result out.old out.new (path_of of.now.netlist.now self.now.wire.now self.now.time) }
+    {
         let Some(wire) = of.netlist.wire_named(self.wire.as_str()) else {
             return Ok(());
         };

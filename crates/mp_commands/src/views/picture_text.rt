@@ -4,10 +4,9 @@ ghost use Rattle.mp_picture.specs.ColumnRanges.{columns_in};
 ghost use Rattle.mp_commands.specs.views.Pictures.{columns_drawn, picture_text};
 
 use crate::views::asked_picture::AskedPicture;
-use crate::views::asked_wires::{missing_at, wires_of};
+use crate::views::asked_wires::wires_of;
 use crate::views::drawing::Drawing;
 use crate::views::evaluated::Evaluated;
-use crate::views::view::View;
 use mp_netlist::Netlist;
 use mp_picture::{Columns, Numerals, Picture, put_diagram, put_svg};
 use mp_report::report;
@@ -23,22 +22,19 @@ pub struct PictureText<'a> {
     pub numerals: Numerals,
 }
 
-impl<'a> View for PictureText<'a> {
-    ghost text = { λ view n. picture_text n view.asked.wires.now view.asked.from view.asked.to view.asked.columns view.drawing view.numerals };
+impl<'a> PictureText<'a> {
+    ghost use Rattle.mp_streams.specs.WriteErrors.{Writes};
 
-    ghost wires = { λ view. view.asked.wires.now };
-
-    fn missing(&self, netlist: &Netlist) -> Option<usize> {
-        missing_at(netlist, self.asked.wires)
-    }
-
-    fn put<R: Threads + Sync, T: Sink>(
+    /// Writes its text.
+    pub(crate) fn put<R: Threads + Sync, T: Sink>(
         &self,
         rt: &R,
         alloc: Global,
         out: &mut Out<T>,
         of: &Evaluated<'_>,
-    ) -> Result<(), WriteError> {
+    ) -> Result<(), WriteError>
+        ensures { Writes result out.old out.new (picture_text of.now.netlist.now self.now.asked.wires.now self.now.asked.from self.now.asked.to self.now.asked.columns self.now.drawing self.now.numerals) }
+    {
         let findings = report(rt, alloc, of.netlist, of.waves, of.threads())?;
         let wires = wires_of(alloc, of.netlist, self.asked.wires)?;
         let picture = Picture {

@@ -1,36 +1,94 @@
 //! Texts over a netlist and its waves.
-ghost use Rattle.std.specs.Prelude.{◌≡◌, ℕ, List};
-ghost use Rattle.std.specs.Thread.{IsSync};
-ghost use Rattle.mp_netlist.specs.Circuit.{Circuit};
+ghost use Rattle.std.specs.Prelude.{◌≡◌};
 ghost use Rattle.mp_streams.specs.WriteErrors.{Writes};
 ghost use Rattle.mp_commands.specs.views.AskedWires.{missing_at};
+ghost use Rattle.mp_commands.specs.views.Views.{view_text, view_wires};
 
+use crate::views::asked_wires::{missing_at, missing_wire};
+use crate::views::cause_picture::CausePicture;
+use crate::views::check_lines::put_check_lines;
 use crate::views::evaluated::Evaluated;
+use crate::views::measure_lines::put_measure_lines;
+use crate::views::path_lines::PathLines;
+use crate::views::picture_text::PictureText;
+use crate::views::report_lines::put_report_lines;
+use crate::views::wave_lines::put_wave_lines;
+use crate::views::why_lines::WhyLines;
+use mp_exports::{put_dump, put_verilog};
 use mp_netlist::Netlist;
+use mp_picture::put_graph;
+use mp_questions::{TimeRange, put_waits};
 use mp_streams::{Out, Sink, WriteError};
 use std::alloc::Global;
 use std::thread::Threads;
 
-/// A text over a netlist and its waves.
-pub trait View {
-    // Its text for a netlist.
-    ghost text: { Self → Circuit → List ℕ };
+/// A text over a netlist and its waves, which a command writes and a question asks for. Times are in units from 0, and may be at or above the horizon.
+#[derive(Clone, Copy)]
+pub enum View<'a> {
+    /// A line for each wire, by number.
+    Waves,
+    /// A line for each finding, by time.
+    Report,
+    /// Findings, late data, deadlocks, and notes on wires.
+    Check,
+    /// The value change dump.
+    Dump,
+    /// The netlist as a graph, for `dot`.
+    Graph,
+    /// The netlist as Verilog, with a test bench.
+    Verilog,
+    /// A timing diagram.
+    Picture(PictureText<'a>),
+    /// A timing diagram with the causes of a level as arrows.
+    CausePicture(CausePicture<'a>),
+    /// Why a wire has its level at a time.
+    Why(WhyLines<'a>),
+    /// Where the time of that chain of causes went.
+    Path(PathLines<'a>),
+    /// Which modules and bundles wait at a time.
+    Waits { time: u64 },
+    /// The events and gaps of wires, and the margins and late data of bundles.
+    Measure(TimeRange),
+}
 
-    // The names of the wires that it speaks of.
-    ghost wires: { Self → List (List ℕ) };
-
+impl<'a> View<'a> {
     /// The place, counted from 0, of the first of its wires that doesn't exist in a netlist; `None` if all exist.
-    fn missing(&self, netlist: &Netlist) -> Option<usize>
-        ensures { result ≡ missing_at netlist.now (wires self.now) };
+    pub fn missing(&self, netlist: &Netlist) -> Option<usize>
+        ensures { result ≡ missing_at netlist.now (view_wires self.now) }
+    {
+        match self {
+            View::Picture(picture) => missing_at(netlist, picture.asked.wires),
+            View::CausePicture(picture) => missing_at(netlist, picture.asked.wires),
+            View::Why(lines) => missing_wire(netlist, lines.wire),
+            View::Path(lines) => missing_wire(netlist, lines.wire),
+            View::Waves | View::Report | View::Check | View::Dump => None,
+            View::Graph | View::Verilog | View::Waits { .. } | View::Measure(_) => None,
+        }
+    }
 
-    /// Writes its text. The clause `shared` says what the bound `Sync` says: in a trait the prover asks for both.
-    fn put<R: Threads + Sync, T: Sink>(
+    /// Writes its text.
+    pub fn put<R: Threads + Sync, T: Sink>(
         &self,
         rt: &R,
         alloc: Global,
         out: &mut Out<T>,
         of: &Evaluated<'_>,
     ) -> Result<(), WriteError>
-        requires shared { IsSync R.row }
-        ensures { Writes result out.old out.new (text self.now of.now.netlist.now) };
+        ensures { Writes result out.old out.new (view_text self.now of.now.netlist.now) }
+    {
+        match self {
+            View::Waves => Ok(put_wave_lines(out, of)?),
+            View::Report => put_report_lines(rt, alloc, out, of),
+            View::Check => put_check_lines(rt, alloc, out, of),
+            View::Dump => put_dump(rt, alloc, out, of.netlist, of.waves, of.threads()),
+            View::Graph => put_graph(out, of.netlist),
+            View::Verilog => put_verilog(alloc, out, of.netlist),
+            View::Picture(picture) => picture.put(rt, alloc, out, of),
+            View::CausePicture(picture) => picture.put(rt, alloc, out, of),
+            View::Why(lines) => lines.put(alloc, out, of),
+            View::Path(lines) => lines.put(alloc, out, of),
+            View::Waits { time } => Ok(put_waits(out, of.netlist, of.waves, *time)?),
+            View::Measure(range) => put_measure_lines(rt, alloc, out, of, *range),
+        }
+    }
 }

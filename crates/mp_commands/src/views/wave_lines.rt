@@ -1,18 +1,15 @@
 //! The lines of a netlist's waves.
-ghost use Rattle.std.specs.Prelude.{◌≡◌, []};
+ghost use Rattle.std.specs.Prelude.{◌≡◌};
 ghost use Rattle.mp_netlist.specs.Circuit.{wire_at};
 ghost use Rattle.mp_model.specs.Waves.{wave};
 ghost use Rattle.mp_streams.specs.Outgoing.{Writes};
 ghost use Rattle.mp_commands.specs.views.Outputs.{slot_line, waves_text};
 
 use crate::views::evaluated::Evaluated;
-use crate::views::view::View;
-use mp_netlist::{Netlist, WireId};
-use mp_streams::{Failed, Out, Sink, Text, WriteError};
+use mp_netlist::WireId;
+use mp_streams::{Failed, Out, Sink, Text};
 use mp_text::{ChangeTexts, ShortChanges, ToggleTexts};
 use mp_wave::WaveChanges;
-use std::alloc::Global;
-use std::thread::Threads;
 
 /// Changes of a wave, each written as ` T=V`.
 #[derive(Clone, Copy)]
@@ -32,30 +29,6 @@ impl<'a> Text for WrittenChanges<'a> {
             WaveChanges::ShortPairs(changes) => ShortChanges { changes }.put_to(out),
             WaveChanges::Pairs(changes) => ChangeTexts { changes }.put_to(out),
         }
-    }
-}
-
-/// The line of each wire that stands, by number.
-#[derive(Drop)]
-pub struct WaveLines;
-
-impl View for WaveLines {
-    ghost text = { λ _ n. waves_text n };
-
-    ghost wires = { λ _. [] };
-
-    fn missing(&self, _netlist: &Netlist) -> Option<usize> {
-        None
-    }
-
-    fn put<R: Threads + Sync, T: Sink>(
-        &self,
-        _rt: &R,
-        _alloc: Global,
-        out: &mut Out<T>,
-        of: &Evaluated<'_>,
-    ) -> Result<(), WriteError> {
-        Ok(put_wave_lines(out, of)?)
     }
 }
 

@@ -1,16 +1,12 @@
 //! Why a wire has its level at a time.
-ghost use Rattle.std.specs.Prelude.{[], ◌∷◌};
 ghost use Rattle.mp_commands.specs.views.Chains.{why_of};
 
-use crate::views::asked_wires::missing_wire;
 use crate::views::evaluated::Evaluated;
-use crate::views::view::View;
-use mp_netlist::{Name, Netlist};
+use mp_netlist::Name;
 use mp_questions::{Moment, put_why};
 use mp_streams::{Out, Sink, WriteError};
 use mp_text::MAX_STEPS;
 use std::alloc::Global;
-use std::thread::Threads;
 
 /// The chain of causes of the level that the wire of this name has at a time, in at most `steps` lines. The time is in units from 0, and may be at or
 /// above the horizon.
@@ -38,22 +34,18 @@ impl<'a> WhyLines<'a> {
     }
 }
 
-impl<'a> View for WhyLines<'a> {
-    ghost text = { λ view n. why_of n view.wire.now view.time view.steps };
+impl<'a> WhyLines<'a> {
+    ghost use Rattle.mp_streams.specs.WriteErrors.{Writes};
 
-    ghost wires = { λ view. view.wire.now ∷ [] };
-
-    fn missing(&self, netlist: &Netlist) -> Option<usize> {
-        missing_wire(netlist, self.wire)
-    }
-
-    fn put<R: Threads + Sync, T: Sink>(
+    /// Writes its text; nothing if the wire doesn't exist.
+    pub(crate) fn put<T: Sink>(
         &self,
-        _rt: &R,
         alloc: Global,
         out: &mut Out<T>,
         of: &Evaluated<'_>,
-    ) -> Result<(), WriteError> {
+    ) -> Result<(), WriteError>
+        ensures { Writes result out.old out.new (why_of of.now.netlist.now self.now.wire.now self.now.time self.now.steps) }
+    {
         let Some(wire) = of.netlist.wire_named(self.wire.as_str()) else {
             return Ok(());
         };

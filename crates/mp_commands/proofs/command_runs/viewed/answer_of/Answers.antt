@@ -1,5 +1,6 @@
 use Rattle.mp_commands.proofs.lemmas.command_runs.Names.{◌≡◌, false, refl, sym, ap, ◌∙◌, OutOfMemory, with_all}
 use Rattle.mp_commands.proofs.lemmas.command_runs.RunLemmas.{refused, wrote, wrote_part}
+use Rattle.mp_commands.specs.views.Views.{view_text}
 use Rattle.mp_commands.proofs.command_runs.viewed.answer_of.Goals as goal
 
 pub returns-in_err-waves : goal.returns-in_err-waves
@@ -9,10 +10,10 @@ pub returns-in_err-put : goal.returns-in_err-put
 returns-in_err-put g c =
     let n = c.args.netlist.now in
     let whole = ap (λ missing. with_all missing n) (sym c.missing.ensures ∙ c.in_default.is) in
-    wrote_part false _ (λ m text. text ≡ g.V.View.text c.args.view.now m) n whole (g.V.View.text c.args.view.now n) refl _ _ c.from_residual-in_err-put.result c.in_err-put.field-0.0 c.from_residual-in_err-put.ensures.1 c.in_err-put.ensures
+    wrote_part false _ (λ m text. text ≡ view_text c.args.view.now m) n whole (view_text c.args.view.now n) refl _ _ c.from_residual-in_err-put.result c.in_err-put.field-0.0 c.from_residual-in_err-put.ensures.1 c.in_err-put.ensures
 
 pub returns : goal.returns
 returns g c =
     let n = c.args.netlist.now in
     let whole = ap (λ missing. with_all missing n) (sym c.missing.ensures ∙ c.in_default.is) in
-    wrote false _ (λ m text. text ≡ g.V.View.text c.args.view.now m) n whole (g.V.View.text c.args.view.now n) refl _ _ c.in_ok-put.ensures
+    wrote false _ (λ m text. text ≡ view_text c.args.view.now m) n whole (view_text c.args.view.now n) refl _ _ c.in_ok-put.ensures

@@ -1,0 +1,45 @@
+-- What the commands write.
+use Rattle.std.specs.Prelude.{ℕ, List, map, Option, Some, None, if◌then◌else◌}
+use Rattle.mp_netlist.specs.Circuit.{Circuit}
+use Rattle.mp_commands.specs.answers.Names.{report_text, dump, graph, verilog, waits, measure, waves_text, why_of, path_of, picture_text}
+use Rattle.mp_commands.specs.views.CausePictures.{cause_picture}
+use Rattle.mp_commands.specs.declared.views.drawing.Drawing.{Drawing}
+use Rattle.mp_commands.specs.declared.views.drawing.Drawing.TheVariants as drawings
+use Rattle.mp_picture.specs.declared.mark.Charset.TheVariants as charsets
+use Rattle.mp_picture.specs.declared.numerals.Numerals.{Numerals}
+use Rattle.mp_picture.specs.declared.numerals.Numerals.TheVariants.{Decimal, Hex}
+use Rattle.mp_request.specs.declared.picture_words.PictureWords.{PictureWords}
+use Rattle.mp_request.specs.declared.request.Command.{Command}
+use Rattle.mp_request.specs.declared.request.Command.TheVariants.{Waves, Report, Dump, Show, Why, Path, Waits, Measure, Graph, Verilog}
+use Rattle.mp_request.specs.Wires.{wires_of}
+
+-- the names of the wires that a command speaks of, as they were given
+abbrev pub names_in : Command → List (List ℕ)
+names_in command = map (λ word. word.now) (wires_of command)
+
+-- how a picture is drawn: as an SVG file, or as text of ASCII or of all characters
+abbrev pub drawing_of : PictureWords → Drawing
+drawing_of words = if words.svg then drawings.Svg words.unit else (if words.ascii then drawings.Text charsets.Ascii else drawings.Text charsets.Unicode)
+
+-- how levels are written
+abbrev pub numerals_of : PictureWords → Numerals
+numerals_of words = if words.hex then Hex else Decimal
+
+-- the picture that is asked for, or the one with the causes of a level at a time
+abbrev pub picture_of : PictureWords → List (List ℕ) → Option ℕ → Circuit → List ℕ
+picture_of words names None = λ n. picture_text n names words.from words.to words.columns (drawing_of words) (numerals_of words)
+picture_of words names (Some time) = λ n. cause_picture n names time words.from words.to words.columns words.unit.now (numerals_of words)
+
+-- the text that a command writes of a netlist, if it writes one that the netlist determines
+abbrev pub text_of : Command → Option (Circuit → List ℕ)
+text_of Waves = Some waves_text
+text_of Report = Some report_text
+text_of Dump = Some dump
+text_of Graph = Some graph
+text_of Verilog = Some verilog
+text_of (Show words) = Some (picture_of words (map (λ wire. wire.now) words.wires.items) words.causes)
+text_of (Why wire time steps) = Some (λ n. why_of n wire.now time steps)
+text_of (Path wire time) = Some (λ n. path_of n wire.now time)
+text_of (Waits time) = Some (λ n. waits n time)
+text_of (Measure from to) = Some (λ n. measure n from to)
+text_of command = None

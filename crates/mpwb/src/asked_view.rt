@@ -1,0 +1,82 @@
+//! The view that a command writes.
+ghost use Rattle.std.specs.Prelude.{◌≡◌, IfSome};
+ghost use Rattle.mp_commands.specs.views.Views.{view_text};
+ghost use Rattle.mpwb.specs.CommandTexts.{drawing_of, names_in, numerals_of, picture_of, text_of};
+
+use mp_commands::{
+    AskedPicture, CausePicture, Charset, Drawing, Numerals, PathLines, PictureText, TimeRange,
+    View, WhyLines,
+};
+use mp_netlist::Name;
+use mp_request::{Command, PictureWords};
+
+/// The view that a command writes and nothing else, if the wires of which the command speaks have these names; `None` if a number of the command is out
+/// of its range, and for other commands.
+pub(crate) fn view_of<'a>(command: &Command<'a>, names: &'a [Name]) -> Option<View<'a>>
+    requires { names.now ≡ names_in command.now }
+    ensures { IfSome result (λ view. IfSome (text_of command.now) (λ text. view_text view ≡ text)) }
+{
+    match command {
+        Command::Waves => Some(View::Waves),
+        Command::Report => Some(View::Report),
+        Command::Dump => Some(View::Dump),
+        Command::Graph => Some(View::Graph),
+        Command::Verilog => Some(View::Verilog),
+        Command::Waits { time } => Some(View::Waits { time: *time }),
+        Command::Measure { from, to } => Some(View::Measure(TimeRange {
+            from: *from,
+            to: *to,
+        })),
+        Command::Show(words) => shown(names, words),
+        Command::Why { time, steps, .. } => {
+            Some(View::Why(WhyLines::new(names.first()?, *time, *steps)?))
+        }
+        Command::Path { time, .. } => Some(View::Path(PathLines {
+            wire: names.first()?,
+            time: *time,
+        })),
+        Command::Check | Command::Play | Command::Desk | Command::LiveDesk { .. } => None,
+    }
+}
+
+/// The picture of the wires of these names that the words ask for, if its number of columns is in its range. If causes are asked for, the first wire has
+/// the level that they lead to, and the others are shown.
+fn shown<'a>(names: &'a [Name], words: &PictureWords<'a>) -> Option<View<'a>>
+    ensures { IfSome result (λ view. view_text view ≡ picture_of words.now names.now words.now.causes) }
+{
+    let asked = AskedPicture::new(names, words.from, words.to, words.columns)?;
+    let numerals = numerals_of(words);
+    Some(match words.causes {
+        None => View::Picture(PictureText {
+            asked,
+            drawing: drawing_of(words),
+            numerals,
+        }),
+        Some(time) => View::CausePicture(CausePicture {
+            asked,
+            time,
+            title: words.unit,
+            numerals,
+        }),
+    })
+}
+
+fn drawing_of<'a>(words: &PictureWords<'a>) -> Drawing<'a>
+    ensures { result ≡ drawing_of words.now }
+{
+    match (words.svg, words.ascii) {
+        (true, _) => Drawing::Svg(words.unit),
+        (false, true) => Drawing::Text(Charset::Ascii),
+        (false, false) => Drawing::Text(Charset::Unicode),
+    }
+}
+
+fn numerals_of(words: &PictureWords<'_>) -> Numerals
+    ensures { result ≡ numerals_of words.now }
+{
+    if words.hex {
+        Numerals::Hex
+    } else {
+        Numerals::Decimal
+    }
+}
