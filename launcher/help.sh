@@ -4,13 +4,13 @@
 tell_words() {
     cat <<'EOF'
 
-The script ./mpwb has six more commands, and --help of each says more:
-  ask      Writes a line to a seat of a live desk and shows its answer
+The script ./mpwb has six more commands, which `./mpwb COMMAND --help` describes:
+  ask      Sends a line to a seat of a live desk and shows the answer
   build    Proves and builds the program
-  install  Installs the program, the script, a man page and completions of shells
-  join     Joins a terminal to a seat of a live desk
-  page     Writes a page that shows the waves of a netlist
-  watch    Shows a live desk's netlist anew with each edit
+  install  Installs the program with a man page and completions for shells
+  join     Takes a seat of a live desk
+  page     Writes a page for a browser that shows the waveforms
+  watch    Shows the netlist of a live desk, again after each edit
 EOF
 }
 
@@ -20,11 +20,10 @@ Proves and builds the program.
 
 Usage: ./mpwb build
 
-Proves all that the program is made of, and builds it: once, in about an hour on
-four processors. From then on an answer takes milliseconds. It says how far it
-is, and can be stopped: where the kit keeps what it has proved, the next build
-goes on there. Where the program is built and no source is newer, it does
-nothing.
+Proves every part of the program and builds it. This takes about an hour on four
+processors, once; from then on an answer takes milliseconds. It shows how far it
+is. You can stop it, and call it again to go on: the kit keeps what is proved. If
+the program is built and no source is newer, it does nothing.
 
 Exit status:
   0   the program is built
@@ -35,16 +34,16 @@ EOF
 
 tell_join() {
     cat <<'EOF'
-Joins a terminal to a seat of a live desk.
+Takes a seat of a live desk.
 
 Usage: ./mpwb join FOLDER SEAT
 
-FOLDER is that of a desk that was started by `./mpwb desk FILE --at FOLDER`. SEAT
-is designer-1, designer-2 .. or viewer-1, viewer-2 .. Each line that is typed goes
-to the seat, and what the seat answers is shown, as `./mpwb desk --help` says. The
-end of input (Ctrl-D) leaves the seat, and anybody can take it again. A seat is
-for one at a time. At a terminal its name stands before each line, once the line
-before it is answered.
+FOLDER is that of a desk that runs, by `./mpwb desk FILE --at FOLDER`. SEAT is
+designer-1, designer-2 .. or viewer-1, viewer-2 .. Each line that you type goes to
+the seat, and its answer is shown; `./mpwb desk --help` describes both. The end of
+input (Ctrl-D) leaves the seat, and anybody can take it again. A seat is for one
+person at a time. At a terminal its name is the prompt, which appears once the
+line before is answered.
 
 Exit status:
   0    the seat was left
@@ -56,18 +55,19 @@ EOF
 
 tell_ask() {
     cat <<'EOF'
-Writes a line to a seat of a live desk and shows its answer.
+Sends a line to a seat of a live desk and shows the answer.
 
 Usage: ./mpwb ask FOLDER SEAT LINE
 
-FOLDER and SEAT are those of `./mpwb join`. LINE is a line as it is typed there, in
-one word or in several. Its answer is written to standard output, and the seat is
-left. So `./mpwb ask meeting viewer-1 text > now.net` writes the netlist as it is
-now, and `./mpwb ask meeting designer-1 delay c1 0 4` makes an edit.
+FOLDER and SEAT are those of `./mpwb join`, and LINE is a line as it is typed
+there, as one word or as several. The answer is written to standard output, and
+the seat is free again. For example, `./mpwb ask meeting viewer-1 text > now.net`
+saves the netlist as it is now, and `./mpwb ask meeting designer-1 delay c1 0 4`
+makes an edit.
 
 Exit status:
   0    the line was answered
-  1    the answer is that the line was refused or isn't read
+  1    the answer is that the line is refused or can't be read
   2    the command line was refused
   3    there is no desk or no such seat, the seat is taken, or the desk has left it
   130  it was interrupted
@@ -76,42 +76,42 @@ EOF
 
 tell_watch() {
     cat <<'EOF'
-Shows a live desk's netlist anew with each edit.
+Shows the netlist of a live desk, again after each edit.
 
 Usage: ./mpwb watch FOLDER SEAT [QUESTION ..]
 
-FOLDER is that of a desk that was started by `./mpwb desk FILE --at FOLDER`. SEAT
-is viewer-1, viewer-2 .. The answer to QUESTION is shown, a line as it is typed at
-the seat; a timing diagram as wide as the terminal, if none is given. It is shown
-anew when the version has changed, with the edits since then below it: at a
-terminal in place, else one after the other, each behind a line `version N`.
-Where edits come faster than they can be shown, some versions are passed over.
-Ctrl-C leaves the seat.
+FOLDER is that of a desk that runs, by `./mpwb desk FILE --at FOLDER`. SEAT is
+viewer-1, viewer-2 .. QUESTION is a line as it is typed at the seat, and its answer
+is shown; without one, a timing diagram as wide as the terminal. After each edit
+it is shown again, with the new edits below it. At a terminal it takes the place
+of the one before; otherwise they follow each other, each after a line
+`version N`. If edits come faster than they can be shown, some versions are left
+out. Ctrl-C leaves the seat.
 
 Exit status:
-  0    it was ended by Ctrl-C
+  0    Ctrl-C ended it
   1    the netlist can't be shown
   2    the command line was refused
   3    there is no desk or no such seat, the seat is taken, the desk has left it, or
        a write failed
   4    memory ran out
-  70   there is no program, or it is at fault
-  130  it was ended otherwise
+  70   there is no program, or it has a fault
+  130  another signal ended it
 EOF
 }
 
 tell_page() {
     cat <<'EOF'
-Writes a page that shows the waves of a netlist in a browser.
+Writes a page for a browser that shows the waveforms.
 
 Usage: ./mpwb page [FILE] > page.html
 
 Reads a netlist from FILE, or from standard input if FILE is `-` or isn't given.
-Writes one HTML file, which needs nothing else: the netlist, its waves and what
-`check` finds stand in it as the program writes them. The page zooms and scrolls
-the waves, shows all levels at a cursor, finds wires, leads to what was found, and
-shows what caused a change and what the change causes. It tells its keys. A file
-that `waves` or `page` wrote can be dropped on it, to compare the two.
+Writes one HTML file, which needs nothing else: it has the netlist, its waveforms
+and what `check` finds. On the page you zoom and scroll through the waveforms,
+read all levels at a cursor, find wires, go from finding to finding, and see what
+caused a change and what the change causes. The page lists its keys. Drop a file
+on it that `waves` or `page` has written, and it compares the two.
 
 Exit status:
   0   the page was written
@@ -119,18 +119,18 @@ Exit status:
   2   the command line was refused
   3   a read or a write failed
   4   memory ran out
-  70  there is no program, or it is at fault
+  70  there is no program, or it has a fault
 EOF
 }
 
 tell_install() {
     cat <<'EOF'
-Installs the program, the script, a man page and completions of shells.
+Installs the program with a man page and completions for shells.
 
 Usage: ./mpwb install [PREFIX]
 
-PREFIX is a folder, /usr/local if it isn't given. The program has to be built, by
-`./mpwb build`. These are put there, in place of older ones:
+PREFIX is a folder, by default /usr/local. Build the program first, with
+`./mpwb build`. These files are put there, in place of older ones:
 
   PREFIX/lib/nesthrim      the program and the script, with its parts
   PREFIX/bin/mpwb          a link to the script
@@ -139,10 +139,10 @@ PREFIX is a folder, /usr/local if it isn't given. The program has to be built, b
   PREFIX/share/zsh/site-functions/_mpwb
   PREFIX/share/fish/vendor_completions.d/mpwb.fish
 
-To uninstall it, remove these.
+To uninstall it, remove these files.
 
 Exit status:
-  0   all is installed
+  0   it is installed
   2   the command line was refused
   3   a file can't be written
   70  the program isn't built

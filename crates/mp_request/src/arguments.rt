@@ -42,19 +42,19 @@ static INPUT: [ArgumentForm; 3] = [
     ArgumentForm {
         name: "file",
         value: "FILE",
-        help: "The file to read; `-` or no FILE: standard input",
+        help: "The netlist; standard input if it is `-` or not given",
         takes: ArgumentKind::Word,
     },
     ArgumentForm {
         name: "workers",
         value: "N",
-        help: "How many workers there are, 1 to 16",
+        help: "The number of threads, 1 to 16",
         takes: ArgumentKind::Number("2"),
     },
     ArgumentForm {
         name: "least",
         value: "N",
-        help: "With fewer modules than these the workers are not called on, 1 to 4096",
+        help: "Use several threads only from N modules on, 1 to 4096",
         takes: ArgumentKind::Number("256"),
     },
 ];
@@ -63,13 +63,13 @@ static RANGE: [ArgumentForm; 2] = [
     ArgumentForm {
         name: "from",
         value: "T",
-        help: "The first time, 0 where none is given",
+        help: "The first time of the range, by default 0",
         takes: ArgumentKind::Time,
     },
     ArgumentForm {
         name: "to",
         value: "T",
-        help: "The end of the times, which isn't in it; the horizon where none is given",
+        help: "The end of the range, not included, by default the horizon",
         takes: ArgumentKind::Time,
     },
 ];
@@ -78,43 +78,43 @@ static DRAWING: [ArgumentForm; 7] = [
     ArgumentForm {
         name: "columns",
         value: "N",
-        help: "How many columns there are at most, 1 to 10000",
+        help: "The greatest number of columns, 1 to 10000",
         takes: ArgumentKind::Number("72"),
     },
     ArgumentForm {
         name: "wire",
         value: "NAME",
-        help: "A wire that is shown, in the order in which they are named; none: all wires",
+        help: "Show this wire; repeat it for others, in this order; by default all wires",
         takes: ArgumentKind::Words,
     },
     ArgumentForm {
         name: "ascii",
         value: "",
-        help: "Draw with characters of ASCII alone",
+        help: "Draw with ASCII characters only",
         takes: ArgumentKind::Nothing,
     },
     ArgumentForm {
         name: "hex",
         value: "",
-        help: "Write levels in hex digits behind `0x`",
+        help: "Write levels in hexadecimal, after `0x`",
         takes: ArgumentKind::Nothing,
     },
     ArgumentForm {
         name: "svg",
         value: "",
-        help: "Write an SVG file, of at most 1200 columns",
+        help: "Write an SVG file, with at most 1200 columns",
         takes: ArgumentKind::Nothing,
     },
     ArgumentForm {
         name: "unit",
         value: "TEXT",
-        help: "What stands above the times of an SVG file; `time in units` where none is given",
+        help: "The label of the times in an SVG file, by default `time in units`",
         takes: ArgumentKind::OptionalWord,
     },
     ArgumentForm {
         name: "causes",
         value: "",
-        help: "Draw arrows from cause to effect that lead to the level of WIRE at TIME, in an SVG file",
+        help: "Draw the causes of the level of WIRE at TIME as arrows, in an SVG file",
         takes: ArgumentKind::PairWith(&["WIRE", "TIME"], "svg"),
     },
 ];
@@ -122,21 +122,21 @@ static DRAWING: [ArgumentForm; 7] = [
 static WIRE: [ArgumentForm; 1] = [ArgumentForm {
     name: "wire",
     value: "WIRE",
-    help: "The wire's name",
+    help: "The name of the wire",
     takes: ArgumentKind::NeededWord,
 }];
 
 static MOMENT: [ArgumentForm; 1] = [ArgumentForm {
     name: "time",
     value: "TIME",
-    help: "The time; one at or above the horizon is the last one below it",
+    help: "The time; from the horizon on it is the last time before it",
     takes: ArgumentKind::NeededTime,
 }];
 
 static CHAIN: [ArgumentForm; 1] = [ArgumentForm {
     name: "steps",
     value: "N",
-    help: "How many steps are written at most, 1 to 1048576",
+    help: "The greatest number of steps, 1 to 1048576",
     takes: ArgumentKind::Number("20"),
 }];
 
@@ -144,19 +144,19 @@ static DESK: [ArgumentForm; 3] = [
     ArgumentForm {
         name: "at",
         value: "FOLDER",
-        help: "Serve designers and viewers at the named pipes of this folder",
+        help: "Serve designers and viewers at the named pipes in this folder",
         takes: ArgumentKind::WordWith("file"),
     },
     ArgumentForm {
         name: "designers",
         value: "N",
-        help: "How many designers there are with --at, 1 to 8; 2 where none is given",
+        help: "The number of designers with --at, 1 to 8, by default 2",
         takes: ArgumentKind::NumberWith("at"),
     },
     ArgumentForm {
         name: "viewers",
         value: "N",
-        help: "How many viewers there are, 1 to 32, and with --at 0 to 24",
+        help: "The number of viewers, 1 to 32, or with --at 0 to 24",
         takes: ArgumentKind::Number("2"),
     },
 ];
@@ -164,6 +164,6 @@ static DESK: [ArgumentForm; 3] = [
 static WORD: [ArgumentForm; 1] = [ArgumentForm {
     name: "word",
     value: "WORD",
-    help: "The number or name of a code, or a kind of module; none: the list of all",
+    help: "The number or the name of a code, or a kind of module; without it a list of all",
     takes: ArgumentKind::Word,
 }];

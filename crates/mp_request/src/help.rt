@@ -2,19 +2,19 @@
 
 /// What the program is.
 pub(crate) const ABOUT: &str =
-    "A workbench for micropipelines: netlists of event modules, in transition signalling.";
+    "A workbench for micropipelines: simulates and checks netlists of event modules.";
 
 /// How it ends.
 pub(crate) const STATUS: &str = "\
 Exit status:
-  0  all was written
-  1  the text or a number was refused
+  0  success
+  1  the netlist, a number or the name of a wire was refused
   2  the command line was refused
-  3  a read or a write failed, or a pipe of a live desk is wanting
-  4  memory ran out, or a place at a desk was wanting
-  5  `check` found that something is wrong
+  3  a read or a write failed, or a pipe of a live desk is missing
+  4  out of memory, or no place left at a desk
+  5  `check` found something wrong
 
-`mpwb explain WORD` tells what a code or a kind of module means, with an example.";
+`mpwb explain WORD` explains a code or a kind of module, with an example.";
 
 /// What is behind the options of each command: the kinds of module, and what standard error says.
 pub(crate) const FORMS: &str = "\
@@ -34,30 +34,30 @@ Kinds of module, as KIND PARAM .. : IN .. > OUT ..
   BIT K : a > y
 
 Exit status, and what standard error says:
-  0                                        all was written
+  0                                        success
   1  mpwb: line N: CODE NAME               line N of the netlist has a fault
-  1  mpwb: line N: 7 Refused: CODE NAME    what line N adds is refused
-  1  mpwb: bad count                       a number is out of its range, or a
-                                           desk has no block or more than 8
-  1  mpwb: no such wire: NAME              a wire that is asked for isn't there
+  1  mpwb: line N: 7 Refused: CODE NAME    the netlist refuses what line N adds
+  1  mpwb: bad count                       a number is out of range, or a desk
+                                           has no block of lines or more than 8
+  1  mpwb: no such wire: NAME              the netlist has no wire of this name
   2  error: ..                             the command line was refused
-  3  mpwb: can't open NAME                 a seat of a live desk has no pipe NAME
-  3  mpwb: can't read NAME: ..             the file isn't there, is a directory, or
-                                           may not be read
+  3  mpwb: can't open NAME                 the pipe NAME of a seat is missing
+  3  mpwb: can't read NAME: ..             the file is missing, is a directory,
+                                           or may not be read
   3  mpwb: read failed                     the input can't be read
   3  mpwb: write failed                    the output can't be written
   4  mpwb: out of memory                   memory ran out
-  4  mpwb: no place                        a place at a desk was wanting
-  5                                        `check` found that something is wrong";
+  4  mpwb: no place                        the desk has no place left
+  5                                        `check` found something wrong";
 
 /// What `waves` does.
-pub(crate) const WAVES: &str = "Writes the wave of each wire of a netlist";
+pub(crate) const WAVES: &str = "Writes the waveform of each wire";
 
 /// What `waves` reads and writes.
 pub(crate) const WAVES_LONG: &str = "\
-Writes the wave of each wire of a netlist.
+Writes the waveform of each wire.
 
-Reads a netlist, a statement a line:
+Reads a netlist, with a statement on each line:
 
   horizon H
   wire NAME WIDTH LEVEL
@@ -65,175 +65,202 @@ Reads a netlist, a statement a line:
   stim WIRE T=V ..
   bundle NAME REQ ACK DATA SETUP
 
-H is 1 to 65536, or 1 to 1048576 behind a first line `format 2`. Behind a first
-line `format 4` it is 1 to 1073741824, there may be 2097152 wires and 1048576
-modules, where else there may be 8192 and 4096, and all that is read may have
-1073741824 bytes, where else it may have 4194304. WIDTH is 1 to 64. DELAY is 1 to
-65535, and SETUP 0 to 65535. An input that hears of its wire E units later is
-IN/E.
+WIDTH is 1 to 64, DELAY 1 to 65535, and SETUP 0 to 65535. With IN/E in place of
+IN the module sees that wire E units later. A first line `format 2` or
+`format 4` allows larger netlists:
 
-Writes a line `NAME LEVEL T=V ..` for each wire, in the order in which they
-were added: its level at time 0, and its level V from each time T on at which
-it changes below the horizon.";
+                   without        format 2       format 4
+  horizon          65536          1048576        1073741824
+  wires            8192           8192           2097152
+  modules          4096           4096           1048576
+  bundles          1024           1024           262144
+  bytes of text    4194304        4194304        1073741824
+
+Writes a line `NAME LEVEL T=V ..` for each wire, in the order in which the wires
+were added: its level at time 0, and for each change before the horizon the time
+and the new level.";
 
 /// What `report` does.
-pub(crate) const REPORT: &str = "Writes where a netlist breaks a rule of its modules or bundles";
+pub(crate) const REPORT: &str = "Writes which rules of modules and bundles are broken, and when";
 
 /// What `report` reads and writes.
 pub(crate) const REPORT_LONG: &str = "\
-Writes where a netlist breaks a rule of its modules or bundles.
+Writes which rules of modules and bundles are broken, and when.
 
 Reads a netlist, as `waves` does.
 
 Writes a line `TIME module NAME CODE` or `TIME bundle NAME CODE` for each
-finding, by time, then the modules and then the bundles in the order in which
-they were added, then by the number of the code. A finding tells of something
-that a well-behaved circuit avoids, as two events that meet at a XOR, or data
-that change too short before a request.";
+finding: something that a well-behaved circuit avoids, such as two events that
+meet at a XOR, or data that change too close to a request. `mpwb explain CODE`
+says what a code means.
+
+The lines are ordered by time. At one time the modules come first and then the
+bundles, each in the order in which they were added. The findings of one module
+or bundle at one time are ordered by the number of their code.";
 
 /// What `check` does.
-pub(crate) const CHECK: &str = "Tells whether a netlist works: findings, late data, deadlocks";
+pub(crate) const CHECK: &str = "Checks whether a netlist works: broken rules, late data, deadlocks";
 
 /// What `check` reads and writes.
 pub(crate) const CHECK_LONG: &str = "\
-Tells whether a netlist works.
+Checks whether a netlist works: broken rules, late data, deadlocks.
 
 Reads a netlist, as `waves` does.
 
-Writes the lines of `report`; then a line `TIME bundle NAME late UNITS` for each
-change of a bundle's data that comes UNITS behind a request, though neither the
-request led to it nor anything that was set from outside since; then a line
-`TIME deadlock MODULE waits for WIRE, ..` for each cycle of modules that wait
-for each other's wires for ever; then `note wire NAME ..` for each wire that
-becomes another level than it is declared with, that nothing drives, or that has
-a stimulus that nothing reads. The exit status is 5 if a line is no note.
+Writes, in this order:
 
-If FILE isn't read, standard error also shows its line, a mark below the word at
-fault, what is wrong with it, and a name that is near to it.";
+  the lines of `report`
+  TIME bundle NAME late UNITS               data that come UNITS after a request
+  TIME deadlock MODULE waits for WIRE, ..   modules that wait for ever
+  note wire NAME ..                         a wire that may not be as intended
+
+Data are late if they change after a request, but neither because of that
+request nor because of a stimulus after it. There is a note on each wire that is
+declared with another level than its module settles to at time 0, that nothing
+drives, or whose stimulus nothing reads. The exit status is 5 if any line is not
+a note.
+
+If FILE can't be read as a netlist, standard error also shows the faulty line
+with a mark below the word at fault, says what is wrong with it, and suggests a
+similar name if there is one.";
 
 /// What `dump` does.
-pub(crate) const DUMP: &str = "Writes the waves of a netlist as a value change dump";
+pub(crate) const DUMP: &str = "Writes the waveforms as a value change dump";
 
 /// What `dump` reads and writes.
 pub(crate) const DUMP_LONG: &str = "\
-Writes the waves of a netlist as a value change dump.
+Writes the waveforms as a value change dump.
 
 Reads a netlist, as `waves` does.
 
-Writes a value change dump (IEEE Std 1364), which viewers of waves open: each
-wire is declared in the scope `top`, a unit of time is 1 ns, and then come the
-levels at time 0, the levels that change at each later time, and the horizon.
-A wire of width 1 is a scalar, a wider one a vector of all its bits.";
+Writes a value change dump (IEEE Std 1364), which GTKWave and other viewers
+open. All wires are in the scope `top`, and a unit of time is 1 ns. A wire of
+width 1 is a scalar; a wider one is a vector, written with all its bits. The
+dump has the levels at time 0, then each change at its time, and it ends with
+the horizon.";
 
 /// What `show` does.
-pub(crate) const SHOW: &str = "Writes a timing diagram of a netlist";
+pub(crate) const SHOW: &str = "Draws a timing diagram, as text or as SVG";
 
 /// What `show` reads and writes.
 pub(crate) const SHOW_LONG: &str = "\
-Writes a timing diagram of a netlist.
+Draws a timing diagram, as text or as SVG.
 
 Reads a netlist, as `waves` does.
 
-Writes a line of times, then a line for each wire, a character a column. Each
-column has as many units of time: the least round number that the columns allow,
-1, 2 or 5 times a power of ten, at whose multiples they begin. A wire of width 1
-is low or high, rises or falls in a column of several units with one change, or
-changes more often in it; in a column of one unit it has its level. A wider wire
-is crossed where it changes, and its level stands behind that where it fits.
-Then comes a line for each module and bundle with a finding in the range, marked
-with `!` in its column, and the lines of `report` for these findings.";
+Writes a line of times, and then a line for each wire, with a character for each
+column. All columns have the same number of units: 1, 2 or 5 times a power of
+ten, the least one with which the range fits into the columns. Each column
+begins at a multiple of that number.
+
+A wire of width 1 is drawn high or low. If a column has more than one unit, a
+change in it is drawn as a rise or a fall, and several changes as a block. A
+wider wire has a cross where it changes, and then its new level if there is room
+for it.
+
+Below the wires there is a line for each module and each bundle with a finding
+in the range, with `!` at its time, and then the lines of `report` for these
+findings.";
 
 /// What `why` does.
-pub(crate) const WHY: &str = "Writes why a wire has its level at a time: the chain of its causes";
+pub(crate) const WHY: &str = "Writes why a wire has its level at a time, as a chain of causes";
 
 /// What `why` reads and writes.
 pub(crate) const WHY_LONG: &str = "\
-Writes why a wire has its level at a time: the chain of its causes.
+Writes why a wire has its level at a time, as a chain of causes.
 
 Reads a netlist, as `waves` does.
 
-Writes a line for each step, the latest first: the wire's last change, the
-module that made it, and the changes of its inputs that the module answered, as
-`WIRE T=V < MODULE KIND/DELAY < WIRE T=V ..`; the chain goes on from the first
-of these. It ends with `stim`, where the wire is set from outside, with `start`,
-where the module settled to this level at time 0, or with `WIRE 0=V declared`,
-where the wire didn't change up to the time.";
+Writes a line for each step, the latest first. A line
+`WIRE T=V < MODULE KIND/DELAY < WIRE T=V ..` has a change of a wire, the module
+that made it, and the changes of inputs that the module answered. The next line
+is about the first of these. The chain ends at `stim` if a stimulus set the
+wire, and at `start` if the module settled to this level at time 0. If the wire
+hasn't changed up to the time, there is one line, `WIRE 0=V declared`.";
 
 /// What `path` does.
-pub(crate) const PATH: &str =
-    "Writes where the time of such a chain went: the modules that set the pace";
+pub(crate) const PATH: &str = "Writes how much time each module took in such a chain";
 
 /// What `path` reads and writes.
 pub(crate) const PATH_LONG: &str = "\
-Writes where the time of the chain went that `why` writes: the modules that set
-the pace.
+Writes how much time each module took in the chain of causes that `why` writes.
 
 Reads a netlist, as `waves` does.
 
 Writes a line `MODULE UNITS STEPS` for each module of the whole chain: how many
-units of time passed in it and in how many steps, the most units first.";
+units of time passed in it, and in how many steps. The modules with the most
+units come first: they set the pace.";
 
 /// What `waits` does.
 pub(crate) const WAITS: &str =
-    "Writes which modules and bundles wait at a time, for which wire and since when";
+    "Writes which modules and bundles wait, for which wire and since when";
 
 /// What `waits` reads and writes.
 pub(crate) const WAITS_LONG: &str = "\
-Writes which modules and bundles wait at a time, for which wire and since when.
+Writes which modules and bundles wait, for which wire and since when.
 
 Reads a netlist, as `waves` does.
 
-Writes a line for each that waits, the modules first: a C for the input that
-hasn't come, a CALL for the answer to the client that it serves, an ARBITER for
-the done wire of its owner, with a line for the client that it keeps waiting, a
-REG that holds a level, and a bundle for its acknowledge.";
+Writes a line for each module that waits at TIME, and then for each bundle. A C
+waits for the event at its other input, a CALL for the procedure that it has
+called, an ARBITER for the client that has its grant, and a bundle for its
+acknowledge. If an ARBITER keeps the other client waiting, a further line says
+so. A REG that holds its data has a line too.";
 
 /// What `measure` does.
 pub(crate) const MEASURE: &str =
-    "Writes how often wires change, the gaps between, and the margins of bundles";
+    "Measures the changes of wires, their gaps, and the margins of bundles";
 
 /// What `measure` reads and writes.
 pub(crate) const MEASURE_LONG: &str = "\
-Writes how often wires change, the gaps between, and the margins of bundles.
+Measures the changes of wires, their gaps, and the margins of bundles.
 
 Reads a netlist, as `waves` does.
 
-Writes a line `wire NAME EVENTS FIRST LAST LEAST MOST` for each wire: how many
-changes it has in the range, the times of the first and the last of them, and
-the least and the greatest gap between two that follow each other. Then comes a
-line `bundle NAME REQUESTS setup S response LEAST MOST late L` for each bundle:
-how many requests it has, the least time from its last change of data to a
-request, the least and the greatest time from a request to its acknowledge, and
-the greatest number of units by which data that change in the range are late, as
-`check` tells. What there is none of is left out.";
+Writes a line `wire NAME EVENTS FIRST LAST LEAST MOST` for each wire: the number
+of its changes in the range, the times of the first and the last one, and the
+least and the greatest gap between two successive changes.
+
+Then writes a line `bundle NAME REQUESTS setup S response LEAST MOST late L` for
+each bundle: the number of its requests in the range, the least time from its
+last change of data to a request, the least and the greatest time from a request
+to its acknowledge, and the most units by which a change of its data is late, as
+in `check`.
+
+A line leaves out what doesn't exist, such as the gaps of a wire that changes
+once.";
 
 /// What `graph` does.
-pub(crate) const GRAPH: &str = "Writes a netlist as a graph in the language of Graphviz";
+pub(crate) const GRAPH: &str = "Writes the netlist as a graph for Graphviz";
 
 /// What `graph` reads and writes.
 pub(crate) const GRAPH_LONG: &str = "\
-Writes a netlist as a graph in the language of Graphviz.
+Writes the netlist as a graph for Graphviz.
 
 Reads a netlist, as `waves` does.
 
-Writes a text for `dot`: a node for each module, each wire that is set from
-outside and each bundle, and an edge for each wire that a module reads.";
+Writes a text for `dot`, with a node for each module, each bundle, and each wire
+that no module drives or none reads, and with an edge for each input of a
+module. So this draws the circuit:
+
+  mpwb graph FILE | dot -Tsvg > circuit.svg";
 
 /// What `verilog` does.
-pub(crate) const VERILOG: &str = "Writes a netlist as Verilog, with a test bench";
+pub(crate) const VERILOG: &str = "Writes the netlist as Verilog, with a test bench";
 
 /// What `verilog` reads and writes.
 pub(crate) const VERILOG_LONG: &str = "\
-Writes a netlist as Verilog, with a test bench.
+Writes the netlist as Verilog, with a test bench.
 
 Reads a netlist, as `waves` does.
 
-Writes a file of Verilog-2005: a module for each kind that occurs, the netlist
-as a module `netlist`, and a module `bench`, which sets what the stimuli set and
-dumps the levels of all wires below the horizon into waves.vcd. So
+Writes a file of Verilog-2005. It has a module for each kind that is used, the
+netlist as a module `netlist`, and a module `bench`, which applies the stimuli
+and dumps all waveforms up to the horizon into waves.vcd. So another simulator
+makes the same waveforms:
 
   mpwb verilog FILE > netlist.v
   iverilog -g2005 -o netlist.vvp netlist.v
   vvp netlist.vvp
 
-makes the waves once more, by another simulator. Bundles stand as comments.";
+Bundles are written as comments.";

@@ -1,92 +1,99 @@
 //! The texts of `--help`: the commands that edit a netlist, and `explain`.
 
 /// What `play` does.
-pub(crate) const PLAY: &str = "Edits a netlist by a script, and answers its questions";
+pub(crate) const PLAY: &str = "Edits a netlist and answers questions about it, line by line";
 
 /// What `play` reads and writes.
 pub(crate) const PLAY_LONG: &str = "\
-Edits a netlist by a script, and answers its questions.
+Edits a netlist and answers questions about it, line by line.
 
 Reads a netlist from FILE, as `waves` does, and a script from standard input.
 Each line of the script is answered before the next one is read, and has at most
-65536 bytes. Without a FILE the script stands in standard input behind the
-netlist and a line `---`, and counts as a part of it. Its lines are edits:
+65536 bytes. Without FILE, standard input has the netlist, a line `---`, and
+then the script, and the limit on a netlist's text applies to all of it. A line
+of the script is an edit:
 
   wire .., module .., stim .., bundle ..    as in a netlist
   remove wire NAME
   remove module NAME
   remove bundle NAME
-  input MODULE PORT WIRE
-  output MODULE PORT WIRE                   or `-` for no wire
-  indelay MODULE PORT E
-  delay MODULE PORT D
-  clear WIRE
+  input MODULE PORT WIRE                    another wire for an input
+  output MODULE PORT WIRE                   another wire for an output, or `-`
+  indelay MODULE PORT E                     the delay of an input
+  delay MODULE PORT D                       the delay of an output
+  clear WIRE                                remove its stimulus
   batch EDIT ; EDIT ..                      1 to 256 edits as one
 
-and questions:
+or a question:
 
   wave WIRE, waves, text, report, check, dump, work
   show FROM TO [WIRE ..]                    the timing diagram of these wires
-  why WIRE TIME [STEPS]                     1 to 1048576 steps, 20 if not given
+  why WIRE TIME [STEPS]                     1 to 1048576 steps, by default 20
   path WIRE TIME
   waits TIME
   measure FROM TO
   graph
   verilog
   version                                   how many edits were accepted
-  edits FROM                                these from number FROM on, from 1
+  edits FROM                                accepted edits from this number on
 
-Answers each line in turn: an edit by `accepted N`, N being how many edits were
-accepted so far, or by `refused CODE NAME`, which changes nothing; a question by
-the wire's line, the lines of all wires, the present netlist, its report, its
-value change dump, what was evaluated for the last edit, what the command of the
-same name writes, `version N`, or a line `N EDIT` for each accepted edit; and a
-line that can't be read by `unread CODE NAME`.";
+Ports are counted from 0, inputs and outputs separately. The first edit has the
+number 1.
+
+An edit is answered by `accepted N`, where N counts the accepted edits, or by
+`refused CODE NAME`; a refused edit changes nothing. `wave WIRE` is answered by
+the line of that wire, `text` by the netlist as it is now, `work` by what was
+computed again for the last edit, `version` by `version N`, and `edits` by a
+line `N EDIT` for each edit. Any other question is answered as the command of
+the same name answers it. A line that can't be read is answered by
+`unread CODE NAME`.";
 
 /// What `desk` does.
-pub(crate) const DESK: &str = "Has designers edit a netlist at the same time, while viewers read";
+pub(crate) const DESK: &str =
+    "Lets designers edit one netlist at the same time, while viewers read";
 
 /// What `desk` reads and writes.
 pub(crate) const DESK_LONG: &str = "\
-Has designers edit a netlist at the same time, while viewers read.
+Lets designers edit one netlist at the same time, while viewers read.
 
 With --at FOLDER it reads a netlist from FILE and serves people at named pipes
-in FOLDER, two for each seat. Lines for the first designer come by
-`designer-1.in`, and the answers go by `designer-1.out`; so for each designer,
-and for each viewer by `viewer-1.in` and `viewer-1.out`. Each line is answered
-as by `play`, before the seat's next line is read; an edit at a viewer's seat by
-`refused 22 NotADesigner`, and `work` by `refused 23 NoWork`. A seat is left
-where its lines end, and can then be taken again. The lines of standard input
-are answered as a viewer's; `seats` tells who is there. The desk ends where
-standard input has ended and all seats are left.
+in FOLDER, two for each seat. The first designer writes lines into
+`designer-1.in` and reads the answers from `designer-1.out`. Each further
+designer has such a pair of pipes, and so has each viewer, from `viewer-1.in`
+and `viewer-1.out` on. A line is answered as in `play`, before the next line of
+that seat is read. A viewer's edit is answered by `refused 22 NotADesigner`, and
+`work` at any seat by `refused 23 NoWork`. Whoever closes `.in` leaves the seat,
+and anybody can take it again. The lines of standard input are answered like
+those of a viewer, and `seats` lists the seats that are taken and free. The desk
+ends when standard input has ended and everybody has left.
 
-Without --at it reads a netlist, as `waves` does, and behind it a block of lines
-for each of 1 to 8 designers, each behind a line `---`. All of them count as a
-part of the netlist's text. The lines are edits, as in a script of `play`. Each
-designer submits its lines in turn, on a thread of its own, and each viewer
-reads 100 times meanwhile, on a thread of its own. In which order the edits of
-different designers come is open.
+Without --at it reads a netlist, as `waves` does, and after it a block of lines
+for each of 1 to 8 designers. A line `---` comes before each block, and the
+limit on a netlist's text applies to all of it. The lines are edits, as in
+`play`. Each designer submits its lines in turn, and each viewer reads 100 times
+meanwhile, each on a thread of its own. The edits of different designers may
+come in any order.
 
-Writes at the end `designer J accepted A refused B` for each designer, where a
-line that isn't read counts as refused, and in a block so does a question; then
-`viewer J saw N` for each viewer, N being how many accepted edits the version
-had that it read last, after it was told of them all; and then the lines of all
-wires.";
+At the end it writes `designer J accepted A refused B` for each designer, then
+`viewer J saw N` for each viewer, and then the waveform of each wire. B includes
+lines that can't be read, and in a block also questions. N is the number of
+edits in the last version that the viewer read. Without --at the viewer reads
+once more when all designers are done.";
 
 /// What `explain` does.
-pub(crate) const EXPLAIN: &str = "Tells what a code or a kind of module means";
+pub(crate) const EXPLAIN: &str = "Explains a code or a kind of module, with an example";
 
 /// What `explain` reads and writes.
 pub(crate) const EXPLAIN_LONG: &str = "\
-Tells what a code or a kind of module means.
+Explains a code or a kind of module, with an example.
 
-Reads no netlist. WORD is the number or the name of a code, as 13 or
-AlreadyDriven, what `check` tells, as late, or a kind of module, as C; capital and
-small letters are the same. Without it a line is written for each of these: what
-it belongs to, its number if it is a code, and its name.
+Reads no netlist. WORD is the number or the name of a code, such as 13 or
+AlreadyDriven, a word of `check`, such as late, or a kind of module, such as C.
+Upper and lower case are the same. Without WORD it lists everything that it can
+explain, a line each: what it belongs to, the number of a code, and the name.
 
-There are codes of a netlist's text and of a script's lines, of edits that are
-refused, and of findings. Writes when the code comes, an example with what the
-program answers, and what to do about it. A number may be that of several codes,
-and all are written. Of a kind its parameters, its ports and its table are
-written, what may be found at it, and an example.";
+There are codes for faults of a netlist or of a line of a script, for edits that
+are refused, and for findings. Of a code it writes when it occurs, an example
+with the program's answer, and what to do about it. If several codes have the
+same number, it writes all of them. Of a kind it writes its parameters, its
+ports, what it does, what may be found at it, and an example.";

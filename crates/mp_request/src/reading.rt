@@ -44,7 +44,7 @@ fn asked<'a>(alloc: Global, matches: &ArgMatches<'a>) -> Result<CommandLine<'a>,
 pub fn unknown_word(alloc: Global, word: &str) -> Result<Error, AllocError>
     ensures { IfOk result (λ error. kind_of error ≡ kinds.InvalidValue) }
 {
-    let message = format!(in alloc; "no code and no kind of module is called '{word}'")?;
+    let message = format!(in alloc; "unknown code or kind of module '{word}'")?;
     unexplained(alloc, message.as_str())
 }
 
