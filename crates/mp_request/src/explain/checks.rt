@@ -7,8 +7,8 @@ pub(crate) const LATE: Entry = Entry {
     subject: Topic::Check(CheckWord::Late),
     text: "
   meaning:
-    data of a bundle change behind a request, and neither that request led to
-      the change nor anything that was set from outside after it
+    data of a bundle change after a request, but neither because of that
+      request nor because of a stimulus after it
   example, read by `mpwb check`:
     horizon 100
     wire c 1 0
@@ -25,9 +25,9 @@ pub(crate) const LATE: Entry = Entry {
   answer:
     22 bundle b late 4
   remedy:
-    The data belong to the request before them, and were under way when it
-    came. Delay the request by these units and the setup more, or make the
-    way of the data shorter: `mpwb why WIRE TIME` tells it step by step.
+    The data belong to that request, and were still under way when it came.
+    Delay the request by this number of units and the setup, or shorten the
+    path of the data, which `mpwb why WIRE TIME` shows step by step.
 ",
 };
 
@@ -46,8 +46,8 @@ pub(crate) const DEADLOCK: Entry = Entry {
   answer:
     0 deadlock x waits for q, y waits for p
   remedy:
-    Break the cycle, or let an event go round in it: by a NOT in place of a
-    BUF, or by another INIT of a C with the same level at its wire.
+    Break the cycle, or start an event in it: with a NOT in place of a BUF, or
+    with the other INIT of a C and the same level at its wire.
 ",
 };
 
@@ -55,8 +55,8 @@ pub(crate) const BECOMES: Entry = Entry {
     subject: Topic::Check(CheckWord::Becomes),
     text: "
   meaning:
-    the port that drives a wire has at time 0 another level than the wire is
-      declared with, so that the wire changes when the port's delay is over
+    a wire is declared with another level than the port that drives it has at
+      time 0, so it changes after the delay of the port
   example, read by `mpwb check`:
     horizon 20
     wire a 1 1
@@ -66,7 +66,8 @@ pub(crate) const BECOMES: Entry = Entry {
   answer:
     note wire y is declared 0 and becomes 1 at 3
   remedy:
-    If that first change isn't meant, declare the wire with the other level.
+    If that first change isn't intended, declare the wire with the other
+    level.
 ",
 };
 
@@ -74,8 +75,8 @@ pub(crate) const UNDRIVEN: Entry = Entry {
     subject: Topic::Check(CheckWord::Undriven),
     text: "
   meaning:
-    neither a port nor a stimulus drives a wire: it keeps its level, or is
-      unused where nothing reads it
+    neither a port nor a stimulus drives a wire: it keeps its level, or it is
+      unused if nothing reads it
   example, read by `mpwb check`:
     horizon 20
     wire a 1 0
@@ -85,8 +86,8 @@ pub(crate) const UNDRIVEN: Entry = Entry {
     note wire a is read, and nothing drives it
     note wire b is unused
   remedy:
-    Let a port drive the wire, set it by `stim`, or leave it out. A stimulus
-    without changes, as `stim a`, says that the level is meant to stay.
+    Let a port drive the wire, set it with `stim`, or remove it. A stimulus
+    without changes, such as `stim a`, says that the level is meant to stay.
 ",
 };
 
@@ -94,7 +95,7 @@ pub(crate) const UNREAD: Entry = Entry {
     subject: Topic::Check(CheckWord::Unread),
     text: "
   meaning:
-    a wire has a stimulus, and neither an input nor a bundle names it
+    a wire has a stimulus, but no input and no bundle uses it
   example, read by `mpwb check`:
     horizon 20
     wire a 1 0
@@ -102,6 +103,6 @@ pub(crate) const UNREAD: Entry = Entry {
   answer:
     note wire a has a stimulus, and nothing reads it
   remedy:
-    Let a module read the wire, or leave it out.
+    Let a module read the wire, or remove it.
 ",
 };

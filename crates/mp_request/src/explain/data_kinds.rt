@@ -13,10 +13,10 @@ pub(crate) const REG: Entry = Entry {
   outputs:
     q of width `w`, cd, pd
   table:
-    REG holds data. It is open where capture `c` and pass `p` have equal
-    levels, whatever levels they began at, and else held. At each time from 0
-    on `q` is `d` while open, and else what it was one unit before. Before
-    time 0 it is INIT. `cd` is `c` and `pd` is `p`.
+    REG holds data. It is open while capture `c` and pass `p` have equal
+    levels, whatever levels they began at, and otherwise held. At each time
+    from 0 on `q` is `d` if the REG is open, and otherwise what it was one
+    unit before. Before time 0 it is INIT. `cd` is `c` and `pd` is `p`.
   findings:
     8 capture-while-held
     9 pass-while-open
@@ -127,7 +127,7 @@ pub(crate) const BIT: Entry = Entry {
   outputs:
     y
   table:
-    BIT gives bit `k` of `a`, bit 0 being the least.
+    BIT gives bit `k` of `a`; bit 0 is the least significant one.
   findings:
     none
   example, read by `mpwb waves`:

@@ -63,8 +63,8 @@ pub(crate) const XOR: Entry = Entry {
   outputs:
     y
   table:
-    XOR gives 1 where `a` and `b` differ and else 0. So it merges two streams
-    of events.
+    XOR gives 1 if `a` and `b` differ, and otherwise 0. So it merges two
+    streams of events.
   findings:
     1 merge-collision
   example, read by `mpwb waves`:
@@ -92,10 +92,10 @@ pub(crate) const C: Entry = Entry {
   outputs:
     y
   table:
-    C is the rendezvous of two events. Let `a'` be `a`, or `1 - a` where BUBA
-    is 1 (a bubble on that input), and `b'` likewise with BUBB. At each time
-    from 0 on the output is `a'` where `a' = b'`, and else what it was one
-    unit before. Before time 0 it is INIT.
+    C is the rendezvous of two events. Let `a'` be `a`, or `1 - a` if BUBA is
+    1 (a bubble on that input), and `b'` likewise with BUBB. At each time from
+    0 on the output is `a'` if `a' = b'`, and otherwise what it was one unit
+    before. Before time 0 it is INIT.
   findings:
     2 withdrawn
   example, read by `mpwb waves`:
@@ -123,8 +123,9 @@ pub(crate) const TOGGLE: Entry = Entry {
   outputs:
     dot, blank
   table:
-    TOGGLE begins with both outputs at 0. Its events change an output in turn:
-    the first dot, the second blank, the third dot again.
+    TOGGLE begins with both outputs at 0. The events of `a` change the outputs
+    in turn: the first one changes dot, the second one blank, the third one
+    dot again.
   findings:
     none
   example, read by `mpwb waves`:
@@ -151,8 +152,8 @@ pub(crate) const SELECT: Entry = Entry {
   outputs:
     true, false
   table:
-    SELECT begins with both outputs at 0. An event of `a` changes true where
-    the diamond's level at that time is 1, and else false.
+    SELECT begins with both outputs at 0. An event of `a` changes true if the
+    level at the diamond is 1 at that time, and otherwise false.
   findings:
     3 select-unstable
   example, read by `mpwb waves`:
@@ -185,9 +186,9 @@ pub(crate) const CALL: Entry = Entry {
     CALL lets two clients share one procedure. All outputs begin at 0, and
     nobody is served. Within one unit, in this order:
     1. an event of `d` changes the done output of the client that is served,
-       and then nobody is served; while nobody is served it is ignored;
-    2. an event of `r1` while nobody is served changes `r`, and the first
-       client is served; else it is ignored;
+       and then nobody is served; if nobody is served, it is ignored;
+    2. an event of `r1` changes `r` if nobody is served, and then the first
+       client is served; otherwise it is ignored;
     3. an event of `r2` likewise, for the second client.
   findings:
     4 call-overlap
@@ -226,14 +227,13 @@ pub(crate) const ARBITER: Entry = Entry {
   table:
     ARBITER grants one of two ports at a time. Both outputs begin at 0, nobody
     owns and nobody waits. Within one unit, in this order:
-    1. the done event of the port that owned before the unit ends its
-       ownership; the other port's is ignored, and both are where nobody
-       owned;
-    2. where nobody owns now and a port waited before the unit, its grant
-       output changes, and it owns and waits no longer;
-    3. a request event of the first port: where it owns or waits it is
-       ignored; else, where nobody owns, its grant output changes and it owns;
-       else it waits;
+    1. a done event of the port that owned before the unit ends its
+       ownership; any other done event is ignored;
+    2. if nobody owns now and a port waited before the unit, the grant output
+       of that port changes, and it owns and no longer waits;
+    3. a request event of the first port is ignored if that port owns or
+       waits; otherwise, if nobody owns, its grant output changes and it owns;
+       otherwise it waits;
     4. a request event of the second port likewise.
   findings:
     6 repeat-request

@@ -7,7 +7,7 @@ pub(crate) const MERGE_COLLISION: Entry = Entry {
     subject: Topic::Finding(FindingCode::MergeCollision),
     text: "
   meaning:
-    both inputs of a XOR change
+    both inputs of a XOR change at the same time
   example, read by `mpwb report`:
     horizon 20
     wire a 1 0
@@ -18,8 +18,8 @@ pub(crate) const MERGE_COLLISION: Entry = Entry {
   answer:
     5 module m merge-collision
   remedy:
-    The two events cancel, and `y` has none. Let only one of them come at a
-    time: delay one, or let an ARBITER decide between those who make them.
+    The two events cancel each other, and `y` has none. Let them come one at a
+    time: delay one of them, or let an ARBITER choose between their senders.
 ",
 };
 
@@ -27,8 +27,8 @@ pub(crate) const WITHDRAWN: Entry = Entry {
     subject: Topic::Finding(FindingCode::Withdrawn),
     text: "
   meaning:
-    an input of a C changes that, behind its bubble, differed from the output
-      before: it waited, and takes its event back
+    an input of a C takes its event back: it changes, and its level, behind
+      its bubble, differed from the output before
   example, read by `mpwb report`:
     horizon 20
     wire a 1 0
@@ -38,9 +38,9 @@ pub(crate) const WITHDRAWN: Entry = Entry {
   answer:
     6 module m withdrawn
   remedy:
-    Let the wire make its next event only after the C has answered the last
-    one: what drives it has to follow the C's output. `mpwb waits TIME` tells
-    for whom the C waits.
+    The next event of that wire has to wait until the C has answered the last
+    one, so its driver has to depend on the C's output. `mpwb waits TIME`
+    shows what the C waits for.
 ",
 };
 
@@ -48,7 +48,7 @@ pub(crate) const SELECT_UNSTABLE: Entry = Entry {
     subject: Topic::Finding(FindingCode::SelectUnstable),
     text: "
   meaning:
-    the diamond of a SELECT changes, and `a` changes
+    `a` and the diamond of a SELECT change at the same time
   example, read by `mpwb report`:
     horizon 20
     wire a 1 0
@@ -59,8 +59,8 @@ pub(crate) const SELECT_UNSTABLE: Entry = Entry {
   answer:
     5 module m select-unstable
   remedy:
-    Let the diamond stand before the event comes: delay `a`, as the request of
-    a bundle is delayed behind its data.
+    The diamond has to be stable before the event comes. Delay `a`, as the
+    request of a bundle is delayed to come after its data.
 ",
 };
 
@@ -68,7 +68,7 @@ pub(crate) const CALL_OVERLAP: Entry = Entry {
     subject: Topic::Finding(FindingCode::CallOverlap),
     text: "
   meaning:
-    an event of `r1` or `r2` of a CALL was ignored
+    an event of `r1` or `r2` of a CALL is ignored
   example, read by `mpwb report`:
     horizon 20
     wire a 1 0
@@ -80,9 +80,9 @@ pub(crate) const CALL_OVERLAP: Entry = Entry {
   answer:
     5 module m call-overlap
   remedy:
-    A request came while a client was served, and is lost. Let the clients
-    take turns, or put an ARBITER before the CALL; and let each client wait
-    until it is done before it calls again.
+    A request came while a client was being served, and is lost. Let the
+    clients take turns, or put an ARBITER before the CALL, and let each client
+    wait for its done event before it calls again.
 ",
 };
 
@@ -90,7 +90,7 @@ pub(crate) const DONE_WITHOUT_CALL: Entry = Entry {
     subject: Topic::Finding(FindingCode::DoneWithoutCall),
     text: "
   meaning:
-    an event of `d` of a CALL was ignored
+    an event of `d` of a CALL is ignored
   example, read by `mpwb report`:
     horizon 20
     wire a 1 0
@@ -101,8 +101,8 @@ pub(crate) const DONE_WITHOUT_CALL: Entry = Entry {
   answer:
     3 module m done-without-call
   remedy:
-    Nobody was served. Let the procedure make one event at `d` for each event
-    of `r`, and none before.
+    No client was being served. The procedure has to make one event at `d` for
+    each event of `r`, after that event.
 ",
 };
 
@@ -110,7 +110,7 @@ pub(crate) const REPEAT_REQUEST: Entry = Entry {
     subject: Topic::Finding(FindingCode::RepeatRequest),
     text: "
   meaning:
-    a request event of an ARBITER was ignored
+    a request event of an ARBITER is ignored
   example, read by `mpwb report`:
     horizon 20
     wire a 1 0
@@ -122,8 +122,8 @@ pub(crate) const REPEAT_REQUEST: Entry = Entry {
   answer:
     5 module m repeat-request
   remedy:
-    The client waits for a grant or has it already. Let it request again only
-    after it was granted and has told that it is done.
+    The client is waiting for a grant, or has it already. Let it request again
+    only after it has been granted and has made its done event.
 ",
 };
 
@@ -131,7 +131,7 @@ pub(crate) const DONE_WITHOUT_GRANT: Entry = Entry {
     subject: Topic::Finding(FindingCode::DoneWithoutGrant),
     text: "
   meaning:
-    a done event of an ARBITER was ignored
+    a done event of an ARBITER is ignored
   example, read by `mpwb report`:
     horizon 20
     wire a 1 0
@@ -143,8 +143,8 @@ pub(crate) const DONE_WITHOUT_GRANT: Entry = Entry {
   answer:
     3 module m done-without-grant
   remedy:
-    Only the client that has the grant may tell that it is done, once for each
-    grant.
+    Only the client that has the grant may make a done event, and only one for
+    each grant.
 ",
 };
 
@@ -152,7 +152,7 @@ pub(crate) const CAPTURE_WHILE_HELD: Entry = Entry {
     subject: Topic::Finding(FindingCode::CaptureWhileHeld),
     text: "
   meaning:
-    `c` of a REG changes that was held before
+    `c` of a REG changes, and the REG was held before
   example, read by `mpwb report`:
     horizon 20
     wire d 8 0
@@ -163,8 +163,8 @@ pub(crate) const CAPTURE_WHILE_HELD: Entry = Entry {
   answer:
     6 module m capture-while-held
   remedy:
-    Captures and passes come in turn. Let the next capture wait for the pass:
-    `pd` answers it.
+    Captures and passes have to alternate. Let the next capture wait for the
+    pass, which `pd` acknowledges.
 ",
 };
 
@@ -172,7 +172,7 @@ pub(crate) const PASS_WHILE_OPEN: Entry = Entry {
     subject: Topic::Finding(FindingCode::PassWhileOpen),
     text: "
   meaning:
-    `p` of a REG changes that was open before
+    `p` of a REG changes, and the REG was open before
   example, read by `mpwb report`:
     horizon 20
     wire d 8 0
@@ -183,8 +183,8 @@ pub(crate) const PASS_WHILE_OPEN: Entry = Entry {
   answer:
     3 module m pass-while-open
   remedy:
-    Captures and passes come in turn. Let the pass wait for a capture: `cd`
-    answers it.
+    Captures and passes have to alternate. Let the pass wait for a capture,
+    which `cd` acknowledges.
 ",
 };
 
@@ -192,7 +192,7 @@ pub(crate) const DATA_AT_CAPTURE: Entry = Entry {
     subject: Topic::Finding(FindingCode::DataAtCapture),
     text: "
   meaning:
-    `d` of a REG changes that was open before and is held now
+    `d` of a REG changes when it closes: it was open before and is held now
   example, read by `mpwb report`:
     horizon 20
     wire d 8 0
@@ -204,8 +204,8 @@ pub(crate) const DATA_AT_CAPTURE: Entry = Entry {
   answer:
     5 module m data-at-capture
   remedy:
-    Let the data stand before the capture: delay the event at `c`, or make the
-    data sooner.
+    The data have to be there before the capture: delay the event at `c`, or
+    let the data come earlier.
 ",
 };
 
@@ -213,7 +213,7 @@ pub(crate) const DATA_WHILE_BUSY: Entry = Entry {
     subject: Topic::Finding(FindingCode::DataWhileBusy),
     text: "
   meaning:
-    the data of a bundle changes that was busy before
+    the data of a bundle change, and the bundle was busy before
   example, read by `mpwb report`:
     horizon 20
     wire r 1 0
@@ -225,9 +225,9 @@ pub(crate) const DATA_WHILE_BUSY: Entry = Entry {
   answer:
     6 bundle p data-while-busy
   remedy:
-    The receiver may still read the data. Let the sender change them only
-    after the acknowledge: `mpwb waits TIME` tells since when the bundle waits
-    for it.
+    The receiver may still be reading the data. The sender may change them
+    only after the acknowledge. `mpwb waits TIME` shows since when the bundle
+    has waited for it.
 ",
 };
 
@@ -235,8 +235,8 @@ pub(crate) const SETUP: Entry = Entry {
     subject: Topic::Finding(FindingCode::Setup),
     text: "
   meaning:
-    the data of a bundle changes with a request event, or no longer before one
-      than the bundle's setup
+    the data of a bundle change at a request event, or earlier than one by at
+      most the setup of the bundle
   example, read by `mpwb report`:
     horizon 20
     wire r 1 0
@@ -248,8 +248,9 @@ pub(crate) const SETUP: Entry = Entry {
   answer:
     8 bundle p setup
   remedy:
-    Let the request come later, by a longer delay on its way, or the data
-    sooner. `mpwb measure` tells the least time from data to a request.
+    Let the request come later, with a longer delay in its path, or let the
+    data come earlier. `mpwb measure` shows the least time from data to a
+    request.
 ",
 };
 
@@ -268,8 +269,8 @@ pub(crate) const REQUEST_WHILE_BUSY: Entry = Entry {
   answer:
     6 bundle p request-while-busy
   remedy:
-    Let the sender make its next request only after the acknowledge of the
-    last one.
+    The sender has to wait for the acknowledge of one request before it makes
+    the next one.
 ",
 };
 
@@ -277,7 +278,7 @@ pub(crate) const ACK_WHILE_IDLE: Entry = Entry {
     subject: Topic::Finding(FindingCode::AckWhileIdle),
     text: "
   meaning:
-    an acknowledge event of a bundle that was not busy before
+    an acknowledge event of a bundle that wasn't busy before
   example, read by `mpwb report`:
     horizon 20
     wire r 1 0
@@ -288,6 +289,6 @@ pub(crate) const ACK_WHILE_IDLE: Entry = Entry {
   answer:
     3 bundle p ack-while-idle
   remedy:
-    Let the receiver acknowledge each request once, and not before it came.
+    The receiver has to acknowledge each request once, after the request.
 ",
 };

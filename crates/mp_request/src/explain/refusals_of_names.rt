@@ -7,7 +7,8 @@ pub(crate) const NAME_TAKEN: Entry = Entry {
     subject: Topic::Edit(EditError::NameTaken),
     text: "
   meaning:
-    a thing of that kind that stands has the name
+    a new wire has the name of another wire, a new module that of another
+      module, or a new bundle that of another bundle
   example, read by `mpwb play`:
     horizon 20
     wire a 1 0
@@ -16,9 +17,8 @@ pub(crate) const NAME_TAKEN: Entry = Entry {
   answer:
     refused 1 NameTaken
   remedy:
-    Choose another name, or remove first what has it. Wires, modules and
-    bundles have names apart from each other, so a wire and a module may be
-    called the same.
+    Choose another name, or first remove what has it. Wires, modules and
+    bundles are named independently, so a wire and a module may share a name.
 ",
 };
 
@@ -26,7 +26,8 @@ pub(crate) const BAD_NAME: Entry = Entry {
     subject: Topic::Edit(EditError::BadName),
     text: "
   meaning:
-    not a name: a letter, then letters, digits and `_`, of 32 bytes at most
+    not a name: a name is a letter, then letters, digits and `_`, at most 32
+      characters in all
   example, read by `mpwb play`:
     horizon 20
     ---
@@ -51,8 +52,8 @@ pub(crate) const NO_SUCH_WIRE: Entry = Entry {
   answer:
     refused 3 NoSuchWire
   remedy:
-    Mend the name, in which capital and small letters differ, or add the wire
-    on a line before. Only an output may go without a wire, as `-`.
+    Correct the name (upper and lower case differ), or add the wire on an
+    earlier line. Only an output may be without a wire: `-`.
 ",
 };
 
@@ -69,8 +70,8 @@ pub(crate) const NO_SUCH_MODULE: Entry = Entry {
   answer:
     refused 4 NoSuchModule
   remedy:
-    Mend the name, or add the module on a line before. `text` shows the
-    modules that stand.
+    Correct the name, or add the module on an earlier line. `text` lists the
+    modules.
 ",
 };
 
@@ -87,7 +88,7 @@ pub(crate) const NO_SUCH_BUNDLE: Entry = Entry {
   answer:
     refused 5 NoSuchBundle
   remedy:
-    Mend the name. `text` shows the bundles that stand.
+    Correct the name. `text` lists the bundles.
 ",
 };
 
@@ -95,8 +96,8 @@ pub(crate) const ALREADY_DRIVEN: Entry = Entry {
     subject: Topic::Edit(EditError::AlreadyDriven),
     text: "
   meaning:
-    an output's wire has a stimulus, or another port drives it, or two outputs
-      name it; for a stimulus: a port drives the wire
+    a wire for an output that has a stimulus, that another port drives, or
+      that two outputs name; a stimulus for a wire that a port drives
   example, read by `mpwb play`:
     horizon 20
     wire a 1 0
@@ -107,9 +108,9 @@ pub(crate) const ALREADY_DRIVEN: Entry = Entry {
   answer:
     refused 13 AlreadyDriven
   remedy:
-    A wire has one driver. Merge the events of two wires by a XOR, or free the
-    wire first: `clear WIRE` takes its stimulus away, and
-    `output MODULE PORT -` takes it from an output.
+    A wire has one driver. Merge the events of two wires with a XOR, or free
+    the wire first: `clear WIRE` removes its stimulus, and
+    `output MODULE PORT -` disconnects an output from it.
 ",
 };
 
@@ -117,7 +118,7 @@ pub(crate) const STILL_USED: Entry = Entry {
     subject: Topic::Edit(EditError::StillUsed),
     text: "
   meaning:
-    a module or a bundle names the wire
+    a module or a bundle still uses the wire
   example, read by `mpwb play`:
     horizon 20
     wire a 1 0
@@ -127,8 +128,8 @@ pub(crate) const STILL_USED: Entry = Entry {
   answer:
     refused 14 StillUsed
   remedy:
-    Rewire or remove first what names it: `text` shows that. A stimulus goes
-    with its wire.
+    First rewire or remove what uses it; `text` shows that. A stimulus is
+    removed together with its wire.
 ",
 };
 
@@ -136,15 +137,15 @@ pub(crate) const TABLE_FULL: Entry = Entry {
     subject: Topic::Edit(EditError::TableFull),
     text: "
   meaning:
-    8,192 wires, 4,096 modules or 1,024 bundles were added already, removed
-      ones counted; with `format 4` 2,097,152, 1,048,576 or 262,144
+    8,192 wires, 4,096 modules or 1,024 bundles have been added, including
+      removed ones; with `format 4` 2,097,152, 1,048,576 or 262,144
   example, in a shell:
     (echo horizon 20; seq -f 'wire w%g 1 0' 8193) | mpwb waves
   answer:
     mpwb: line 8194: 7 Refused: 17 TableFull
   remedy:
-    Put `format 4` first. Or, where many things were removed, begin anew with the
-    netlist that `text` writes: what was removed no longer counts there.
+    Begin the netlist with `format 4`. Or, if many things were removed, start
+    again from the netlist that `text` writes, in which they no longer count.
 ",
 };
 
@@ -152,14 +153,14 @@ pub(crate) const HISTORY_FULL: Entry = Entry {
     subject: Topic::Edit(EditError::HistoryFull),
     text: "
   meaning:
-    4,096 edits of the script were accepted already
+    4,096 edits have been accepted already
   example, in a shell:
     (echo horizon 20; echo wire a 1 0; echo ---; yes stim a | head -n 4097) |
       mpwb play | tail -n 1
   answer:
     refused 18 HistoryFull
   remedy:
-    Make several edits as one by `batch`, or begin a further script with the
+    Make several edits as one with `batch`, or begin another script with the
     netlist that `text` writes.
 ",
 };
@@ -168,14 +169,14 @@ pub(crate) const OUT_OF_MEMORY: Entry = Entry {
     subject: Topic::Edit(EditError::OutOfMemory),
     text: "
   meaning:
-    memory ran out; for a batch this may come in place of 18 and 21
+    memory ran out; a batch may be answered so in place of 18 or 21
   example, in a shell:
     (echo format 2; echo horizon 1048576; echo wire y 1 0
       echo ---; echo 'module m NOT : y > y/1') | (ulimit -v 6000; mpwb play)
   answer:
     refused 19 OutOfMemory
   remedy:
-    The netlist stands as before the edit. Give the program more memory, or
+    The netlist is as it was before the edit. Give the program more memory, or
     the netlist a smaller horizon.
 ",
 };

@@ -15,7 +15,7 @@ pub(crate) const BAD_WIDTH: Entry = Entry {
   answer:
     refused 6 BadWidth
   remedy:
-    Divide wider data among several wires.
+    Split wider data over several wires.
 ",
 };
 
@@ -39,8 +39,8 @@ pub(crate) const BAD_DELAY: Entry = Entry {
     subject: Topic::Edit(EditError::BadDelay),
     text: "
   meaning:
-    an output's delay that isn't 1 to 65,535, also of one without a wire; an
-      input's above 65,535
+    a delay of an output that isn't 1 to 65,535, even without a wire; a delay
+      of an input above 65,535
   example, read by `mpwb play`:
     horizon 20
     wire a 1 0
@@ -50,9 +50,9 @@ pub(crate) const BAD_DELAY: Entry = Entry {
   answer:
     refused 8 BadDelay
   remedy:
-    No module answers at once: give its output 1 unit at least, and count all
-    delays in smaller units where that is too long. For a longer delay put
-    BUFs in a row.
+    No module answers at once: give its output at least 1 unit. If that is too
+    long, use a smaller unit for all delays. For a longer delay connect BUFs
+    in a row.
 ",
 };
 
@@ -60,7 +60,7 @@ pub(crate) const BAD_PORT: Entry = Entry {
     subject: Topic::Edit(EditError::BadPort),
     text: "
   meaning:
-    no such port
+    the module has no port of this number
   example, read by `mpwb play`:
     horizon 20
     wire a 1 0
@@ -70,8 +70,8 @@ pub(crate) const BAD_PORT: Entry = Entry {
   answer:
     refused 9 BadPort
   remedy:
-    Count the ports from 0, the inputs and the outputs each for themselves, in
-    the order that `mpwb explain KIND` has.
+    Count the ports from 0, inputs and outputs separately, in the order that
+    `mpwb explain KIND` shows.
 ",
 };
 
@@ -79,7 +79,7 @@ pub(crate) const WRONG_PORTS: Entry = Entry {
     subject: Topic::Edit(EditError::WrongPorts),
     text: "
   meaning:
-    not as many inputs or outputs as the kind has
+    more or fewer inputs or outputs than the kind has
   example, read by `mpwb play`:
     horizon 20
     wire a 1 0
@@ -88,8 +88,8 @@ pub(crate) const WRONG_PORTS: Entry = Entry {
   answer:
     refused 10 WrongPorts
   remedy:
-    Name all inputs and outputs that `mpwb explain KIND` has. An output that
-    leads nowhere is `-`.
+    Name all inputs and outputs that `mpwb explain KIND` shows. An output that
+    drives nothing is `-`.
 ",
 };
 
@@ -97,8 +97,8 @@ pub(crate) const BAD_PARAM: Entry = Entry {
     subject: Topic::Edit(EditError::BadParam),
     text: "
   meaning:
-    not as many parameters as the kind has, or one out of its range; a setup
-      above 65,535
+    more or fewer parameters than the kind has, or one out of its range; a
+      setup of a bundle above 65,535
   example, read by `mpwb play`:
     horizon 20
     wire a 1 0
@@ -107,7 +107,7 @@ pub(crate) const BAD_PARAM: Entry = Entry {
   answer:
     refused 11 BadParam
   remedy:
-    Write the parameters that `mpwb explain KIND` has, between the kind and
+    Write the parameters that `mpwb explain KIND` shows, between the kind and
     the `:`.
 ",
 };
@@ -116,8 +116,8 @@ pub(crate) const WIDTH_MISMATCH: Entry = Entry {
     subject: Topic::Edit(EditError::WidthMismatch),
     text: "
   meaning:
-    a wire hasn't the width of its port; a bundle's request and acknowledge
-      have the width 1
+    a wire with another width than its port; a request or an acknowledge of a
+      bundle with another width than 1
   example, read by `mpwb play`:
     horizon 20
     wire d 8 0
@@ -126,9 +126,9 @@ pub(crate) const WIDTH_MISMATCH: Entry = Entry {
   answer:
     refused 12 WidthMismatch
   remedy:
-    Choose a wire of the port's width (`mpwb explain KIND`), or take a bit of
-    a wider one by a BIT. A module's width is that of the wire at its first
-    input when it is added, and it stays.
+    Choose a wire with the width of the port (`mpwb explain KIND`), or take
+    one bit of a wider wire with a BIT. The width of a module is that of the
+    wire at its first input when the module is added, and doesn't change.
 ",
 };
 
@@ -136,8 +136,8 @@ pub(crate) const BAD_STIMULUS: Entry = Entry {
     subject: Topic::Edit(EditError::BadStimulus),
     text: "
   meaning:
-    a time that is 0 or not below the horizon, times that don't rise strictly,
-      or a value that isn't below `2^width`
+    a time that is 0 or not below the horizon, a time that isn't above the one
+      before it, or a value that isn't below `2^width`
   example, read by `mpwb play`:
     horizon 20
     wire a 1 0
@@ -146,8 +146,8 @@ pub(crate) const BAD_STIMULUS: Entry = Entry {
   answer:
     refused 15 BadStimulus
   remedy:
-    List the changes by rising time, from 1 to one below the horizon. The
-    level at time 0 is that of the `wire` statement.
+    List the changes in order of time, from 1 to the last time below the
+    horizon. The `wire` statement sets the level at time 0.
 ",
 };
 
@@ -155,7 +155,7 @@ pub(crate) const NO_STIMULUS: Entry = Entry {
     subject: Topic::Edit(EditError::NoStimulus),
     text: "
   meaning:
-    the wire has none
+    the wire has no stimulus
   example, read by `mpwb play`:
     horizon 20
     wire d 8 0
@@ -164,7 +164,7 @@ pub(crate) const NO_STIMULUS: Entry = Entry {
   answer:
     refused 16 NoStimulus
   remedy:
-    Nothing is to be cleared: the wire has its initial level, or a module
+    There is nothing to clear: the wire keeps its initial level, or a module
     drives it.
 ",
 };
@@ -180,7 +180,7 @@ pub(crate) const BAD_BATCH: Entry = Entry {
   answer:
     refused 20 BadBatch
   remedy:
-    Divide the edits among several batches.
+    Split the edits into several batches.
 ",
 };
 
@@ -201,7 +201,7 @@ pub(crate) const IN_BATCH: Entry = Entry {
   answer:
     refused 21 InBatch 2 16 NoStimulus
   remedy:
-    Mend the edit whose place is told, counted from 1, by its own code, which
-    stands behind. None of the batch was made.
+    Correct the edit at this place of the batch, counted from 1; its own code
+    comes after the place. None of the edits was made.
 ",
 };

@@ -26,7 +26,7 @@ pub(crate) const NO_WORK: Entry = Entry {
     subject: Topic::Seat(SeatCode::NoWork),
     text: "
   meaning:
-    `work` at a seat: what was evaluated for an edit is known in `play` alone
+    `work` at a seat: only `play` knows what an edit computed again
   example, in a shell:
     cd $(mktemp -d)
     mkfifo designer-1.in designer-1.out
@@ -36,7 +36,7 @@ pub(crate) const NO_WORK: Entry = Entry {
     refused 23 NoWork
     designer 1 accepted 0 refused 0
   remedy:
-    Give the lines of `edits 1` without their numbers to `mpwb play`, and ask
-    there.
+    Give the lines that `edits 1` writes, without their numbers, to
+    `mpwb play`, and ask there.
 ",
 };

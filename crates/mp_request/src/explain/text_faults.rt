@@ -8,14 +8,14 @@ pub(crate) const NOT_ASCII: Entry = Entry {
     subject: Topic::Text(TextCode::Line(LineError::NotAscii)),
     text: "
   meaning:
-    a byte that isn't allowed, also in a comment
+    a byte that isn't allowed, even in a comment
   example, read by `mpwb waves`:
     horizon 20 # µ
   answer:
     mpwb: line 1: 1 NotAscii
   remedy:
-    Write names and comments in ASCII, as `us` for microseconds. Allowed are
-    tab, carriage return and the bytes 32 to 126.
+    Write names and comments in ASCII, for example `us` for microseconds. Tab,
+    carriage return and the bytes 32 to 126 are allowed.
 ",
 };
 
@@ -23,22 +23,22 @@ pub(crate) const UNKNOWN_STATEMENT: Entry = Entry {
     subject: Topic::Text(TextCode::Line(LineError::UnknownStatement)),
     text: "
   meaning:
-    in a netlist: the first word is no statement
-    in a netlist: the kind of a `module` is none
-    in a script: the first word begins no line; `horizon` and `format` are
-      such words
-    in a script: the second word of `remove`, or the kind of a `module`, is
-      none
+    in a netlist: the first word isn't a statement
+    in a netlist: the kind of a `module` doesn't exist
+    in a script: the first word begins neither an edit nor a question;
+      `horizon` and `format` don't either
+    in a script: the second word of `remove` isn't `wire`, `module` or
+      `bundle`, or the kind of a `module` doesn't exist
   example, read by `mpwb waves`:
     horizon 20
     flip a
   answer:
     mpwb: line 2: 2 UnknownStatement
   remedy:
-    Mend the word. The statements are `format`, `horizon`, `wire`, `module`,
-    `stim` and `bundle`, in lower case; kinds are in upper case, and
-    `mpwb explain` lists them. `mpwb play --help` has the lines of a script. A
-    comment begins with `#`.
+    Correct the word. The statements are `format`, `horizon`, `wire`,
+    `module`, `stim` and `bundle`, in lower case. Kinds are in upper case, and
+    `mpwb explain` lists them. `mpwb play --help` lists the lines of a script.
+    A comment begins with `#`.
 ",
 };
 
@@ -54,9 +54,9 @@ pub(crate) const WORD_COUNT: Entry = Entry {
   answer:
     mpwb: line 2: 3 WordCount
   remedy:
-    Compare the line with the form of its statement, which `mpwb waves --help`
-    has, or of a script's line, which `mpwb play --help` has. Blanks divide
-    words, also around the `:` and the `>` of a `module`.
+    `mpwb waves --help` shows the form of each statement, and
+    `mpwb play --help` that of each line of a script. Blanks separate words,
+    also around the `:` and the `>` of a `module`.
 ",
 };
 
@@ -69,8 +69,8 @@ pub(crate) const BAD_NUMBER: Entry = Entry {
     in a netlist: a horizon that isn't 1 to 65,536, or with `format 2` 1 to
       1,048,576, or with `format 4` 1 to 1,073,741,824
     in a script: the steps of `why` aren't 1 to 1,048,576
-    in a script: the number of `edits` is 0, or above the one that the next
-      accepted edit will have
+    in a script: the number after `edits` is 0, or greater than that of the
+      next edit
   example, read by `mpwb waves`:
     horizon 20
     wire a 1 0
@@ -78,8 +78,8 @@ pub(crate) const BAD_NUMBER: Entry = Entry {
   answer:
     mpwb: line 3: 4 BadNumber
   remedy:
-    Write a number in 1 to 20 digits, below 2^64, and `T=V`, `OUT/DELAY` and
-    `IN/E` without a blank inside. An output without a wire is `-`.
+    Write a number with 1 to 20 digits, below 2^64, and `T=V`, `OUT/DELAY` and
+    `IN/E` without blanks. An output without a wire is `-`.
 ",
 };
 
@@ -88,14 +88,14 @@ pub(crate) const NO_HORIZON: Entry = Entry {
     text: "
   meaning:
     in a netlist: another statement before the first `horizon`
-    in a netlist: at the end, with the number of lines: there was no `horizon`
+    in a netlist: the text ends without a `horizon`; the line is the last one
   example, read by `mpwb waves`:
     wire a 1 0
   answer:
     mpwb: line 1: 5 NoHorizon
   remedy:
-    Begin the netlist with `horizon H`, or with `format 2` and then that. H is
-    the first time that isn't computed.
+    Begin the netlist with `horizon H`; only a `format` may come before it. H
+    is the first time that isn't computed.
 ",
 };
 
@@ -110,7 +110,7 @@ pub(crate) const SECOND_HORIZON: Entry = Entry {
   answer:
     mpwb: line 2: 6 SecondHorizon
   remedy:
-    Leave one of them. No edit changes a horizon either.
+    Keep one of them. No edit can change a horizon either.
 ",
 };
 
@@ -118,7 +118,8 @@ pub(crate) const REFUSED: Entry = Entry {
     subject: Topic::Text(TextCode::Refused(EditError::NameTaken)),
     text: "
   meaning:
-    in a netlist: the edit is refused, with a code of its own
+    in a netlist: the netlist refuses what the line adds, with a code of its
+      own
   example, read by `mpwb waves`:
     horizon 20
     wire a 1 0
@@ -126,7 +127,7 @@ pub(crate) const REFUSED: Entry = Entry {
   answer:
     mpwb: line 3: 7 Refused: 1 NameTaken
   remedy:
-    Look up the code behind `Refused:`, here by `mpwb explain NameTaken`.
+    Look up the code after `Refused:`, here with `mpwb explain NameTaken`.
 ",
 };
 
@@ -136,14 +137,15 @@ pub(crate) const TOO_LONG: Entry = Entry {
   meaning:
     in a netlist: line 0: the text is longer than 4,194,304 bytes, or with
       `format 4` than 1,073,741,824
-    in a script: of `mpwb play FILE`, a line of more than 65,536 bytes
+    in a script: a line of more than 65,536 bytes, in `mpwb play FILE`
   example, in a shell:
     yes '#' | head -c 4194305 | mpwb waves
   answer:
     mpwb: line 0: 8 TooLong
   remedy:
-    Shorten the text, or put `format 4` first: comments and blanks count too. A
-    script behind a netlist counts as well, and one for `mpwb play FILE` doesn't.
+    Shorten the text, or begin it with `format 4`. Comments and blanks count,
+    and so does a script after a netlist, but not a script for
+    `mpwb play FILE`.
 ",
 };
 
@@ -168,15 +170,15 @@ pub(crate) const BAD_FORMAT: Entry = Entry {
     text: "
   meaning:
     in a netlist: a `format` that isn't on the first line with words, whatever
-      its words
+      follows it
     in a netlist: the number of a `format` isn't 1, 2 or 4
   example, read by `mpwb waves`:
     format 3
   answer:
     mpwb: line 1: 10 BadFormat
   remedy:
-    Leave the statement away, or put it first: `format 2` lets the horizon be
-    above 65,536, `format 4` lets the netlist be larger too, and without it the
-    text is of `format 1`.
+    Remove the statement, or put it first. `format 2` allows a horizon above
+    65,536, and `format 4` a larger netlist as well. A text without it has the
+    format 1.
 ",
 };
