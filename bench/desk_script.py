@@ -12,12 +12,12 @@ from terminal import Terminal
 TOP = os.path.dirname(os.path.dirname(os.path.abspath(__file__)))
 SCRIPT = f"{TOP}/mpwb"
 NETLIST = f"{TOP}/examples/two-stage-control.net"
-OPENS = """mpwb: a seat is taken by ./mpwb join {} designer-1
-mpwb: the line seats tells which there are, and Ctrl-C ends the desk
+OPENS = """mpwb: to take a seat, run ./mpwb join {} designer-1
+mpwb: type seats to list the seats; Ctrl-C ends the desk
 """
-ENDS = "mpwb: the desk ends once all seats are left, or at once if interrupted again\n"
-KILLED = "mpwb: the desk was killed; what was accepted is kept at {}\n"
-GREETING = "mpwb: {} is yours. Ctrl-D leaves it. ./mpwb desk --help tells its lines\n"
+ENDS = "mpwb: the desk ends when everybody has left; another interrupt ends it at once\n"
+KILLED = "mpwb: the desk was killed; its accepted edits are kept in {}\n"
+GREETING = "mpwb: {} is yours until Ctrl-D; ./mpwb play --help lists what to type\n"
 UTF8 = {**os.environ, "LC_ALL": "C.UTF-8"}
 BEGUN = "mpwb: {} edits of {}/edits are made again\n"
 

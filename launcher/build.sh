@@ -24,7 +24,7 @@ time_taken() { echo "$((SECONDS / 60)) min $((SECONDS % 60)) s"; }
 tell_failure() {
     say_last "the program was not built: $1"
     tail -n 20 "$log" >&2
-    echo "mpwb: all that rt says stands in $log" >&2
+    echo "mpwb: the whole log is in $log" >&2
     exit 70
 }
 

@@ -31,14 +31,14 @@ read_words() {
 run_by_rt() {
     local status=0
     if [ "${1-}" = desk ] && [ -n "$(value_of --at "$@")" ]; then
-        echo "mpwb: with this kit only the program that ./mpwb build builds serves a live desk: run ./mpwb build first" >&2
+        echo "mpwb: with this kit only the proved program can serve a live desk: run ./mpwb build first" >&2
         exit 70
     fi
     case ${1-} in
     '' | -* | help | explain) words=("$@") input="" ;;
     *) read_words "$@" ;;
     esac
-    echo "mpwb: with this kit the program isn't kept, and is made again in two minutes or so" >&2
+    echo "mpwb: this kit can't keep the program, so it is built again, in about two minutes" >&2
     tell_checked
     if [ -n "$input" ] && ! cat >"$room/in" 2>/dev/null; then
         echo "mpwb: read failed" >&2
@@ -55,7 +55,7 @@ tell_rt_run() {
         cat "$room/out"
         grep -Ev '^(interpreter|checked|races|rt): |^run=ended ' "$room/log" >&2 || true
     elif grep -q '^checked: no-answer' "$room/log"; then
-        echo "mpwb: this run takes too long or writes too much for a program that isn't proved: run ./mpwb build first" >&2
+        echo "mpwb: this run takes too long or writes too much for a program without proofs: run ./mpwb build first" >&2
         exit 70
     else
         tell_no_program

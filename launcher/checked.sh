@@ -33,7 +33,7 @@ try_words() {
 
 make_checked() {
     begin_work
-    echo "mpwb: a program that isn't proved is made first, in two minutes or so" >&2
+    echo "mpwb: a program without proofs is built first, in about two minutes" >&2
     mkdir "$room/tmp"
     mkfifo "$room/netlist"
     : >"$room/in"
@@ -67,7 +67,7 @@ run_checked() {
 tell_failed_check() {
     case $1 in
     "$status_of_check" | 13[2-69])
-        echo "mpwb: a check failed at run time: the program is at fault, and what it answered isn't complete" >&2
+        echo "mpwb: a check failed at run time: the program has a fault, and its answer isn't complete" >&2
         exit 70
         ;;
     esac

@@ -45,7 +45,7 @@ cut_edits() {
     local edits=$desk_at/edits
     if [ ! -f "$edits" ] || [ ! -s "$edits" ] || [ -z "$(tail -c 1 "$edits" | tr -d '\n')" ]; then return; fi
     truncate -s "-$(tail -n 1 "$edits" | wc -c)" "$edits" 2>/dev/null || return 0
-    echo "mpwb: the last line of $edits has no end and is left out: nobody was told that it is accepted" >&2
+    echo "mpwb: the last line of $edits has no line feed and is cut off: nobody was told that it was accepted" >&2
 }
 
 # the program in the place of this process, which no interrupt of a terminal reaches
@@ -68,7 +68,7 @@ end_input() {
     woken=yes
     if [ -z "$ended" ]; then
         ended=yes
-        echo "mpwb: the desk ends once all seats are left, or at once if interrupted again" >&2 2>/dev/null || true
+        echo "mpwb: the desk ends when everybody has left; another interrupt ends it at once" >&2 2>/dev/null || true
         stop_feeding
     fi
 }
@@ -106,7 +106,7 @@ serve_desk() {
     done
     stop_feeding
     if [ "$chosen" != "$program" ]; then tell_failed_check "$status"; fi
-    if [ "$status" = "$status_of_kill" ]; then echo "mpwb: the desk was killed; what was accepted is kept at $desk_at" >&2; fi
+    if [ "$status" = "$status_of_kill" ]; then echo "mpwb: the desk was killed; its accepted edits are kept in $desk_at" >&2; fi
     exit "$status"
 }
 
@@ -115,8 +115,8 @@ is_live_desk() { [ "${1-}" = desk ] && [ -n "$(value_of --at "$@")" ] && ! is_gi
 # tells whoever begins a desk at a terminal how others come to it, and how it ends
 tell_seats() {
     if [ ! -t 0 ] || [ ! -t 2 ]; then return; fi
-    echo "mpwb: a seat is taken by ./mpwb join $desk_at designer-1" >&2
-    echo "mpwb: the line seats tells which there are, and Ctrl-C ends the desk" >&2
+    echo "mpwb: to take a seat, run ./mpwb join $desk_at designer-1" >&2
+    echo "mpwb: type seats to list the seats; Ctrl-C ends the desk" >&2
 }
 
 # a live desk at a folder

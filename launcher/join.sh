@@ -4,7 +4,7 @@
 typing="" # the process that passes on what is typed
 
 start_join() {
-    if [ $# != 2 ]; then refuse "./mpwb join FOLDER SEAT, as ./mpwb join meeting designer-1"; fi
+    if [ $# != 2 ]; then refuse "./mpwb join FOLDER SEAT, for example ./mpwb join meeting designer-1"; fi
     take_seat "$1" "$2"
     exec 3<&0
     trap 'exit 130' INT TERM HUP
@@ -35,7 +35,7 @@ talk() {
     trap 'echo; exit 130' INT
     # shellcheck disable=SC2016
     watch_by flock -s "$at" bash -c 'kill -s USR1 "$0"' $$
-    echo "mpwb: $name is yours. Ctrl-D leaves it. ./mpwb desk --help tells its lines"
+    echo "mpwb: $name is yours until Ctrl-D; ./mpwb play --help lists what to type"
     while [ -z "$is_last" ]; do
         printf '%s> ' "$name"
         if ! IFS= read -r line <&3; then is_last=yes; fi

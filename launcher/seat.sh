@@ -105,7 +105,7 @@ fail_left() {
 
 start_ask() {
     local line=${*:3}
-    if [ $# -lt 3 ] || [[ $line == *$'\n'* ]]; then refuse "./mpwb ask FOLDER SEAT LINE, as ./mpwb ask meeting viewer-1 text"; fi
+    if [ $# -lt 3 ] || [[ $line == *$'\n'* ]]; then refuse "./mpwb ask FOLDER SEAT LINE, for example ./mpwb ask meeting viewer-1 text"; fi
     take_seat "$1" "$2"
     { ask_seat "$line" && hear; } || fail_left "$1" "$2"
     if [ "$heard" = refusal ]; then exit 1; fi

@@ -8,7 +8,7 @@ most_tries=10 # to have an answer of one version, while others edit
 start_watch() {
     local question=${*:3}
     if [ $# -lt 2 ] || [[ $2 != viewer-* || $question == *$'\n'* ]]; then
-        refuse "./mpwb watch FOLDER SEAT [QUESTION ..] with a viewer's seat, as ./mpwb watch meeting viewer-1"
+        refuse "./mpwb watch FOLDER SEAT [QUESTION ..] with a viewer's seat, for example ./mpwb watch meeting viewer-1"
     fi
     need_desk "$1"
     if [ -z "$question" ]; then

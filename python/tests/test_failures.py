@@ -69,7 +69,7 @@ class StandIns(Case):
     def test_a_program_that_ends_otherwise(self) -> None:
         cases = [
             ("echo 'mpwb: out of memory' >&2; exit 4", OutOfMemory, 4, "MPWB_MEMORY"),
-            ("echo 'mpwb: there is no command rt' >&2; exit 70", ProgramFailed, 70, "there is no command rt"),
+            ("echo 'mpwb: command rt not found' >&2; exit 70", ProgramFailed, 70, "command rt not found"),
             ("echo 'error: unrecognized subcommand' >&2; exit 2", ProgramFailed, 2, "from the same checkout"),
             ("echo 'mpwb: read failed' >&2; exit 3", ProgramFailed, 3, "read failed"),
             ("echo 'mpwb: bad count' >&2; exit 1", ProgramFailed, 1, "bad count"),
