@@ -1,8 +1,8 @@
-//! The arguments of commands, as `clap` parses them.
+//! Forms of arguments, from which `clap` parses.
 use clap::{Arg, ArgAction, value_parser};
 use std::alloc::{AllocError, Global};
 
-/// An argument of a command: its name, what help calls its value, if it takes one, and says of it.
+/// An argument of a command: its name, the name of its value in help (empty if it takes none), its help, and what it takes.
 #[derive(Clone, Copy)]
 pub(crate) struct ArgumentForm {
     pub name: &'static str,
@@ -11,30 +11,30 @@ pub(crate) struct ArgumentForm {
     pub takes: ArgumentKind,
 }
 
-/// What an argument takes.
+/// The kind of an argument.
 #[derive(Clone, Copy)]
 pub(crate) enum ArgumentKind {
-    /// A word by its place, which may be left out.
+    /// A word by position, which may be left out.
     Word,
-    /// A word by its place.
+    /// A word by position.
     NeededWord,
-    /// A time by its place.
+    /// A time by position.
     NeededTime,
-    /// An option with a number, this one where none is given.
+    /// An option with a number, and its default.
     Number(&'static str),
-    /// An option with a number, which goes with another argument alone.
+    /// An option with a number, which requires another argument.
     NumberWith(&'static str),
-    /// An option with a word, which goes with another argument alone.
+    /// An option with a word, which requires another argument.
     WordWith(&'static str),
     /// An option with a word.
     OptionalWord,
-    /// An option with the values of these names, which goes with another argument alone.
+    /// An option with two values of these names, which requires another argument.
     PairWith(&'static [&'static str], &'static str),
     /// An option with a time.
     Time,
     /// An option with a word, which may be given several times.
     Words,
-    /// An option with nothing.
+    /// An option without a value.
     Nothing,
 }
 
@@ -72,7 +72,7 @@ impl ArgumentForm {
         self.placed(alloc).required(true)
     }
 
-    /// The argument that is known by its place, with what help calls its value, and says of it.
+    /// The argument by position, with the name of its value and its help.
     fn placed<'a>(&self, alloc: Global) -> Arg<'a> {
         self.named(Arg::new(alloc, self.name))
     }
@@ -105,7 +105,7 @@ impl ArgumentForm {
         )
     }
 
-    /// The option with what help calls its value, and says of it.
+    /// The option with the name of its value and its help.
     fn valued<'a>(&self, alloc: Global) -> Arg<'a> {
         self.named(self.option(alloc))
     }
@@ -115,7 +115,7 @@ impl ArgumentForm {
         Arg::new(alloc, self.name).long(self.name)
     }
 
-    /// The argument with what help calls its value, and says of it.
+    /// The argument with the name of its value and its help.
     fn named<'a>(&self, argument: Arg<'a>) -> Arg<'a> {
         argument.value_name(self.value).help(self.help)
     }

@@ -1,10 +1,10 @@
 //! The arguments of the commands.
 use crate::argument_form::{ArgumentForm, ArgumentKind};
 
-/// Arguments that stand together.
+/// Groups of arguments that commands share.
 #[derive(Clone, Copy)]
 pub(crate) enum Arguments {
-    /// The file that is read, and the crew.
+    /// FILE, and the number of threads.
     Input,
     /// A range of times.
     Range,
@@ -14,16 +14,16 @@ pub(crate) enum Arguments {
     Wire,
     /// A time.
     Moment,
-    /// How many steps of a chain are written.
+    /// The number of steps of a chain.
     Chain,
-    /// Who sits at a desk. The number of designers has no default, so that it is refused without a live desk.
+    /// The seats of a desk. The number of designers has no default, so it is refused without a live desk.
     Desk,
-    /// The word that is explained.
+    /// The word to explain.
     Word,
 }
 
 impl Arguments {
-    /// Their forms, in order.
+    /// The arguments of the group, in order.
     pub(crate) fn forms(self) -> &'static [ArgumentForm] {
         match self {
             Arguments::Input => &INPUT,

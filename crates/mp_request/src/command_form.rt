@@ -4,7 +4,7 @@ use crate::help::FORMS;
 use clap::Command as Parser;
 use std::alloc::{AllocError, Global};
 
-/// A command: what help says of it, and its arguments in order.
+/// A command: its name, its help, and its arguments in order.
 #[derive(Clone, Copy)]
 pub(crate) struct CommandForm {
     pub name: &'static str,
@@ -14,12 +14,12 @@ pub(crate) struct CommandForm {
 }
 
 impl CommandForm {
-    /// The command of this form, whose help ends with the kinds of module and what standard error says.
+    /// The command of this form, with the kinds of module and the exit statuses at the end of its help.
     pub(crate) fn command<'a>(&self, alloc: Global) -> Result<Parser<'a>, AllocError> {
         self.with_arguments(alloc, self.described(alloc).after_help(FORMS))
     }
 
-    /// The command of this form, whose help ends with its arguments.
+    /// The command of this form, with nothing after the arguments in its help.
     pub(crate) fn short_command<'a>(&self, alloc: Global) -> Result<Parser<'a>, AllocError> {
         self.with_arguments(alloc, self.described(alloc))
     }

@@ -1,11 +1,11 @@
-//! What the words ask for.
+//! The outcome of reading the command line.
 use crate::request::Request;
 
-/// What the words of the command line ask for.
+/// What the command line asks for.
 #[derive(Debug, Drop)]
 pub enum CommandLine<'a> {
-    /// What the word means, or what can be explained where there is none.
+    /// Explain the word, or list all that can be explained if there is none.
     Explain(Option<&'a str>),
-    /// A run of a command.
+    /// Run a command.
     Run(Request<'a>),
 }

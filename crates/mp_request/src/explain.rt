@@ -1,4 +1,4 @@
-//! What the codes that the program answers with and the kinds of event module mean, as texts.
+//! Texts that explain the codes of the program's answers and the kinds of event module.
 
 mod check_word;
 mod checks;

@@ -1,4 +1,4 @@
-//! What is shown of a line of a netlist's text that isn't read: the word at fault, and the name nearest to it.
+//! Shows a line of a netlist's text that can't be read, with the word at fault and the name nearest to it.
 //!
 //! `word_places.rt` finds the word if the line is wrong by itself, and `edit_places.rt` with `module_places.rt` if its edit is refused. `fault.rt` puts them
 //! together. Begin with `showing.rt`.

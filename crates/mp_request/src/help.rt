@@ -1,10 +1,10 @@
 //! The texts of `--help`: the program, and the commands that read a netlist.
 
-/// What the program is.
+/// The program.
 pub(crate) const ABOUT: &str =
     "A workbench for micropipelines: simulates and checks netlists of event modules.";
 
-/// How it ends.
+/// The exit statuses.
 pub(crate) const STATUS: &str = "\
 Exit status:
   0  success
@@ -16,7 +16,7 @@ Exit status:
 
 `mpwb explain WORD` explains a code or a kind of module, with an example.";
 
-/// What is behind the options of each command: the kinds of module, and what standard error says.
+/// What comes after the options of each command: the kinds of module, and the exit statuses.
 pub(crate) const FORMS: &str = "\
 Kinds of module, as KIND PARAM .. : IN .. > OUT ..
   BUF : a > y

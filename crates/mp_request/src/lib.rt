@@ -1,7 +1,7 @@
-//! What the program is asked for: the words of its command line, read by `clap`, and the texts that explain its answers.
+//! The command line, which `clap` reads, and the texts of help and of `explain`.
 //!
-//! The files at the top have the commands with their words, and the help. `explain` says what the codes that the program answers with and the kinds of
-//! event module mean. `faults` shows the word at fault of a netlist's text that isn't read. Begin with `request.rt`.
+//! The files at the top have the commands, their arguments and their help. `explain` says what the codes of the program's answers and the kinds of
+//! event module mean. `faults` shows the word at fault in a netlist's text that can't be read. Begin with `request.rt`.
 #![tactic(auto)]
 
 mod argument_form;

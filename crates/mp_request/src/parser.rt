@@ -1,4 +1,4 @@
-//! The commands and their options, as `clap` parses them.
+//! The commands and their options, from which `clap` parses.
 use crate::arguments::Arguments;
 use crate::command_form::CommandForm;
 use crate::help::{
@@ -114,7 +114,7 @@ pub(crate) fn parser<'a>(alloc: Global) -> Result<Parser<'a>, AllocError> {
     parser.subcommand(explain(alloc)?)
 }
 
-/// The commands that read a netlist. A proof of what takes them doesn't look at their texts.
+/// The commands that read a netlist. It is a function, so that proofs above don't look at their texts.
 fn commands() -> &'static [CommandForm] {
     &COMMANDS
 }

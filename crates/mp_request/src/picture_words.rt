@@ -1,24 +1,24 @@
-//! What a picture is asked for with.
+//! The options of a timing diagram.
 
-/// The options of a picture, as they were given.
+/// The options of a timing diagram, as they were given.
 #[derive(Debug, Drop)]
 pub struct PictureWords<'a> {
-    /// The names of the wires that are shown; none where all are. Where causes are drawn, the name of the wire that they lead to stands before them.
+    /// The names of the wires to show; none for all wires. If causes are drawn, the wire that they lead to comes first.
     pub wires: Vec<&'a str>,
-    /// The time of the level of which the causes are drawn, if they are.
+    /// The time of the level whose causes are drawn; `None` for no causes.
     pub causes: Option<u64>,
-    /// The first time that is shown, in units, 0 if none is given.
+    /// The first time to show, in units, 0 if none is given.
     pub from: u64,
-    /// The time before which the picture ends, in units, 2^64 - 1 if none is given.
+    /// The end of the times to show, in units, not included; 2^64 - 1 if none is given.
     pub to: u64,
     /// The greatest number of columns, 72 if none is given.
     pub columns: u32,
-    /// Whether ASCII alone is written.
+    /// Whether to write only ASCII characters.
     pub ascii: bool,
-    /// Whether levels are written in hex digits.
+    /// Whether to write levels in hexadecimal.
     pub hex: bool,
-    /// Whether an SVG file is written.
+    /// Whether to write an SVG file.
     pub svg: bool,
-    /// What stands above the times of an SVG file, `time in units` where nothing is given.
+    /// The label of the times in an SVG file, `time in units` if none is given.
     pub unit: &'a str,
 }

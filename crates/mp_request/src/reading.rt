@@ -1,4 +1,4 @@
-//! The words of the command line.
+//! Reads the words of the command line.
 ghost use Rattle.std.specs.Prelude.{◌≡◌, ◌≢◌, IfOk, IfSome, codes};
 ghost use Rattle.clap.specs.Values.{kind_of};
 ghost use Rattle.clap.specs.declared.error.kind.ErrorKind.TheVariants as kinds;
@@ -12,11 +12,11 @@ use clap::error::ErrorKind;
 use clap::{ArgMatches, Command as Parser, Error};
 use std::alloc::{AllocError, Global};
 
-/// The word that stands for standard input.
+/// FILE is this for standard input.
 const STANDARD_INPUT: &str = "-";
 
-/// What the words ask for, of which the first is the program's name. The error is what is told in its
-/// place: help, the version, what is wrong with the words, or want of memory.
+/// Reads the words of the command line, the program's name first. The error is what to print instead of a run: help, the version, or what is wrong
+/// with the words; or that memory ran out.
 pub fn read_words<'a>(alloc: Global, words: &'a [String]) -> Result<CommandLine<'a>, Error>
     ensures { IfOk result (λ asked. IfSome (file_of asked) (λ path. path.now ≢ codes "-")) }
 {
@@ -24,7 +24,7 @@ pub fn read_words<'a>(alloc: Global, words: &'a [String]) -> Result<CommandLine<
     asked(alloc, &matches)
 }
 
-/// What the words ask for that were found so.
+/// The request of these matches.
 fn asked<'a>(alloc: Global, matches: &ArgMatches<'a>) -> Result<CommandLine<'a>, Error>
     ensures { IfOk result (λ asked. IfSome (file_of asked) (λ path. path.now ≢ codes "-")) }
 {
@@ -40,7 +40,7 @@ fn asked<'a>(alloc: Global, matches: &ArgMatches<'a>) -> Result<CommandLine<'a>,
     }
 }
 
-/// What is told where the word of `explain` means nothing.
+/// The error of a word of `explain` that means nothing. `AllocError` comes if memory runs out.
 pub fn unknown_word(alloc: Global, word: &str) -> Result<Error, AllocError>
     ensures { IfOk result (λ error. kind_of error ≡ kinds.InvalidValue) }
 {
@@ -48,19 +48,19 @@ pub fn unknown_word(alloc: Global, word: &str) -> Result<Error, AllocError>
     unexplained(alloc, message.as_str())
 }
 
-/// What `explain` tells where its word is wrong in this way.
+/// The error of `explain` with this message.
 fn unexplained(alloc: Global, message: &str) -> Result<Error, AllocError>
     ensures { IfOk result (λ error. kind_of error ≡ kinds.InvalidValue) }
 {
     told_by(named_explain(alloc), ErrorKind::InvalidValue, message)
 }
 
-/// The command that tells what a word means, under the name by which it is run.
+/// The command `explain`, under the name by which it is run.
 fn named_explain<'a>(alloc: Global) -> Result<Parser<'a>, AllocError> {
     explain(alloc)?.bin_name("mpwb explain")
 }
 
-/// What is told where the words name no command that the program runs.
+/// The error of words that name no command.
 fn no_command(alloc: Global) -> Error {
     let message = "unrecognized subcommand";
     match told_by(parser(alloc), ErrorKind::InvalidSubcommand, message) {
@@ -69,7 +69,7 @@ fn no_command(alloc: Global) -> Error {
     }
 }
 
-/// What a command tells of a fault of this kind.
+/// A command's error of this kind, with this message.
 fn told_by(
     command: Result<Parser<'_>, AllocError>,
     kind: ErrorKind,
@@ -80,7 +80,7 @@ fn told_by(
     command?.error(kind, message)
 }
 
-/// The command of this word, with what is its own.
+/// The command that a word names, with its own arguments; `None` if it names none.
 fn command_of<'a>(
     alloc: Global,
     word: &str,
@@ -114,7 +114,7 @@ fn command_of<'a>(
     }))
 }
 
-/// A desk whose lines are in its input, or one that serves designers and viewers at a folder.
+/// A desk that serves people at a folder if there is `--at`, and otherwise one whose lines are in its input.
 fn desk_command<'a>(found: &ArgMatches<'a>) -> Command<'a> {
     match found.get_str("at") {
         None => Command::Desk,
@@ -146,13 +146,13 @@ fn picture_words<'a>(alloc: Global, found: &ArgMatches<'a>) -> Result<PictureWor
     })
 }
 
-/// The two values of an option, if it is given.
+/// The two values of an option, or `None` if it isn't given.
 fn pair<'a>(found: &ArgMatches<'a>, option: &str) -> Option<(&'a str, &'a str)> {
     let values = found.get_strs(option)?;
     Some((*values.first()?, *values.get(1)?))
 }
 
-/// The time that a word is. The error says that it is none.
+/// Reads a time. The error says that the word isn't one.
 fn time_in(alloc: Global, word: &str) -> Result<u64, Error> {
     match word.parse::<u64>() {
         Ok(time) => Ok(time),
@@ -160,28 +160,28 @@ fn time_in(alloc: Global, word: &str) -> Result<u64, Error> {
     }
 }
 
-/// What is told where the TIME of an option is none.
+/// The error of a TIME of `--causes` that isn't a number.
 fn no_time(alloc: Global, word: &str) -> Result<Error, AllocError> {
     let message = format!(in alloc; "invalid value '{word}' for '--causes <WIRE> <TIME>'")?;
     told_by(parser(alloc), ErrorKind::InvalidValue, message.as_str())
 }
 
-/// The name of the wire that a command is about.
+/// The argument WIRE.
 fn wire<'a>(found: &ArgMatches<'a>) -> &'a str {
     found.get_str("wire").unwrap_or("")
 }
 
-/// The time that a command is about.
+/// The argument TIME.
 fn time(found: &ArgMatches<'_>) -> u64 {
     found.get_one::<u64>("time").unwrap_or(0)
 }
 
-/// The first time of a range, 0 where none is given.
+/// The first time of a range, 0 if none is given.
 fn from(found: &ArgMatches<'_>) -> u64 {
     found.get_one::<u64>("from").unwrap_or(0)
 }
 
-/// The end of a range of times, 2^64 - 1 where none is given.
+/// The end of a range of times, 2^64 - 1 if none is given.
 fn to(found: &ArgMatches<'_>) -> u64 {
     found.get_one::<u64>("to").unwrap_or(u64::MAX)
 }
@@ -198,7 +198,7 @@ fn request<'a>(command: Command<'a>, found: &ArgMatches<'a>) -> Request<'a>
     }
 }
 
-/// The path that the word gives, if it doesn't stand for standard input.
+/// The path of FILE; `None` for standard input.
 fn path_in<'a>(word: Option<&'a str>) -> Option<&'a str>
     ensures { IfSome result (λ path. path.now ≢ codes "-") }
 {

@@ -1,19 +1,19 @@
-//! What the program is asked for.
+//! A command with its arguments.
 use crate::picture_words::PictureWords;
 use std::slice;
 
-/// What the program can do.
+/// A command, with the arguments that only it has.
 #[derive(Debug, Drop)]
 pub enum Command<'a> {
-    /// Write the waves of a netlist's text.
+    /// Write the wave of each wire.
     Waves,
-    /// Write the report of a netlist's text.
+    /// Write the findings.
     Report,
-    /// Tell whether a netlist's text works.
+    /// Check whether the netlist works.
     Check,
-    /// Write the value change dump of a netlist's text.
+    /// Write a value change dump.
     Dump,
-    /// Write a timing diagram of a netlist's text.
+    /// Draw a timing diagram.
     Show(PictureWords<'a>),
     /// Write the chain of causes of a wire's level at a time, in at most `steps` lines.
     Why {
@@ -21,7 +21,7 @@ pub enum Command<'a> {
         time: u64,
         steps: u32,
     },
-    /// Write where the time of that chain went.
+    /// Write how much time each module took in that chain.
     Path {
         wire: &'a str,
         time: u64,
@@ -30,37 +30,36 @@ pub enum Command<'a> {
     Waits {
         time: u64,
     },
-    /// Write the events, gaps and margins from one time on to before another.
+    /// Write events, gaps and margins at the times from `from` to `to - 1`.
     Measure {
         from: u64,
         to: u64,
     },
-    /// Write a netlist's text as a graph.
+    /// Write the netlist as a graph.
     Graph,
-    /// Write a netlist's text as Verilog.
+    /// Write the netlist as Verilog.
     Verilog,
-    /// Edit a netlist by a script, and answer its questions.
+    /// Make the edits of a script, and answer its questions.
     Play,
-    /// Have designers edit a netlist at the same time, while viewers read.
+    /// Let designers edit a netlist at the same time, while viewers read; their lines are in the input.
     Desk,
-    /// Serve this number of designers, and viewers, at the named pipes of a folder.
+    /// Serve this number of designers, and the viewers of the request, at the named pipes of a folder.
     LiveDesk {
         folder: &'a str,
         designers: u32,
     },
 }
 
-/// A command with its input and its numbers. The numbers are as they were given: whether a run can
-/// be made with them, the run tells.
+/// A command with its input and its numbers. The numbers are as they were given; a run reports those that are out of range.
 #[derive(Debug, Drop)]
 pub struct Request<'a> {
-    /// What is to be done.
+    /// The command.
     pub command: Command<'a>,
-    /// The path of the file that is read; `None` for standard input.
+    /// The path of the file to read; `None` for standard input.
     pub file: Option<&'a str>,
     /// The number of threads, 2 if none is given.
     pub workers: u32,
-    /// The least number of modules for which several threads are used, 256 if none is given.
+    /// Several threads are used only from this number of modules on, 256 if none is given.
     pub least: u32,
     /// The number of viewers of a desk, 2 if none is given.
     pub viewers: u32,
@@ -70,7 +69,7 @@ impl<'a> Request<'a> {
     ghost use Rattle.std.specs.Prelude.{◌≡◌};
     ghost use Rattle.mp_request.specs.Wires.{wires_of};
 
-    /// The names of the wires that the command speaks of, as they were given.
+    /// The names of the wires that the command is about, as they were given.
     pub fn wires(&self) -> &[&'a str]
         ensures { result.now ≡ wires_of self.now.command }
     {

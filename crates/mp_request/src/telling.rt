@@ -1,4 +1,4 @@
-//! What is told in place of a run.
+//! Prints help, the version or an error instead of a run.
 ghost use Rattle.std.specs.Prelude.{◌≡◌, IfOk, Err};
 ghost use Rattle.clap.specs.Values.{kind_of};
 ghost use Rattle.clap.specs.declared.error.kind.ErrorKind.TheVariants as kinds;
@@ -9,21 +9,20 @@ use clap::Error;
 use clap::error::ErrorKind;
 use thiserror::Error as DeriveError;
 
-/// Why nothing could be told.
+/// The reason why nothing could be printed.
 #[derive(Clone, Copy, Debug, PartialEq, Eq, DeriveError)]
 pub enum TellError {
-    /// Memory ran out while the words were read.
+    /// Memory ran out while the command line was read.
     #[error("out of memory")]
     OutOfMemory,
-    /// Standard output took no help or version.
+    /// Help or the version couldn't be written to standard output.
     #[error("write failed")]
     WriteFailed,
 }
 
-/// Tells what is told in place of a run, and returns the status with which the program ends: help
-/// and the version on standard output with 0, what is wrong with the words on standard error with 2.
-/// `OutOfMemory` comes where memory ran out while the words were read, `WriteFailed` where standard
-/// output takes no help or version.
+/// Prints what `read_words` returned instead of a request, and returns the exit status: help and the version to standard output with 0, an error to
+/// standard error with 2. `OutOfMemory` comes if memory ran out while the command line was read, and `WriteFailed` if help or the version can't be
+/// written.
 pub fn tell<R: Print + Eprint>(rt: &R, error: &Error) -> Result<u8, TellError>
     ensures memory { kind_of error.now ≡ kinds.OutOfMemory → result ≡ Err tell_errors.OutOfMemory }
     ensures status { IfOk result (λ status. status ≡ status_of_kind (kind_of error.now)) }

@@ -1,15 +1,15 @@
-//! What a check tells beside findings.
+//! What `check` reports besides findings.
 ghost use Rattle.std.specs.Prelude.{◌≡◌};
 ghost use Rattle.mp_request.specs.explain.CheckWords.{word_of};
 
-/// What a line of `check` tells that is no finding. The last three are notes on wires.
+/// What a line of `check` reports that isn't a finding. The last three are notes on wires.
 #[derive(Clone, Copy, Debug, PartialEq, Eq)]
 pub enum CheckWord {
-    /// Data come after their request.
+    /// Data of a bundle come after their request.
     Late,
-    /// Modules wait for each other for ever.
+    /// Modules wait for each other, and will for ever.
     Deadlock,
-    /// A wire becomes another level than the declared one.
+    /// A wire changes at once from its declared level.
     Becomes,
     /// Nothing drives a wire.
     Undriven,

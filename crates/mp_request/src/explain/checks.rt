@@ -1,4 +1,4 @@
-//! What a check tells beside findings, word by word.
+//! What `check` reports besides findings, explained word by word.
 use crate::explain::check_word::CheckWord;
 use crate::explain::entry::Entry;
 use crate::explain::topic::Topic;

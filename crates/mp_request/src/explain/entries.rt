@@ -1,4 +1,4 @@
-//! All that can be explained.
+//! All explanations.
 ghost use Rattle.std.specs.Prelude.{◌≡◌, IfOk, map};
 ghost use Rattle.mp_modules.specs.Findings.{by_number};
 ghost use Rattle.mp_request.specs.explain.Subjects.{all_kinds, check_words, refusals, seat_refusals, subjects, text_faults};
@@ -28,10 +28,10 @@ use crate::explain::text_faults::{
 };
 use std::alloc::{AllocError, Global};
 
-/// All that can be explained: each code of a text, of an edit, of a seat and of a finding, by number, each word of a check, and each kind of module.
+/// The explanations of each code of a text, of an edit, of a seat and of a finding, by number, of each word of `check`, and of each kind of module.
 /// `AllocError` comes if memory runs out.
 ///
-/// Each part of it is a function of its own: the more text a function names, the more steps its proof takes.
+/// Each group is a function of its own, since a proof takes more steps the more text its function names.
 pub fn guide(alloc: Global) -> Result<Vec<Entry>, AllocError>
     ensures { IfOk result (λ guide. map (λ entry. entry.subject) guide.items ≡ subjects) }
 {
@@ -91,7 +91,7 @@ fn refusals() -> &'static [Entry]
     ]
 }
 
-/// The codes of seats alone, by number.
+/// The codes that come only at seats, by number.
 fn seat_refusals() -> &'static [Entry]
     ensures { map (λ entry. entry.subject) result.now ≡ map Seat seat_refusals }
 {
@@ -120,7 +120,7 @@ fn findings() -> &'static [Entry]
     ]
 }
 
-/// What a check tells beside findings.
+/// What `check` reports besides findings.
 fn checks() -> &'static [Entry]
     ensures { map (λ entry. entry.subject) result.now ≡ map Check check_words }
 {

@@ -1,4 +1,4 @@
-//! What is told of a word.
+//! Writes the explanation of a word.
 ghost use Rattle.std.specs.Prelude.{◌≡◌, ◌∷◌, [], IfOk};
 ghost use Rattle.std.specs.List.{flat_map};
 ghost use Rattle.mp_streams.specs.Outgoing.{Writes};
@@ -8,8 +8,8 @@ ghost use Rattle.mp_request.specs.explain.Subjects.{is_called};
 use crate::explain::entry::Entry;
 use mp_streams::{Failed, Out, Sink, Text};
 
-/// Writes the titles of a guide, a line each. `Failed` comes if the sink fails: then some of what was held and of the lines, from the
-/// front, is with the sink, and nothing is held.
+/// Writes the titles of a guide, one on each line. `Failed` comes if the sink fails; then the sink has a beginning of what `out` held and of the
+/// lines, and `out` holds nothing.
 pub fn put_titles<S: Sink>(out: &mut Out<S>, guide: &[Entry]) -> Result<(), Failed>
     ensures { Writes result out.old out.new (flat_map title_line guide.now) }
 {
@@ -19,8 +19,7 @@ pub fn put_titles<S: Sink>(out: &mut Out<S>, guide: &[Entry]) -> Result<(), Fail
     Ok(())
 }
 
-/// Writes what a guide tells of a word, all that it may mean, and returns whether it means anything; where it doesn't, nothing is written.
-/// `Failed` is as that of `put_titles`.
+/// Writes every entry of a guide that a word names, and returns whether there is one. `Failed` comes as in `put_titles`.
 pub fn put_explanation<S: Sink>(
     out: &mut Out<S>,
     guide: &[Entry],
@@ -36,7 +35,7 @@ pub fn put_explanation<S: Sink>(
     Ok(is_known)
 }
 
-/// Writes an entry if the word means it, and returns whether it does.
+/// Writes an entry if the word names it, and returns whether it does.
 fn put_if_meant<S: Sink>(out: &mut Out<S>, entry: &Entry, word: &str) -> Result<bool, Failed>
     ensures text { Writes result out.old out.new (explanation word.now (entry.now ∷ [])) }
     ensures meant { IfOk result (λ meant. meant ≡ is_called word.now entry.now.subject) }

@@ -1,4 +1,4 @@
-//! What may be found at modules and bundles, told code by code.
+//! The findings at modules and bundles, explained code by code.
 use crate::explain::entry::Entry;
 use crate::explain::topic::Topic;
 use mp_modules::FindingCode;

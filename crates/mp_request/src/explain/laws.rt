@@ -1,7 +1,7 @@
-//! What the guide has.
+//! A law of the guide.
 ghost use Rattle.mp_request.specs.explain.Laws.{TellsOfEach};
 
-/// Each code, whatever it holds, each word of a check and each kind of module is told of under its title.
+/// The guide has an entry under the title of each code, whatever the code holds, of each word of `check`, and of each kind of module.
 pub fn tells_of_each()
     ensures { TellsOfEach }
 {}

@@ -1,4 +1,4 @@
-//! Why an edit is refused for what it names, or for want of room, told code by code.
+//! The refusals of an edit for its names or for lack of room, explained code by code.
 use crate::explain::entry::Entry;
 use crate::explain::topic::Topic;
 use mp_records::EditError;

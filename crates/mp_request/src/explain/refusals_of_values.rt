@@ -1,4 +1,4 @@
-//! Why an edit is refused for its numbers and its shape, told code by code.
+//! The refusals of an edit for its numbers and its shape, explained code by code.
 use crate::explain::entry::Entry;
 use crate::explain::topic::Topic;
 use mp_records::EditError;

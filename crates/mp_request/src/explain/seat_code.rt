@@ -1,18 +1,18 @@
-//! Why a line is refused at a seat alone.
+//! The codes that come only at seats.
 ghost use Rattle.std.specs.Prelude.{◌≡◌};
 ghost use Rattle.mp_request.specs.explain.SeatCodes.{name_of, number_of};
 
-/// Why a line is refused at a seat of a live desk, and nowhere else.
+/// The reason why a line is refused at a seat of a live desk, and nowhere else.
 #[derive(Clone, Copy, Debug, PartialEq, Eq)]
 pub enum SeatCode {
-    /// Only a designer edits.
+    /// Only designers can edit.
     NotADesigner,
-    /// The work of an edit isn't known there.
+    /// A seat doesn't know what an edit computed again.
     NoWork,
 }
 
 impl SeatCode {
-    /// The number that is written, 22 or 23.
+    /// The number of the code, 22 or 23.
     pub fn number(self) -> u32
         ensures { result ≡ number_of self }
     {
@@ -22,7 +22,7 @@ impl SeatCode {
         }
     }
 
-    /// The name that is written.
+    /// The name of the code.
     pub fn name(self) -> &'static str
         ensures { result.now ≡ name_of self }
     {

@@ -1,4 +1,4 @@
-//! Why a line is refused at a seat alone, told code by code.
+//! The refusals that come only at a seat, explained code by code.
 use crate::explain::entry::Entry;
 use crate::explain::seat_code::SeatCode;
 use crate::explain::topic::Topic;

@@ -1,4 +1,4 @@
-//! What is wrong with a netlist's text or a line of a script, told code by code.
+//! The faults of netlists' texts and of script lines, explained code by code.
 use crate::explain::entry::Entry;
 use crate::explain::topic::Topic;
 use mp_records::EditError;

@@ -11,25 +11,25 @@ use mp_records::EditError;
 use mp_streams::{Failed, Out, Sink, Text};
 use mp_text::TextCode;
 
-/// What can be explained: a code or a word that the program answers with, or a kind of module.
+/// What can be explained: a code or a word of the program's answers, or a kind of module.
 #[derive(Clone, Copy, Debug, PartialEq, Eq)]
 pub enum Topic {
-    /// What is wrong with a netlist's text or with a line of a script.
+    /// A fault of a netlist's text or of a line of a script.
     Text(TextCode),
-    /// Why an edit is refused.
+    /// The reason why an edit is refused.
     Edit(EditError),
-    /// Why a line is refused at a seat alone.
+    /// The reason why a line is refused only at a seat.
     Seat(SeatCode),
-    /// What is found at a module or a bundle.
+    /// A finding at a module or a bundle.
     Finding(FindingCode),
-    /// What a check tells beside findings.
+    /// What `check` reports besides findings.
     Check(CheckWord),
-    /// What a module does.
+    /// A kind of module.
     Kind(Kind),
 }
 
 impl Topic {
-    /// Whether the word is its name, in capital or small letters, or, of a code, its number.
+    /// Whether the word is its name, without regard to case, or the number of its code.
     pub fn is_called(self, word: &str) -> bool
         ensures { result ≡ is_called word.now self }
     {
@@ -44,7 +44,7 @@ impl Topic {
     }
 }
 
-/// As `edit 1 NameTaken` or `kind C`.
+/// The title, such as `edit 1 NameTaken` or `kind C`.
 impl Text for Topic {
     ghost text = { λ subject. title subject };
 

@@ -10,7 +10,7 @@ use mp_netlist::{Changes, Edit, EditError, Name, Netlist, NewBundle, SingleEdit}
 use mp_text::{Line, LineError, read_line};
 use std::alloc::{AllocError, Global};
 
-/// The word at fault in a line whose edit this netlist refuses. The error comes where memory is wanting.
+/// The word at fault in a line whose edit this netlist refuses. `AllocError` comes if memory runs out.
 pub(crate) fn refusal_place(
     alloc: Global,
     netlist: &Option<Netlist>,
@@ -28,7 +28,7 @@ pub(crate) fn refusal_place(
     }
 }
 
-/// The edit that a line states, where it states one.
+/// The edit that a line states; `None` if it states none.
 fn edit_at(alloc: Global, line: &[u8]) -> Result<Option<SingleEdit>, AllocError>
     ensures { IfOk result (λ edit. edit ≡ edit_at line.now) }
 {
@@ -93,7 +93,7 @@ fn stimulus_place(netlist: &Netlist, wire: &Name, changes: &Changes, error: Edit
     }
 }
 
-/// How many changes stand before the first whose time isn't above the one before and below the horizon, or whose value doesn't fit.
+/// The number of changes before the first one that isn't good: its time isn't above the one before and below the horizon, or its value doesn't fit.
 fn good_changes(horizon: u64, width: u64, changes: &[(u64, u64)]) -> usize
     ensures value { result ≡ good_changes horizon width 0 changes.now }
     ensures small { result < 9223372036854775808 }
@@ -108,7 +108,7 @@ fn good_changes(horizon: u64, width: u64, changes: &[(u64, u64)]) -> usize
     changes.len()
 }
 
-/// Whether a change's time is above the one before and below the horizon, and its value fits.
+/// Whether the time of a change is above the one before and below the horizon, and its value fits into the width.
 fn is_good(horizon: u64, width: u64, before: u64, change: (u64, u64)) -> bool
     ensures { result ≡ is_good horizon width before change }
 {

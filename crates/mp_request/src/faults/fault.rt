@@ -1,4 +1,4 @@
-//! The word at fault in a line that isn't read, and the name nearest to it.
+//! The word at fault in a line that can't be read, and the name nearest to it.
 ghost use Rattle.std.specs.Prelude.{◌≡◌, IfOk, IsAscii, unwrap_or, slice_get, []};
 ghost use Rattle.mp_text.specs.Names.{texts, AreAscii, words_of};
 ghost use Rattle.mp_request.specs.faults.Faults.{place_in, plain_span, plain_near, fault_span, fault_near, near_in, near_wire};
@@ -15,16 +15,16 @@ use mp_netlist::{EditError, Name, Netlist};
 use mp_text::{LineError, TextCode, TextError, is_plain, words};
 use std::alloc::{AllocError, Global};
 
-/// What is at fault in a line that isn't read.
+/// What is wrong in a line that can't be read.
 #[derive(Drop)]
 pub(crate) struct Fault {
-    /// Where the word stands in its line: from its first byte to the place behind its last.
+    /// The word in its line: the index of its first byte, and the index after its last.
     pub(crate) span: (usize, usize),
-    /// The name nearest to the word, where one is near.
+    /// The name nearest to the word; `None` if none is near.
     pub(crate) near: Option<Name>,
 }
 
-/// What is at fault in the line of the error. The error comes where memory is wanting.
+/// Finds what is wrong in the line of the error. `AllocError` comes if memory runs out.
 pub(crate) fn find_fault(alloc: Global, text: &[u8], error: TextError) -> Result<Fault, AllocError>
     ensures span { IfOk result (λ fault. fault.span ≡ fault_span text.now error) }
     ensures near { IfOk result (λ fault. fault.near ≡ fault_near text.now error) }
@@ -38,7 +38,7 @@ pub(crate) fn find_fault(alloc: Global, text: &[u8], error: TextError) -> Result
     plain_fault(alloc, text, error, &netlist)
 }
 
-/// What is at fault in a line whose bytes are all allowed, before which this netlist stands if its edit is refused.
+/// Finds what is wrong in a line whose bytes are all allowed. If its edit is refused, `netlist` is the netlist before it.
 fn plain_fault(
     alloc: Global,
     text: &[u8],
@@ -58,7 +58,7 @@ fn plain_fault(
     Ok(Fault { span, near })
 }
 
-/// The word at fault among the words of the line, before which this netlist stands if its edit is refused.
+/// The place of the word at fault. If the edit of the line is refused, `netlist` is the netlist before it.
 fn place_in(
     alloc: Global,
     text: &[u8],
@@ -78,7 +78,7 @@ fn place_in(
     }
 }
 
-/// The name nearest to the word behind so many others, where it stands for a statement, a kind or a wire and one is near.
+/// The name nearest to the word at `index`, if that should be a statement, a kind or a wire; `None` if no name is near.
 fn near_in(
     alloc: Global,
     netlist: &Option<Netlist>,
@@ -99,7 +99,7 @@ fn near_in(
     }
 }
 
-/// The wire whose name is nearest to a word, where a netlist stands and one is near.
+/// The wire whose name is nearest to a word; `None` if there is no netlist or no name is near.
 fn near_wire(
     alloc: Global,
     netlist: &Option<Netlist>,
@@ -113,7 +113,7 @@ fn near_wire(
     }
 }
 
-/// The word behind so many others, and no text where there are fewer.
+/// The word at this index; empty if there are fewer words.
 fn word_at<'a>(words: &[&'a [u8]], index: usize) -> &'a [u8]
     ensures { result.now ≡ unwrap_or (slice_get (texts words.now) index) [] }
 {
@@ -123,7 +123,7 @@ fn word_at<'a>(words: &[&'a [u8]], index: usize) -> &'a [u8]
     &[]
 }
 
-/// What stands before the first `/`.
+/// The bytes before the first `/`.
 fn name_part(word: &[u8]) -> &[u8]
     ensures { result.now ≡ name_part word.now }
 {

@@ -6,7 +6,7 @@ ghost use Rattle.mp_text.specs.Names.{texts, AreAscii};
 ghost use Rattle.mp_text.specs.Statements.{is_mark};
 ghost use Rattle.mp_request.specs.faults.Places.{module_parts};
 
-/// The words behind a module's kind: its parameters, its inputs and its outputs.
+/// The words after the kind of a module: its parameters, its inputs and its outputs.
 #[derive(Clone, Copy)]
 pub(crate) struct ModuleParts<'a, 'b> {
     pub(crate) params: &'a [&'b [u8]],
@@ -14,7 +14,7 @@ pub(crate) struct ModuleParts<'a, 'b> {
     pub(crate) outputs: &'a [&'b [u8]],
 }
 
-/// The parts of the words of a module's line. Parameters end at the first `:`, inputs at the first `>` behind it.
+/// Divides the words of a module's line. The parameters end at the first `:`, and the inputs at the first `>` after it.
 pub(crate) fn module_parts<'a, 'b>(words: &'a [&'b [u8]]) -> ModuleParts<'a, 'b>
     requires { AreAscii words.now }
     ensures params { texts result.params.now ≡ (module_parts (texts words.now)).params }
@@ -33,7 +33,7 @@ pub(crate) fn module_parts<'a, 'b>(words: &'a [&'b [u8]]) -> ModuleParts<'a, 'b>
     }
 }
 
-/// The words behind the first ones: none where there are fewer.
+/// The words after the first `count`, or none if there are fewer.
 #[tactic(auto, using(crate::proofs::lemmas::faults::WordLemmas::behind_steps))]
 pub(crate) fn behind<'a, 'b>(words: &'a [&'b [u8]], count: usize) -> &'a [&'b [u8]]
     requires { AreAscii words.now }
@@ -43,7 +43,7 @@ pub(crate) fn behind<'a, 'b>(words: &'a [&'b [u8]], count: usize) -> &'a [&'b [u
     &words[count.min(words.len())..]
 }
 
-/// The words before and behind the first that is this byte alone: all and none where there is none.
+/// The words before and after the first word that is this byte alone; all words and none if there is no such word.
 #[tactic(auto, using(crate::proofs::lemmas::faults::WordLemmas::divided_steps))]
 fn divided<'a, 'b>(mark: u8, words: &'a [&'b [u8]]) -> (&'a [&'b [u8]], &'a [&'b [u8]])
     requires { AreAscii words.now }

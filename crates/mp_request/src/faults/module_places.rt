@@ -33,7 +33,7 @@ pub(crate) fn module_place(netlist: &Netlist, new: &NewModule, error: EditError)
     }
 }
 
-/// An input, where there are more than so many inputs, and else an output.
+/// The place of the input at index `input` if there is one, and otherwise of the output at index `output`.
 pub(crate) fn port_place(inputs: usize, input: usize, output: usize) -> Place
     ensures { result ≡ port_place inputs input output }
 {
@@ -43,7 +43,7 @@ pub(crate) fn port_place(inputs: usize, input: usize, output: usize) -> Place
     Place::Output(output)
 }
 
-/// The first input too many, or the one behind the last; and else such an output.
+/// The first input too many, or the end of the inputs if one is missing; otherwise the same of the outputs.
 fn uncounted_port(new: &NewModule) -> Place
     ensures { result ≡ uncounted_port new.now }
 {
@@ -54,7 +54,7 @@ fn uncounted_port(new: &NewModule) -> Place
     Place::Input(inputs.min(new.kind.inputs()))
 }
 
-/// The first port whose wire doesn't stand.
+/// The first port whose wire doesn't exist.
 fn missing_port(netlist: &Netlist, new: &NewModule) -> Place
     ensures { result ≡ missing_port netlist.now new.now }
 {
@@ -88,7 +88,7 @@ fn missing_output(netlist: &Netlist, outputs: &[OutputName]) -> usize
     outputs.len()
 }
 
-/// The first port whose wire hasn't the port's width.
+/// The first port whose wire has another width than the port.
 fn misfit_port(netlist: &Netlist, new: &NewModule) -> Place
     ensures { result ≡ misfit_port netlist.now new.now }
 {
@@ -136,7 +136,7 @@ fn new_width(netlist: &Netlist, kind: Kind, inputs: &[InputName]) -> u32
     }
 }
 
-/// The first parameter out of its range or too many, or the one behind the last.
+/// The first parameter out of its range or too many, or the end of the parameters if one is missing.
 fn bad_param(kind: Kind, width: u32, params: &[u64]) -> Place
     ensures { result ≡ bad_param kind width params.now }
 {
@@ -155,7 +155,7 @@ fn unfit_param(kind: Kind, width: u32, params: &[u64]) -> usize
 }
 
 #[tactic(auto, unfolding(mp_modules::specs::Levels::fits_width))]
-/// Whether the number is below what each parameter is below.
+/// Whether the number is below the bound of the kind's parameters.
 fn is_in_range(kind: Kind, width: u32, param: u64) -> bool
     ensures { result ≡ nat_lt param (param_bound kind width) }
 {
@@ -167,7 +167,7 @@ fn is_in_range(kind: Kind, width: u32, param: u64) -> bool
     }
 }
 
-/// The first port with a delay that it may not have.
+/// The first port with a delay out of range.
 fn bad_delay(new: &NewModule) -> Place
     ensures { result ≡ bad_delay new.now }
 {
@@ -201,7 +201,7 @@ fn unfit_output(outputs: &[OutputName]) -> usize
     outputs.len()
 }
 
-/// The first output whose wire is driven already, or named by an output before it.
+/// The first output whose wire is driven already or named by an earlier output.
 fn taken_output(netlist: &Netlist, outputs: &[OutputName]) -> usize
     ensures { result ≡ taken_output netlist.now outputs.now }
 {

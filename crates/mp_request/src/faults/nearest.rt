@@ -9,7 +9,7 @@ use mp_netlist::{Name, Netlist, WireId};
 use std::alloc::{AllocError, Global};
 use strsim::generic_levenshtein;
 
-/// How long a name may be, in bytes.
+/// The greatest length of a name, in bytes.
 const NAME_BYTES: usize = 32;
 
 /// The first words of a netlist's lines.
@@ -21,21 +21,21 @@ const KINDS: [&str; 13] = [
     "BIT",
 ];
 
-/// The statement that is nearest to a word, where one is near. The error comes where memory is wanting.
+/// The statement nearest to a word; `None` if none is near. `AllocError` comes if memory runs out.
 pub(crate) fn near_statement(alloc: Global, word: &[u8]) -> Result<Option<Name>, AllocError>
     ensures { IfOk result (λ near. near ≡ nearest word.now statement_words) }
 {
     near_word(alloc, word, &STATEMENTS)
 }
 
-/// The kind of module that is nearest to a word, where one is near. The error comes where memory is wanting.
+/// The kind of module nearest to a word; `None` if none is near. `AllocError` comes if memory runs out.
 pub(crate) fn near_kind(alloc: Global, word: &[u8]) -> Result<Option<Name>, AllocError>
     ensures { IfOk result (λ near. near ≡ nearest word.now kind_words) }
 {
     near_word(alloc, word, &KINDS)
 }
 
-/// The nearest of some words, where one is near.
+/// The nearest of some names; `None` if none is near.
 #[tactic(auto, using(crate::proofs::lemmas::faults::NearLemmas::near_word_steps))]
 fn near_word(alloc: Global, word: &[u8], words: &[&str]) -> Result<Option<Name>, AllocError>
     ensures { IfOk result (λ near. near ≡ nearest word.now (map (λ name. name.now) words.now)) }
@@ -47,7 +47,7 @@ fn near_word(alloc: Global, word: &[u8], words: &[&str]) -> Result<Option<Name>,
     Ok(best)
 }
 
-/// The wire that stands and whose name is nearest to a word, where one is near. The error comes where memory is wanting.
+/// The wire whose name is nearest to a word; `None` if none is near. `AllocError` comes if memory runs out.
 #[tactic(auto, using(crate::proofs::lemmas::faults::NearLemmas::near_wire_steps))]
 pub(crate) fn near_wire(
     alloc: Global,
@@ -65,7 +65,7 @@ pub(crate) fn near_wire(
     Ok(best)
 }
 
-/// The nearer of two names, of which the first may be none.
+/// The nearer of two names; the first one may be `None`.
 fn nearer(
     alloc: Global,
     word: &[u8],
@@ -84,7 +84,7 @@ fn nearer(
     Ok(Some(name))
 }
 
-/// Whether the distance is below that of the name, if there is one.
+/// Whether the distance is below that of the name, or there is no name.
 fn is_nearer(
     alloc: Global,
     word: &[u8],
@@ -99,7 +99,7 @@ fn is_nearer(
     }
 }
 
-/// How many insertions, deletions and substitutions lead from the word to the name, capital and small letters being the same.
+/// The edit distance of two words, without regard to case: the least number of insertions, deletions and substitutions.
 fn distance(alloc: Global, word: &[u8], name: &Name) -> Result<usize, AllocError>
     ensures { IfOk result (λ count. count ≡ distance word.now name.now) }
 {

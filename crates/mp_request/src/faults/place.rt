@@ -1,25 +1,25 @@
-//! Where a word stands in a line, by what it is there for.
+//! The place of a word in a line, by its role.
 ghost use Rattle.std.specs.Prelude.{◌≡◌, ◌≤◌, length, min};
 ghost use Rattle.mp_text.specs.Names.{texts, AreAscii};
 ghost use Rattle.mp_request.specs.faults.Places.{index, index_in, module_parts};
 
 use crate::faults::module_parts::{ModuleParts, module_parts};
 
-/// A word of a line. Behind the last of its sort it is the mark that ends these, or the end of the line.
+/// The place of a word. The place after the last parameter, input or output is the mark that ends them, or the end of the line.
 #[derive(Clone, Copy)]
 pub(crate) enum Place {
-    /// By how many words stand before it.
+    /// The word at this index.
     Word(usize),
-    /// Of a module's parameters.
+    /// The parameter of a module at this index.
     Param(usize),
-    /// Of its inputs.
+    /// The input at this index.
     Input(usize),
-    /// Of its outputs.
+    /// The output at this index.
     Output(usize),
 }
 
 impl Place {
-    /// How many words of the line stand before it: all of them where the line has no such word.
+    /// The index of the word in the line; the number of words if the line has no such word.
     pub(crate) fn index(self, words: &[&[u8]]) -> usize
         requires { AreAscii words.now }
         ensures { result ≡ index (texts words.now) self }
@@ -27,7 +27,7 @@ impl Place {
         words.len().min(self.index_in(module_parts(words)))
     }
 
-    /// The same in a line with these parts, or the greatest number.
+    /// The index in a line with these parts, or `usize::MAX` if it is greater than that.
     fn index_in(self, parts: ModuleParts<'_, '_>) -> usize
         ensures { result ≡ min 18446744073709551615
             (index_in (record { params = texts parts.entry.params.now; inputs = texts parts.entry.inputs.now; outputs = texts parts.entry.outputs.now }) self) }

@@ -1,4 +1,4 @@
-//! What is shown of a line that isn't read.
+//! What is shown of a line that can't be read.
 ghost use Rattle.std.specs.Prelude.{◌≡◌, ◌++◌, ◌-◌, IfOk, map, take, drop, replicate};
 ghost use Rattle.std.specs.Fmt.{decimal};
 ghost use Rattle.mp_request.specs.faults.FaultTexts.{shown_byte, dots_before, dots_behind, shown_part, marks, margin, located, fault_line, meant, suggestion, fault_text, width, lead};
@@ -10,15 +10,14 @@ use mp_netlist::Name;
 use mp_text::TextError;
 use std::alloc::{AllocError, Global};
 
-/// How many bytes of a line are shown.
+/// At most this many bytes of a line are shown.
 const WIDTH: usize = 68;
 
-/// How many of these at most stand before the word at fault.
+/// At most this many of them are before the word at fault.
 const LEAD: usize = 32;
 
-/// What is shown of a line of a text that isn't read, without the last line feed: the line with its number, marks below the word at fault, and
-/// the meaning of the error, with a name that is near to the word. Of line 0, which is none, it is the meaning alone. The error comes where memory is
-/// wanting.
+/// Shows a line that can't be read: the line with its number, marks below the word at fault, and the meaning of the error with a name near the word,
+/// without the last line feed. For line 0, which is no line, it is the meaning alone. `AllocError` comes if memory runs out.
 pub fn fault_text(
     alloc: Global,
     text: &[u8],
@@ -36,7 +35,7 @@ pub fn fault_text(
     Ok(shown)
 }
 
-/// Puts the line of the error behind what is shown, with marks below the word at fault, if there is such a line.
+/// Appends the line of the error with marks below the word at fault, unless the error is of line 0.
 fn push_fault_line(
     shown: &mut Vec<u8>,
     text: &[u8],
@@ -51,7 +50,7 @@ fn push_fault_line(
     push_line(shown, line_numbered(text, error.line), error.line, span)
 }
 
-/// Puts the line with its number behind the text, and the marks below.
+/// Appends the line with its number, and the marks below it.
 fn push_line(
     text: &mut Vec<u8>,
     line: &[u8],
@@ -71,7 +70,7 @@ fn push_line(
     text.extend_from_slice(b"\n")
 }
 
-/// Puts the number of a line behind the text, and a bar.
+/// Appends the number of a line and a bar.
 fn push_margin(text: &mut Vec<u8>, number: &[u8]) -> Result<(), AllocError>
     ensures { IfOk result (λ _. text.new.items ≡ text.old.items ++ margin number.now) }
 {
@@ -80,7 +79,7 @@ fn push_margin(text: &mut Vec<u8>, number: &[u8]) -> Result<(), AllocError>
     text.extend_from_slice(b" | ")
 }
 
-/// Puts the part of the line around a word behind the text, which begins at this place.
+/// Appends the part of the line around the word that begins at `from`.
 fn push_part(text: &mut Vec<u8>, line: &[u8], from: usize) -> Result<(), AllocError>
     ensures { IfOk result (λ _. text.new.items ≡ text.old.items ++ shown_part line.now from) }
 {
@@ -89,7 +88,7 @@ fn push_part(text: &mut Vec<u8>, line: &[u8], from: usize) -> Result<(), AllocEr
     text.extend_from_slice(dots_behind(from, line.len()))
 }
 
-/// The first bytes: all where there are fewer.
+/// The first `count` bytes, or all if there are fewer.
 #[tactic(auto, using(crate::proofs::lemmas::faults::WordLemmas::part_steps))]
 fn front(count: usize, bytes: &[u8]) -> &[u8]
     ensures { result.now ≡ take count bytes.now }
@@ -97,7 +96,7 @@ fn front(count: usize, bytes: &[u8]) -> &[u8]
     &bytes[..count.min(bytes.len())]
 }
 
-/// The bytes behind the first ones: none where there are fewer.
+/// The bytes after the first `count`, or none if there are fewer.
 #[tactic(auto, using(crate::proofs::lemmas::faults::WordLemmas::part_steps))]
 fn behind(count: usize, bytes: &[u8]) -> &[u8]
     ensures { result.now ≡ drop count bytes.now }
@@ -105,7 +104,7 @@ fn behind(count: usize, bytes: &[u8]) -> &[u8]
     &bytes[count.min(bytes.len())..]
 }
 
-/// Two dots, if something is left out before a word that begins at this place.
+/// Two dots if something is left out before the word that begins at `from`.
 fn dots_before(from: usize) -> &'static [u8]
     ensures { result.now ≡ dots_before from }
 {
@@ -115,7 +114,7 @@ fn dots_before(from: usize) -> &'static [u8]
     b"..".as_slice()
 }
 
-/// Two dots, if something is left out behind the part around a word that begins at this place, in a line of so many bytes.
+/// Two dots if something is left out after the part around the word that begins at `from`, in a line of `count` bytes.
 fn dots_behind(from: usize, count: usize) -> &'static [u8]
     ensures { result.now ≡ dots_behind from count }
 {
@@ -125,7 +124,7 @@ fn dots_behind(from: usize, count: usize) -> &'static [u8]
     b"..".as_slice()
 }
 
-/// Puts the bytes behind the text, as they are shown.
+/// Appends the bytes as they are shown.
 fn push_shown(text: &mut Vec<u8>, bytes: &[u8]) -> Result<(), AllocError>
     ensures { IfOk result (λ _. text.new.items ≡ text.old.items ++ map shown_byte bytes.now) }
 {
@@ -135,7 +134,7 @@ fn push_shown(text: &mut Vec<u8>, bytes: &[u8]) -> Result<(), AllocError>
     Ok(())
 }
 
-/// A gap as a space, and another byte that isn't printed as `?`.
+/// How a byte is shown: a gap as a space, and any other byte that isn't allowed as `?`.
 fn shown_byte(byte: u8) -> u8
     ensures { result ≡ shown_byte byte }
 {
@@ -145,7 +144,7 @@ fn shown_byte(byte: u8) -> u8
     if is_allowed(byte) { byte } else { b'?' }
 }
 
-/// Puts the marks below a word behind the text.
+/// Appends the marks below a word.
 fn push_marks(text: &mut Vec<u8>, span: (usize, usize)) -> Result<(), AllocError>
     ensures { IfOk result (λ _. text.new.items ≡ text.old.items ++ marks span) }
 {
@@ -153,7 +152,7 @@ fn push_marks(text: &mut Vec<u8>, span: (usize, usize)) -> Result<(), AllocError
     push_times(text, b'^', span.1.saturating_sub(span.0).min(WIDTH - LEAD))
 }
 
-/// Puts the byte behind the text so often.
+/// Appends the byte `count` times.
 fn push_times(text: &mut Vec<u8>, byte: u8, count: usize) -> Result<(), AllocError>
     ensures { IfOk result (λ _. text.new.items ≡ text.old.items ++ replicate count byte) }
 {
@@ -163,7 +162,7 @@ fn push_times(text: &mut Vec<u8>, byte: u8, count: usize) -> Result<(), AllocErr
     Ok(())
 }
 
-/// Puts the name behind the text that may have been meant, if there is one.
+/// Appends the name that may have been meant, if there is one.
 fn push_suggestion(text: &mut Vec<u8>, near: &Option<Name>) -> Result<(), AllocError>
     ensures { IfOk result (λ _. text.new.items ≡ text.old.items ++ suggestion near.now) }
 {
@@ -173,14 +172,14 @@ fn push_suggestion(text: &mut Vec<u8>, near: &Option<Name>) -> Result<(), AllocE
     }
 }
 
-/// Puts behind the text that this name may have been meant.
+/// Appends that this name may have been meant.
 fn push_meant(text: &mut Vec<u8>, name: &Name) -> Result<(), AllocError>
     ensures { IfOk result (λ _. text.new.items ≡ text.old.items ++ meant name.now) }
 {
     push_parts(text, b"; did you mean `", name.as_str().as_bytes(), b"`?")
 }
 
-/// Puts three parts behind the text, in order.
+/// Appends three parts in order.
 fn push_parts(
     text: &mut Vec<u8>,
     front: &[u8],

@@ -1,11 +1,10 @@
-//! Where the words of a line stand.
+//! The places of words in a line.
 ghost use Rattle.std.specs.Prelude.{◌≡◌, ◌≤◌, ◌<◌, ◌+◌, ◌==◌, length, not, position, IfSome};
 ghost use Rattle.std.specs.List.{before_first, position_or_len};
 ghost use Rattle.mp_text.specs.Names.{is_gap, is_allowed, statement_part};
 ghost use Rattle.mp_request.specs.faults.Spans.{gap_count, word_end, span_from, bad_byte, bad_span};
 
-/// Where the word behind so many others stands, from its first byte to the place behind its last; the byte behind the last word where there are
-/// fewer.
+/// The word at index `count`: the index of its first byte, and the index after its last. If there are fewer words, the byte after the last one.
 #[tactic(auto, using(crate::proofs::lemmas::faults::StepLemmas::span_steps))]
 pub(crate) fn span_of(bytes: &[u8], count: usize) -> (usize, usize)
     ensures { result ≡ span_from count 0 bytes.now }
@@ -28,7 +27,7 @@ pub(crate) fn span_of(bytes: &[u8], count: usize) -> (usize, usize)
     }
 }
 
-/// How many gaps stand before the first word.
+/// The number of gaps before the first word.
 fn gap_count(bytes: &[u8]) -> usize
     ensures value { result ≡ gap_count bytes.now }
     ensures within { result ≤ length bytes.now }
@@ -41,7 +40,7 @@ fn gap_count(bytes: &[u8]) -> usize
     bytes.len()
 }
 
-/// Where the first word ends.
+/// The index after the first word.
 fn word_end(bytes: &[u8]) -> usize
     ensures value { result ≡ word_end bytes.now }
     ensures within { result ≤ length bytes.now }
@@ -50,7 +49,7 @@ fn word_end(bytes: &[u8]) -> usize
     gaps + first_gap(&bytes[gaps..])
 }
 
-/// How many bytes stand before the first gap.
+/// The number of bytes before the first gap.
 fn first_gap(bytes: &[u8]) -> usize
     ensures value { result ≡ position_or_len is_gap bytes.now }
     ensures within { result ≤ length bytes.now }
@@ -63,14 +62,14 @@ fn first_gap(bytes: &[u8]) -> usize
     bytes.len()
 }
 
-/// Whether the byte stands between words.
+/// Whether the byte separates words.
 pub(crate) fn is_gap(byte: u8) -> bool
     ensures { result ≡ is_gap byte }
 {
     matches!(byte, b' ' | b'\t' | b'\r')
 }
 
-/// Where the first bytes in a row stand that aren't allowed.
+/// The first run of bytes that aren't allowed: the index of its first byte, and the index after its last.
 pub(crate) fn bad_span(line: &[u8]) -> (usize, usize)
     ensures { result ≡ bad_span line.now }
 {
@@ -78,7 +77,7 @@ pub(crate) fn bad_span(line: &[u8]) -> (usize, usize)
     (from, from + allowed_byte(&line[from..]))
 }
 
-/// Where the first byte stands that isn't allowed.
+/// The index of the first byte that isn't allowed, or the length.
 fn bad_byte(line: &[u8]) -> usize
     ensures value { result ≡ bad_byte line.now }
     ensures within { result ≤ length line.now }
@@ -91,7 +90,7 @@ fn bad_byte(line: &[u8]) -> usize
     line.len()
 }
 
-/// How many bytes stand before the first that is allowed.
+/// The number of bytes before the first that is allowed.
 fn allowed_byte(line: &[u8]) -> usize
     ensures value { result ≡ position_or_len is_allowed line.now }
     ensures within { result ≤ length line.now }
@@ -104,21 +103,21 @@ fn allowed_byte(line: &[u8]) -> usize
     line.len()
 }
 
-/// Whether the byte may stand in a line.
+/// Whether a line may have the byte.
 pub(crate) fn is_allowed(byte: u8) -> bool
     ensures { result ≡ is_allowed byte }
 {
     matches!(byte, b'\t' | b'\r' | 32..=126)
 }
 
-/// What stands before a comment.
+/// The line without its comment.
 pub(crate) fn statement_part(line: &[u8]) -> &[u8]
     ensures { result.now ≡ statement_part line.now }
 {
     before_byte(b'#', line)
 }
 
-/// What stands before the first such byte: all where there is none.
+/// The bytes before the first such byte, or all if there is none.
 pub(crate) fn before_byte(byte: u8, bytes: &[u8]) -> &[u8]
     ensures { result.now ≡ before_first (λ b. b == byte) bytes.now }
 {
@@ -128,7 +127,7 @@ pub(crate) fn before_byte(byte: u8, bytes: &[u8]) -> &[u8]
     }
 }
 
-/// The first place at which the byte stands.
+/// The index of the first such byte.
 fn place_of(byte: u8, bytes: &[u8]) -> Option<usize>
     ensures place { result ≡ position (λ b. b == byte) bytes.now }
     ensures within { IfSome result (λ at. at < length bytes.now) }

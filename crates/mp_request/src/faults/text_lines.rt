@@ -1,4 +1,4 @@
-//! The line of a number, and the text before it.
+//! Lines of a text by their numbers.
 ghost use Rattle.std.specs.Prelude.{◌≡◌, ◌≤◌, length, IfOk, OnOk};
 ghost use Rattle.mp_text.specs.Names.{lines_of};
 ghost use Rattle.mp_request.specs.faults.TextLines.{bytes_of_lines, text_before, line_numbered, is_blank, netlist_before};
@@ -7,7 +7,7 @@ use mp_netlist::Netlist;
 use mp_text::{LineError, TextCode, first_line, read_netlist, word_count};
 use std::alloc::{AllocError, Global};
 
-/// How many bytes so many lines have, with their line feeds: all of them where there are fewer lines.
+/// The number of bytes of the first `count` lines, with their line feeds; of all lines if there are fewer.
 #[tactic(auto, using(crate::proofs::lemmas::faults::StepLemmas::bytes_steps))]
 fn bytes_of_lines(text: &[u8], count: u32) -> usize
     ensures value { result ≡ bytes_of_lines count text.now }
@@ -31,7 +31,7 @@ pub(crate) fn text_before(text: &[u8], number: u32) -> &[u8]
     &text[..bytes_of_lines(text, number.saturating_sub(1))]
 }
 
-/// The line of this number, counted from 1, and none where the text ends before it.
+/// The line of this number, counted from 1; empty if the text ends before it.
 #[tactic(auto, using(std::proofs::lemmas::List::take_rest))]
 pub(crate) fn line_numbered(text: &[u8], number: u32) -> &[u8]
     ensures { result.now ≡ line_numbered text.now number }
@@ -39,7 +39,7 @@ pub(crate) fn line_numbered(text: &[u8], number: u32) -> &[u8]
     first_line(&text[bytes_of_lines(text, number.saturating_sub(1))..]).0
 }
 
-/// Whether no line of the text has words.
+/// Whether no line of the text has a word.
 #[tactic(auto, unfolding(mp_text::specs::lexing::Lines::lines_of))]
 pub(crate) fn is_blank(text: &[u8]) -> bool
     ensures { result ≡ is_blank text.now }
@@ -55,7 +55,7 @@ pub(crate) fn is_blank(text: &[u8]) -> bool
     true
 }
 
-/// The netlist before the line of this number, where its edit is refused. The error comes where memory is wanting.
+/// The netlist before the line of this number if the code is a refused edit, and otherwise `None`. `AllocError` comes if memory runs out.
 pub(crate) fn netlist_before(
     alloc: Global,
     text: &[u8],

@@ -5,14 +5,14 @@ ghost use Rattle.mp_netlist.specs.Edits.{stands, output_stands, width_named, is_
 
 use mp_netlist::{Driver, Name, Netlist, WireId};
 
-/// Whether a wire of the name stands.
+/// Whether the netlist has a wire of this name.
 pub(crate) fn stands(netlist: &Netlist, name: &Name) -> bool
     ensures { result ≡ stands netlist.now name.now }
 {
     netlist.wire_named(name.as_str()).is_some()
 }
 
-/// Whether the wire that an output is to drive stands, if it is to drive one.
+/// Whether the netlist has the wire that an output is to drive, if it is to drive one.
 pub(crate) fn output_stands(netlist: &Netlist, wire: &Option<Name>) -> bool
     ensures { result ≡ output_stands netlist.now wire.now }
 {
@@ -22,7 +22,7 @@ pub(crate) fn output_stands(netlist: &Netlist, wire: &Option<Name>) -> bool
     }
 }
 
-/// The width of the wire that has the name, 0 where none has.
+/// The width of the wire of this name, 0 if there is none.
 pub(crate) fn width_named(netlist: &Netlist, name: &Name) -> u32
     ensures { result ≡ width_named netlist.now name.now }
 {
@@ -45,7 +45,7 @@ pub(crate) fn output_fits(netlist: &Netlist, wire: &Option<Name>, width: u32) ->
     }
 }
 
-/// Whether nothing drives the wire that has the name.
+/// Whether nothing drives the wire of this name.
 pub(crate) fn is_undriven(netlist: &Netlist, name: &Name) -> bool
     ensures { result ≡ is_undriven netlist.now name.now }
 {

@@ -11,7 +11,7 @@ use mp_records::{InputName, OutputName};
 use mp_text::{LineError, TextCode, Worded};
 use std::alloc::{AllocError, Global};
 
-/// The word at fault in a line that is wrong by itself, in a text whose lines before have no words, or some. The error comes where memory is wanting.
+/// The word at fault in a line that is wrong by itself. `is_first` says that no line before it has words. `AllocError` comes if memory runs out.
 pub(crate) fn word_place(
     alloc: Global,
     is_first: bool,
@@ -33,7 +33,7 @@ pub(crate) fn word_place(
     }
 }
 
-/// Whether this is the first word.
+/// Whether the first word is this one.
 pub(crate) fn begins_with(words: &[&[u8]], word: &[u8]) -> bool
     requires { 0 < length word.now }
     ensures { result ≡ begins_with word.now (texts words.now) }
@@ -64,7 +64,7 @@ fn count_place(words: &[&[u8]]) -> Place
     Place::Word(2)
 }
 
-/// Where the first input should stand, if there is none, and else the first output.
+/// The place of the first input if there is no input, and otherwise that of the first output.
 fn lack_place(parts: ModuleParts<'_, '_>) -> Place
     ensures { result ≡ lack_place (record { params = texts parts.entry.params.now; inputs = texts parts.entry.inputs.now; outputs = texts parts.entry.outputs.now }) }
 {
@@ -96,7 +96,7 @@ fn number_place(alloc: Global, words: &[&[u8]]) -> Result<Place, AllocError>
     Ok(Place::Word(1))
 }
 
-/// The first word of a module's parameters and ports that doesn't read.
+/// The first parameter or port of a module that can't be read.
 fn unread_part(alloc: Global, parts: ModuleParts<'_, '_>) -> Result<Place, AllocError>
     requires inputs { AreAscii parts.inputs.now }
     requires outputs { AreAscii parts.outputs.now }
@@ -111,7 +111,7 @@ fn unread_part(alloc: Global, parts: ModuleParts<'_, '_>) -> Result<Place, Alloc
     Ok(port_place(parts.inputs.len(), input, output))
 }
 
-/// How many words stand before the first that doesn't read. The error comes where memory is wanting.
+/// The index of the first word that can't be read as a `W`, or the number of words. `AllocError` comes if memory runs out.
 #[tactic(auto, using(crate::proofs::lemmas::faults::WordLemmas::place_texts))]
 fn first_unread<W: Worded>(alloc: Global, words: &[&[u8]]) -> Result<usize, AllocError>
     requires { All (λ word. W.may_read word.now) words.now }
