@@ -3,6 +3,7 @@
 mod bundles;
 mod driven;
 mod late;
+mod places;
 mod search;
 
 pub use bundles::{all_late, late_lists};

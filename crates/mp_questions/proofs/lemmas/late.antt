@@ -1,4 +1,5 @@
 pub mod SourceLemmas
+pub mod PlaceLemmas
 pub mod LastLemmas
 pub mod SearchLemmas
 pub mod BundleLemmas

@@ -155,7 +155,10 @@ fn units_behind(
     ensures of { search.new.of ≡ search.old.of }
 {
     let before = time.saturating_sub(1);
-    let Some(asked) = search.of.last_between(bundle.request, 1, before) else {
+    let Some(asked) = search
+        .places
+        .last_between(search.of, bundle.request, 1, before)
+    else {
         return Ok(None);
     };
     let request = WireTime {

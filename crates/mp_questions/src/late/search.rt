@@ -1,10 +1,12 @@
 //! Going back from a change to all that leads to it.
-ghost use Rattle.std.specs.Prelude.{◌≡◌, ◌/◌, ◌%◌};
+ghost use Rattle.std.specs.Prelude.{◌≡◌, ◌<◌, ◌/◌, ◌%◌, ◌↔◌, IsTrue, Some, option_map};
+ghost use Rattle.mp_netlist.specs.Circuit.{IsCircuit};
 ghost use Rattle.mp_records.specs.Outputs.{delay_of};
 ghost use Rattle.mp_questions.specs.late.Sources.{has_memory};
-ghost use Rattle.mp_questions.specs.late.Searching.{key, wire_numbers};
+ghost use Rattle.mp_questions.specs.late.Searching.{from_on, key, source_at, wire_numbers};
 
 use crate::late::driven::Driven;
+use crate::late::places::Places;
 use mp_modules::Kind;
 use mp_netlist::{Driver, Input, ModuleRecord, WireId};
 use std::alloc::{AllocError, Global};
@@ -24,12 +26,13 @@ pub(crate) struct WireTime {
 #[derive(Drop)]
 pub(crate) struct Search<'a> {
     pub(crate) of: Driven<'a>,
+    pub(crate) places: Places,
     /// Each change by its time and, behind that, its wire.
     pending: BTreeSet<u64>,
 }
 
 impl<'a> Search<'a> {
-    ghost use Rattle.std.specs.Prelude.{◌≡◌, ◌<◌, ◌≤◌, ◌+◌, ◌*◌, ◌||◌, ℕ, All, IfOk, OnOk, Some, option_map};
+    ghost use Rattle.std.specs.Prelude.{◌≡◌, ◌<◌, ◌≤◌, ◌+◌, ◌*◌, ◌||◌, ℕ, All, IfOk, OnOk, Some};
     ghost use Rattle.std.specs.List.{list_any};
     ghost use Rattle.mp_netlist.specs.Circuit.{IsCircuit};
     ghost use Rattle.mp_questions.specs.causes.Changes.{change_at};
@@ -37,7 +40,7 @@ impl<'a> Search<'a> {
     ghost use Rattle.mp_records.specs.declared.ids.ModuleId.{ModuleId as Id};
     ghost use Rattle.mp_questions.specs.late.Sources.{sources_by};
     ghost use Rattle.mp_questions.specs.late.Lateness.{is_excused};
-    ghost use Rattle.mp_questions.specs.late.Searching.{any_excused, from_on, source_at, with_key};
+    ghost use Rattle.mp_questions.specs.late.Searching.{any_excused, with_key};
 
     /// Nothing is to be looked at yet.
     pub(crate) fn new(alloc: Global, of: Driven<'a>) -> Self
@@ -45,12 +48,13 @@ impl<'a> Search<'a> {
     {
         Search {
             of,
+            places: Places::new(),
             pending: BTreeSet::new(alloc),
         }
     }
 
     /// Whether an excuse leads to a change: the request, or what is set from outside after it. Each change from the request on that leads to it
-    /// is looked at once.
+    /// is looked at at most once.
     pub(crate) fn is_excused(
         &mut self,
         request: WireTime,
@@ -91,25 +95,25 @@ impl<'a> Search<'a> {
         match self.of.netlist.module(id) {
             Some(part) => {
                 let delay = delay_of(part, port);
-                self.push_sources(part, delay, change.time, request)?;
-                Ok(false)
+                self.push_sources(part, delay, change.time, request)
             }
             None => Ok(is_later),
         }
     }
 
-    /// Puts what a change at a port comes from to what is to be looked at, but nothing from before a request.
+    /// Puts what a change at a port comes from to what is to be looked at, but nothing from before a request. Where it comes from the request itself,
+    /// nothing more is to be looked at.
     fn push_sources(
         &mut self,
         part: &ModuleRecord,
         delay: u32,
         time: u32,
         request: WireTime,
-    ) -> Result<(), AllocError>
+    ) -> Result<bool, AllocError>
         requires form { IsCircuit self.old.of.netlist.now }
         requires delay { 0 < delay }
         requires within { time < self.old.of.netlist.now.horizon }
-        ensures value { (id : Id) → OnOk result (any_excused self.old.of.netlist.now request.wire.0 request.time self.new.pending.keys
+        ensures value { (id : Id) → IfOk result (λ is. (is || any_excused self.old.of.netlist.now request.wire.0 request.time self.new.pending.keys)
             ≡ (any_excused self.old.of.netlist.now request.wire.0 request.time self.old.pending.keys
             || list_any (is_excused self.old.of.netlist.now request.wire.0 request.time)
             (sources_by self.old.of.netlist.now time (cause_by self.old.of.netlist.now time (Some (record { id = id; part = part.now; delay = delay })))))) }
@@ -117,14 +121,24 @@ impl<'a> Search<'a> {
         ensures of { self.new.of ≡ self.old.of }
     {
         if time == delay {
-            return Ok(());
+            return Ok(false);
         }
         let heard = time.saturating_sub(delay);
         for &input in part.inputs.as_slice() {
-            let found = self.source_from(part.kind, input, heard, request.time);
+            let found = source_from(
+                &mut self.places,
+                self.of,
+                part.kind,
+                input,
+                heard,
+                request.time,
+            );
+            if is_request(request, input.wire, found) {
+                return Ok(true);
+            }
             self.push(input.wire, found)?;
         }
-        Ok(())
+        Ok(false)
     }
 
     /// Puts the change of a wire at a time, if there is one, to what is to be looked at.
@@ -138,20 +152,37 @@ impl<'a> Search<'a> {
         }
         Ok(())
     }
+}
 
-    /// When the change was that an input heard at a time, or with memory the last one up to it; nothing where that was before a time from 1 on.
-    fn source_from(&self, kind: Kind, input: Input, heard: u32, from: u32) -> Option<u32>
-        requires form { IsCircuit self.now.of.netlist.now }
-        requires within { heard < self.now.of.netlist.now.horizon }
-        ensures { result ≡ from_on from (option_map (λ c. c.time) (source_at self.now.of.netlist.now kind heard input)) }
-    {
-        let upto = heard.saturating_sub(input.delay);
-        let least = if has_memory(kind) {
-            from
-        } else {
-            from.max(upto)
-        };
-        self.of.last_between(input.wire, least, upto)
+/// When the change was that an input heard at a time, or with memory the last one up to it; nothing where that was before a time from 1 on.
+fn source_from(
+    places: &mut Places,
+    of: Driven<'_>,
+    kind: Kind,
+    input: Input,
+    heard: u32,
+    from: u32,
+) -> Option<u32>
+    requires form { IsCircuit of.netlist.now }
+    requires within { heard < of.netlist.now.horizon }
+    ensures { result ≡ from_on from (option_map (λ c. c.time) (source_at of.entry.netlist.now kind heard input)) }
+{
+    let upto = heard.saturating_sub(input.delay);
+    let least = if has_memory(kind) {
+        from
+    } else {
+        from.max(upto)
+    };
+    places.last_between(of, input.wire, least, upto)
+}
+
+/// Whether a wire's change at a time, if there is one, is the request.
+fn is_request(request: WireTime, wire: WireId, found: Option<u32>) -> bool
+    ensures { IsTrue result ↔ (wire.0 ≡ request.wire.0) × (found ≡ Some request.time) }
+{
+    match found {
+        Some(time) => wire.0 == request.wire.0 && time == request.time,
+        None => false,
     }
 }
 

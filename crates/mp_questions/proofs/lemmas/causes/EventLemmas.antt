@@ -120,7 +120,7 @@ all_earlier f (suc t) end below =
     by true = refl
     by false = let less = nat_lt-true (suc (0 + t)) end (omega (arith, below)) in rw less refl
 
-earlier_changes : (f : ℕ → ℕ) (t k : ℕ) → earlier_than (t + 1) (changes_after f 0 (t + k)) ≡ changes_after f 0 t
+pub earlier_changes : (f : ℕ → ℕ) (t k : ℕ) → earlier_than (t + 1) (changes_after f 0 (t + k)) ≡ changes_after f 0 t
 earlier_changes f t zero = let e : t + 0 ≡ t = omega arith in ap (λ m. earlier_than (t + 1) (changes_after f 0 m)) e ∙ all_earlier f t (t + 1) (omega arith)
 earlier_changes f t (suc k) =
     let e : t + suc k ≡ suc (t + k) = omega arith in
@@ -136,18 +136,18 @@ earlier_changes f t (suc k) =
 abbrev pub last_of : List (ℕ × ℕ) → Option (ℕ × ℕ)
 last_of xs = slice_get xs (length xs - 1)
 
-last_more : (xs : List (ℕ × ℕ)) (x : ℕ × ℕ) → last_of (xs ++ x ∷ []) ≡ Some x
+pub last_more : (xs : List (ℕ × ℕ)) (x : ℕ × ℕ) → last_of (xs ++ x ∷ []) ≡ Some x
 last_more xs x = let e : length (xs ++ x ∷ []) - 1 ≡ length xs = omega (arith, length-append xs (x ∷ [])) in ap (slice_get (xs ++ x ∷ [])) e ∙ at_end xs
   where
     at_end : (ys : List (ℕ × ℕ)) → slice_get (ys ++ x ∷ []) (length ys) ≡ Some x
     at_end [] = refl
     at_end (y ∷ ys) = at_end ys
 
-abbrev change_of : (ℕ → ℕ) → ℕ → ℕ × ℕ
+abbrev pub change_of : (ℕ → ℕ) → ℕ → ℕ × ℕ
 change_of f u = (u, f u)
 
 -- the last change up to a time is the last event
-last_changes : (f : ℕ → ℕ) (t : ℕ) → last_of (changes_after f 0 t) ≡ option_map (change_of f) (last_event f t)
+pub last_changes : (f : ℕ → ℕ) (t : ℕ) → last_of (changes_after f 0 t) ≡ option_map (change_of f) (last_event f t)
 last_changes f zero = refl
 last_changes f (suc t) =
     let e : 0 + t ≡ t = omega arith in

@@ -39,6 +39,10 @@ pub or_false : (a : Bool) → (a || false) ≡ a
 or_false true = refl
 or_false false = refl
 
+pub or_true : (a : Bool) → (a || true) ≡ true
+or_true true = refl
+or_true false = refl
+
 pub and_false : (a : Bool) → (a && false) ≡ false
 and_false true = refl
 and_false false = refl
@@ -114,78 +118,6 @@ excused_key n ok w r t wire low =
     let b : key t wire.0 % wire_numbers ≡ wire.0 = key_wire t wire.0 low in
     ap (λ x. is_excused n w r (change_at n (record { 0 = x }) (key t wire.0 / wire_numbers))) b ∙ ap (λ x. is_excused n w r (change_at n wire x)) a
 
--- ---- one change more to look at
-
-abbrev some_of : Option WireChange → List WireChange
-some_of o = cons_option o []
-
--- a source at an input is a change of its wire
-pub source_wire : (n : Circuit) (kind : Kind) (u : ℕ) (i : Input) (c : WireChange) → source_at n kind u i ≡ Some c → c.wire ≡ i.wire
-source_wire n kind u i c is = by (has_memory kind) is
-  where
-    last : (o : Option ℕ) → option_map (change_at n i.wire) o ≡ Some c → c.wire ≡ i.wire
-    last None e = let never : ⊥ = cc in absurd never
-    last (Some t) e = sym (ap (λ (x : WireChange). x.wire) (same_Some (change_at n i.wire t) c e))
-
-    heard : (b : Bool) → cond b (Some (event_at n u i).change) None ≡ Some c → c.wire ≡ i.wire
-    heard true e = sym (ap (λ (x : WireChange). x.wire) (same_Some (event_at n u i).change c e))
-    heard false e = let never : ⊥ = cc in absurd never
-
-    by : (b : Bool) → cond b (last_change n i.wire (u - i.delay)) (cond (hears n u i) (Some (event_at n u i).change) None) ≡ Some c → c.wire ≡ i.wire
-    by true e = last (last_event (level n i.wire.0) (u - i.delay)) e
-    by false e = heard (hears n u i) e
-
-module _ (n : Circuit) (ok : IsCircuit n) (w r : ℕ) where
-  abbrev any : List ℕ → Bool
-  any keys = any_excused n w r keys
-
-  pub pushed : (keys : List ℕ) (wire : WireId) (o : Option WireChange) (found : Option ℕ) → wire.0 < 2 ^ 32 → found ≡ from_on r (change_time o) → ((c : WireChange) → o ≡ Some c → c.wire ≡ wire)
-      → any (with_key keys wire.0 found) ≡ (any keys || list_any (is_excused n w r) (some_of o))
-  pushed keys wire None found low is same = ap (λ f. any (with_key keys wire.0 f)) is ∙ sym (or_false (any keys))
-  pushed keys wire (Some c) found low is same = ap (λ f. any (with_key keys wire.0 f)) is ∙ by (nat_lt c.time r) refl
-    where
-      at : is_excused n w r (change_at n wire c.time) ≡ is_excused n w r c
-      at = ap (λ v. is_excused n w r (change_at n v c.time)) (sym (same c refl)) ∙ excused_level n ok w r c
-
-      by : (early : Bool) → nat_lt c.time r ≡ early → any (with_key keys wire.0 (cond early None (Some c.time))) ≡ (any keys || (is_excused n w r c || false))
-      by true early =
-          sym (or_false (any keys)) ∙ ap (λ b. any keys || (b || false)) (sym (early_unexcused n ok w r c (ltb-true c.time r early)))
-      by false late =
-          any_insert (λ k. is_excused n w r (change_by n k)) keys (key c.time wire.0)
-          ∙ ap (λ b. b || any keys) (excused_key n ok w r c.time wire low ∙ at) ∙ or_comm (is_excused n w r c) (any keys) ∙ ap (λ b. any keys || b) (sym (or_false (is_excused n w r c)))
-
-  -- the inputs one after the other
-  pub input_more : (kind : Kind) (u i : ℕ) (inputs : List Input) (input : Input) (old now new : Bool) → i < length inputs → input ≡ get_or inputs i input
-      → now ≡ (old || list_any (is_excused n w r) (filter_map (source_at n kind u) (take i inputs)))
-      → new ≡ (now || list_any (is_excused n w r) (some_of (source_at n kind u input)))
-      → new ≡ (old || list_any (is_excused n w r) (filter_map (source_at n kind u) (take (i + 1) inputs)))
-  input_more kind u i inputs input old now new within at so more =
-      let excused = is_excused n w r in
-      let source = source_at n kind u in
-      let upto = filter_map source (take i inputs) in
-      more ∙ ap (λ b. b || list_any excused (some_of (source input))) so
-      ∙ or_later old (list_any excused upto) (list_any excused (some_of (source input)))
-      ∙ ap (λ b. old || b) (sym (list_any-append excused upto (some_of (source input)))
-      ∙ ap (λ j. list_any excused (upto ++ some_of (source j))) at
-      ∙ sym (ap (list_any excused) (ap (filter_map source) (take_more inputs i input within) ∙ filter_map-append source (take i inputs) (get_or inputs i input ∷ []))))
-
--- they come before
-pub pushed_below : (keys : List ℕ) (w t end : ℕ) (found : Option ℕ) → w < 2 ^ 32 → key t 0 ≤ end → IfSome found (λ u. u < t) → All (λ k. k < end) keys → All (λ k. k < end) (with_key keys w found)
-pushed_below keys w t end None low bound less all = all
-pushed_below keys w t end (Some u) low bound less all = All-insert_key nat_cmp (key u w) (λ k. k < end) keys all (omega (arith, low, bound, less))
-
--- what a source from a time on is
-pub source_time : (n : Circuit) → IsCircuit n → (kind : Kind) (t d r : ℕ) (i : Input) (found : Option ℕ) → 0 < d → found ≡ from_on r (change_time (source_at n kind (t - d) i)) → IfSome found (λ u. u < t)
-source_time n ok kind t d r i found some is = by (source_at n kind (t - d) i) refl is
-  where
-    kept : (b : Bool) (c : WireChange) → c.time < t → found ≡ cond b None (Some c.time) → IfSome found (λ u. u < t)
-    kept true c less e = let P : Option ℕ → Type 0 = (λ o. IfSome o (λ u. u < t)) in subst P (sym e) tt
-    kept false c less e = let P : Option ℕ → Type 0 = (λ o. IfSome o (λ u. u < t)) in subst P (sym e) less
-
-    by : (o : Option WireChange) → source_at n kind (t - d) i ≡ o → found ≡ from_on r (change_time o) → IfSome found (λ u. u < t)
-    by None at e = let P : Option ℕ → Type 0 = (λ o. IfSome o (λ u. u < t)) in subst P (sym e) tt
-    by (Some c) at e = kept (nat_lt c.time r) c (source_before n ok kind t d i c some at).1 e
-
 -- ---- whether a change is an excuse
 
 module _ (n : Circuit) (ok : IsCircuit n) (w r : ℕ) (wire : WireId) (t : ℕ) where
@@ -226,3 +158,102 @@ module _ (n : Circuit) (ok : IsCircuit n) (w r : ℕ) (wire : WireId) (t : ℕ) 
         by : (b : Bool) → ((b && false) || list_any (is_excused n w r) (sources_by n t (cause_by n t (Some g)))) ≡ list_any (is_excused n w r) (sources_by n t (cause_by n t (Some g)))
         by true = refl
         by false = refl
+
+-- ---- one change more to look at
+
+abbrev some_of : Option WireChange → List WireChange
+some_of o = cons_option o []
+
+-- a source at an input is a change of its wire
+pub source_wire : (n : Circuit) (kind : Kind) (u : ℕ) (i : Input) (c : WireChange) → source_at n kind u i ≡ Some c → c.wire ≡ i.wire
+source_wire n kind u i c is = by (has_memory kind) is
+  where
+    last : (o : Option ℕ) → option_map (change_at n i.wire) o ≡ Some c → c.wire ≡ i.wire
+    last None e = let never : ⊥ = cc in absurd never
+    last (Some t) e = sym (ap (λ (x : WireChange). x.wire) (same_Some (change_at n i.wire t) c e))
+
+    heard : (b : Bool) → cond b (Some (event_at n u i).change) None ≡ Some c → c.wire ≡ i.wire
+    heard true e = sym (ap (λ (x : WireChange). x.wire) (same_Some (event_at n u i).change c e))
+    heard false e = let never : ⊥ = cc in absurd never
+
+    by : (b : Bool) → cond b (last_change n i.wire (u - i.delay)) (cond (hears n u i) (Some (event_at n u i).change) None) ≡ Some c → c.wire ≡ i.wire
+    by true e = last (last_event (level n i.wire.0) (u - i.delay)) e
+    by false e = heard (hears n u i) e
+
+-- a time that isn't before another is kept
+from_on_time : (r t : ℕ) → Some r ≡ from_on r (Some t) → t ≡ r
+from_on_time r t is = by (nat_lt t r) is
+  where
+    by : (b : Bool) → Some r ≡ cond b None (Some t) → t ≡ r
+    by true e = let never : ⊥ = cc in absurd never
+    by false e = sym (same_Some r t e)
+
+module _ (n : Circuit) (ok : IsCircuit n) (w r : ℕ) where
+  abbrev any : List ℕ → Bool
+  any keys = any_excused n w r keys
+
+  pub pushed : (keys : List ℕ) (wire : WireId) (o : Option WireChange) (found : Option ℕ) → wire.0 < 2 ^ 32 → found ≡ from_on r (change_time o) → ((c : WireChange) → o ≡ Some c → c.wire ≡ wire)
+      → any (with_key keys wire.0 found) ≡ (any keys || list_any (is_excused n w r) (some_of o))
+  pushed keys wire None found low is same = ap (λ f. any (with_key keys wire.0 f)) is ∙ sym (or_false (any keys))
+  pushed keys wire (Some c) found low is same = ap (λ f. any (with_key keys wire.0 f)) is ∙ by (nat_lt c.time r) refl
+    where
+      at : is_excused n w r (change_at n wire c.time) ≡ is_excused n w r c
+      at = ap (λ v. is_excused n w r (change_at n v c.time)) (sym (same c refl)) ∙ excused_level n ok w r c
+
+      by : (early : Bool) → nat_lt c.time r ≡ early → any (with_key keys wire.0 (cond early None (Some c.time))) ≡ (any keys || (is_excused n w r c || false))
+      by true early =
+          sym (or_false (any keys)) ∙ ap (λ b. any keys || (b || false)) (sym (early_unexcused n ok w r c (ltb-true c.time r early)))
+      by false late =
+          any_insert (λ k. is_excused n w r (change_by n k)) keys (key c.time wire.0)
+          ∙ ap (λ b. b || any keys) (excused_key n ok w r c.time wire low ∙ at) ∙ or_comm (is_excused n w r c) (any keys) ∙ ap (λ b. any keys || b) (sym (or_false (is_excused n w r c)))
+
+  -- the inputs one after the other
+  pub input_more : (kind : Kind) (u i : ℕ) (inputs : List Input) (input : Input) (old now new : Bool) → i < length inputs → input ≡ get_or inputs i input
+      → now ≡ (old || list_any (is_excused n w r) (filter_map (source_at n kind u) (take i inputs)))
+      → new ≡ (now || list_any (is_excused n w r) (some_of (source_at n kind u input)))
+      → new ≡ (old || list_any (is_excused n w r) (filter_map (source_at n kind u) (take (i + 1) inputs)))
+  input_more kind u i inputs input old now new within at so more =
+      let excused = is_excused n w r in
+      let source = source_at n kind u in
+      let upto = filter_map source (take i inputs) in
+      more ∙ ap (λ b. b || list_any excused (some_of (source input))) so
+      ∙ or_later old (list_any excused upto) (list_any excused (some_of (source input)))
+      ∙ ap (λ b. old || b) (sym (list_any-append excused upto (some_of (source input)))
+      ∙ ap (λ j. list_any excused (upto ++ some_of (source j))) at
+      ∙ sym (ap (list_any excused) (ap (filter_map source) (take_more inputs i input within) ∙ filter_map-append source (take i inputs) (get_or inputs i input ∷ []))))
+
+  any_behind : (o : Option WireChange) (cs : List WireChange) → list_any (is_excused n w r) cs ≡ true → list_any (is_excused n w r) (cons_option o cs) ≡ true
+  any_behind None cs some = some
+  any_behind (Some c) cs some = ap (λ b. is_excused n w r c || b) some ∙ or_true (is_excused n w r c)
+
+  -- where one of them is the request, there is an excuse
+  pub request_among : (kind : Kind) (u k : ℕ) (inputs : List Input) (d : Input) → k < length inputs → (get_or inputs k d).wire.0 ≡ w → Some r ≡ from_on r (change_time (source_at n kind u (get_or inputs k d)))
+      → list_any (is_excused n w r) (filter_map (source_at n kind u) inputs) ≡ true
+  request_among kind u k [] d within same is = absurd (omega (arith, within))
+  request_among kind u (suc k) (i ∷ is) d within same at =
+      any_behind (source_at n kind u i) (filter_map (source_at n kind u) is) (request_among kind u k is d (omega (arith, within)) same at)
+  request_among kind u zero (i ∷ is) d within same at = by (source_at n kind u i) refl at
+    where
+      by : (o : Option WireChange) → source_at n kind u i ≡ o → Some r ≡ from_on r (change_time o) → list_any (is_excused n w r) (cons_option o (filter_map (source_at n kind u) is)) ≡ true
+      by None none e = let never : ⊥ = cc in absurd never
+      by (Some c) some e =
+          let time = from_on_time r c.time e in
+          let here = ap (λ (v : WireId). v.0) (source_wire n kind u i c some) ∙ same in
+          ap (λ b. b || list_any (is_excused n w r) (filter_map (source_at n kind u) is)) (sym (excused_level n ok w r c) ∙ is_request n ok w r c.wire c.time here time)
+
+-- they come before
+pub pushed_below : (keys : List ℕ) (w t end : ℕ) (found : Option ℕ) → w < 2 ^ 32 → key t 0 ≤ end → IfSome found (λ u. u < t) → All (λ k. k < end) keys → All (λ k. k < end) (with_key keys w found)
+pushed_below keys w t end None low bound less all = all
+pushed_below keys w t end (Some u) low bound less all = All-insert_key nat_cmp (key u w) (λ k. k < end) keys all (omega (arith, low, bound, less))
+
+-- what a source from a time on is
+pub source_time : (n : Circuit) → IsCircuit n → (kind : Kind) (t d r : ℕ) (i : Input) (found : Option ℕ) → 0 < d → found ≡ from_on r (change_time (source_at n kind (t - d) i)) → IfSome found (λ u. u < t)
+source_time n ok kind t d r i found some is = by (source_at n kind (t - d) i) refl is
+  where
+    kept : (b : Bool) (c : WireChange) → c.time < t → found ≡ cond b None (Some c.time) → IfSome found (λ u. u < t)
+    kept true c less e = let P : Option ℕ → Type 0 = (λ o. IfSome o (λ u. u < t)) in subst P (sym e) tt
+    kept false c less e = let P : Option ℕ → Type 0 = (λ o. IfSome o (λ u. u < t)) in subst P (sym e) less
+
+    by : (o : Option WireChange) → source_at n kind (t - d) i ≡ o → found ≡ from_on r (change_time o) → IfSome found (λ u. u < t)
+    by None at e = let P : Option ℕ → Type 0 = (λ o. IfSome o (λ u. u < t)) in subst P (sym e) tt
+    by (Some c) at e = kept (nat_lt c.time r) c (source_before n ok kind t d i c some at).1 e

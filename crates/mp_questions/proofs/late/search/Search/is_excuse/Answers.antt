@@ -1,4 +1,4 @@
-use Rattle.std.proofs.Common.{◌≡◌, ◌==◌, ◌&&◌, ◌||◌, ℕ, Bool, false, Some, option_map, refl, sym, ap, ◌∙◌}
+use Rattle.std.proofs.Common.{◌≡◌, ◌==◌, ◌&&◌, ◌||◌, ℕ, Bool, false, Some, option_map, IfOk, refl, sym, ap, subst, ◌∙◌}
 use Rattle.std.specs.List.{list_any}
 use Rattle.std.proofs.lemmas.Bool.{eq-eqb, ne_eqb}
 use Rattle.mp_questions.specs.causes.Changes.{change_at}
@@ -10,8 +10,8 @@ use Rattle.mp_questions.proofs.lemmas.late.SearchLemmas.{and_false, from_port, o
 use Rattle.mp_questions.proofs.late.search.Search.is_excuse.Goals as goal
 use Rattle.mp_questions.proofs.late.search.Search.is_excuse.Goals.{else-change-request-via-then-change-request+else-change-request-2, else-change-request-via-else-change-request}
 
-pub returns-in_ok-push_sources-in-Some-clause-value : goal.returns-in_ok-push_sources-in-Some-clause-value
-returns-in_ok-push_sources-in-Some-clause-value c =
+pub returns-in-Some-clause-value : goal.returns-in-Some-clause-value
+returns-in-Some-clause-value c =
     let n = c.args.self.now.of.netlist.now in
     let wire = c.args.change.wire in
     let t = c.args.change.time in
@@ -26,6 +26,8 @@ returns-in_ok-push_sources-in-Some-clause-value c =
       | else-change-request-via-then-change-request+else-change-request-2 x ↦ ap (λ b. (wire.0 == w) && b) (ne_eqb t r x.if-change-request-2.false) ∙ and_false (wire.0 == w)
       | else-change-request-via-else-change-request x ↦ ap (λ b. b && (t == r)) (ne_eqb wire.0 w x.if-change-request.false)
     ] in
-    c.in_ok-push_sources-in-Some.ensures.value id ∙ ap (λ d. old || rest (g d)) c.delay_of-delay.ensures
+    subst (λ b. IfOk c.push_sources.result (λ is. (is || any_excused n w r c.push_sources.new.self.pending.keys) ≡ b))
+    (ap (λ d. old || rest (g d)) c.delay_of-delay.ensures
     ∙ ap (λ b. old || b) (sym (from_port n c.requires.form w r wire t other (port_at id c.in-Port.port c.in-Some.part.now) at))
-    ∙ or_comm old (is_excused n w r (change_at n wire t))
+    ∙ or_comm old (is_excused n w r (change_at n wire t)))
+    (c.push_sources.ensures.value id)

@@ -11,7 +11,7 @@ use Rattle.mp_questions.specs.late.Lateness.{is_excused}
 use Rattle.mp_questions.specs.late.Searching.{any_excused, from_on, source_at}
 use Rattle.mp_questions.proofs.lemmas.late.SourceLemmas.{sources_are}
 use Rattle.mp_questions.proofs.lemmas.late.LastLemmas.{change_time}
-use Rattle.mp_questions.proofs.lemmas.late.SearchLemmas.{pushed, input_more, pushed_below, source_time, source_wire}
+use Rattle.mp_questions.proofs.lemmas.late.SearchLemmas.{or_true, request_among, pushed, input_more, pushed_below, source_time, source_wire}
 use Rattle.mp_questions.proofs.late.search.Search.push_sources.Goals as goal
 
 pub source_from-found-requires-clause-form : goal.source_from-found-requires-clause-form
@@ -63,3 +63,27 @@ returns-clause-value c = λ id.
     c.loop-input.invariant.1
     ∙ ap (λ (is : List Input). old || list_any (is_excused n w r) (filter_map (source_at n c.args.part.now.kind (c.args.time - c.args.delay)) is)) all
     ∙ ap (λ (cs : List WireChange). old || list_any (is_excused n w r) cs) (sym (sources_are n c.args.time g (ne_eqb c.args.time c.args.delay c.if-time-delay.false)))
+
+pub returns-then-is_request-clause-value : goal.returns-then-is_request-clause-value
+returns-then-is_request-clause-value c = λ id.
+    let n = c.args.self.now.of.netlist.now in
+    let w = c.args.request.wire.0 in
+    let r = c.args.request.time in
+    let kind = c.args.part.now.kind in
+    let t = c.args.time in
+    let delay = c.args.delay in
+    let items = c.as_slice-input-items.result.now in
+    let k = c.loop-input.input-index in
+    let none : Input = record { wire = record { 0 = 0 }; delay = 0 } in
+    let low : k < length items = omega (arith, c.loop-input-test.true) in
+    let input : Input = slice_index_or items k none in
+    let old = any_excused n w r c.args.self.now.pending.keys in
+    let g : DrivingPort = record { id = id; part = c.args.part.now; delay = delay } in
+    let is : c.source_from-found.result ≡ from_on r (change_time (source_at n kind (t - delay) input)) =
+    c.source_from-found.ensures ∙ ap (λ (d : Driven). from_on r (change_time (source_at d.netlist.now kind c.saturating_sub-heard.result input))) c.loop-input.invariant.0
+    ∙ ap (λ u. from_on r (change_time (source_at n kind u input))) c.saturating_sub-heard.ensures in
+    let request = c.is_request.ensures.0 c.if-is_request.true in
+    let some = request_among n c.requires.form w r kind (t - delay) k items none low request.0 (sym request.1 ∙ is) in
+    sym (ap (λ (cs : List WireChange). old || list_any (is_excused n w r) cs) (sources_are n t g (ne_eqb t delay c.if-time-delay.false))
+    ∙ ap (λ (is : List Input). old || list_any (is_excused n w r) (filter_map (source_at n kind (t - delay)) is)) (sym c.as_slice-input-items.ensures)
+    ∙ ap (λ b. old || b) some ∙ or_true old)

@@ -3,12 +3,12 @@ use Rattle.mp_model.specs.Waves.{level}
 use Rattle.mp_questions.specs.causes.Changes.{last_event}
 use Rattle.mp_questions.specs.late.Searching.{from_on}
 use Rattle.mp_questions.proofs.lemmas.late.LastLemmas.{source_with_memory, source_without}
-use Rattle.mp_questions.proofs.late.search.Search.source_from.Goals as goal
-use Rattle.mp_questions.proofs.late.search.Search.source_from.Goals.{then-has_memory, else-has_memory}
+use Rattle.mp_questions.proofs.late.search.source_from.Goals as goal
+use Rattle.mp_questions.proofs.late.search.source_from.Goals.{then-has_memory, else-has_memory}
 
 pub returns : goal.returns
 returns c =
-    let n = c.args.self.now.of.netlist.now in
+    let n = c.args.of.netlist.now in
     let f = level n c.args.input.wire.0 in
     let upto = c.saturating_sub-upto.ensures in
     let found = c.last_between.ensures ∙ ap (λ u. from_on c.if-has_memory.least (last_event f u)) upto in
