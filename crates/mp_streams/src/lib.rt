@@ -1,4 +1,4 @@
-//! Where bytes go to and come from: sinks, sources, and what they do with all of some bytes.
+//! Sinks and sources: where bytes go to and come from, and how all of some bytes get there.
 #![tactic(auto)]
 
 mod failed;

@@ -12,16 +12,15 @@ use itoa::Buffer;
 use std::alloc::{AllocError, Global};
 use std::marker::Model;
 
-/// How many bytes are held at most: so many that a write costs little beside what it writes.
+/// The size of the buffer: large enough that a write costs little in comparison with what it writes.
 const CAPACITY: usize = 65_536;
 
-/// A sink with a buffer before it. What is put is held, and goes to the sink where the buffer is full
-/// or is flushed: what is still held when the value is let go is lost. It takes its memory when it is
-/// made, and no more.
+/// A sink with a buffer before it. The buffer holds what is written until it is full or flushed; what it still holds when the value is dropped is
+/// lost. It takes its memory when it is made, and no more.
 #[derive(Drop)]
 pub struct Out<S: Sink> {
     sink: S,
-    // the room, as long as it was at first, whose front is held
+    // the buffer, of which the first bytes are held
     room: Vec<u8>,
     end: usize,
 }
@@ -38,7 +37,7 @@ impl<S: Sink> Model for Out<S> {
 }
 
 impl<S: Sink> Out<S> {
-    /// The sink, with nothing held before it. The error comes where memory is wanting.
+    /// A buffer before the sink, with nothing held. `AllocError` comes if memory runs out.
     pub fn new(alloc: Global, sink: S) -> Result<Out<S>, AllocError>
     where
         S: Drop,
@@ -51,7 +50,7 @@ impl<S: Sink> Out<S> {
         Ok(Out { sink, room, end: 0 })
     }
 
-    /// The sink. What is held before it is lost.
+    /// Returns the sink. What the buffer holds is lost.
     pub fn into_sink(self) -> S
         ensures sink { result ≡ self.sink }
         ensures taken { S.taken result ≡ self.taken }
@@ -61,8 +60,7 @@ impl<S: Sink> Out<S> {
         sink
     }
 
-    /// Writes the bytes. `Failed` comes with a fault of the sink: then some of what was held and of
-    /// the bytes, from the front, is with the sink, and nothing is held.
+    /// Writes the bytes. `Failed` comes if the sink fails; then the sink has a beginning of what was held and of the bytes, and nothing is held.
     #[inline]
     pub fn put_bytes(&mut self, bytes: &[u8]) -> Result<(), Failed>
         ensures { Writes result self.old self.new bytes.now }
@@ -74,7 +72,7 @@ impl<S: Sink> Out<S> {
         Ok(())
     }
 
-    /// Writes the text. `Failed` is as that of `put_bytes`.
+    /// Writes the text. `Failed` comes as in `put_bytes`.
     #[inline]
     pub fn put_text(&mut self, text: &str) -> Result<(), Failed>
         ensures { Writes result self.old self.new text.now }
@@ -82,7 +80,7 @@ impl<S: Sink> Out<S> {
         self.put_bytes(text.as_bytes())
     }
 
-    /// Writes the number in decimal digits. `Failed` is as that of `put_bytes`.
+    /// Writes the number in decimal digits. `Failed` comes as in `put_bytes`.
     pub fn put_number(&mut self, number: u64) -> Result<(), Failed>
         ensures { Writes result self.old self.new (decimal number) }
     {
@@ -90,7 +88,7 @@ impl<S: Sink> Out<S> {
         self.put_text(digits.format(number))
     }
 
-    /// Writes the text of the piece, where it stands in the buffer. `Failed` is as that of `put_bytes`.
+    /// Writes the text of the piece, straight into the buffer. `Failed` comes as in `put_bytes`.
     #[inline(always)]
     pub fn put_piece<P: Piece>(&mut self, piece: &P) -> Result<(), Failed>
         ensures { Writes result self.old self.new (P.text piece.now) }
@@ -102,7 +100,7 @@ impl<S: Sink> Out<S> {
         Ok(())
     }
 
-    /// Writes bytes for which the buffer has no room, behind what it holds.
+    /// Writes bytes for which the buffer has no room, after what it holds.
     #[cold]
     #[inline(never)]
     fn put_past(&mut self, bytes: &[u8]) -> Result<(), Failed>
@@ -116,7 +114,7 @@ impl<S: Sink> Out<S> {
         Ok(())
     }
 
-    /// Writes a piece for which the buffer has no room, behind what it holds.
+    /// Writes a piece for which the buffer has no room, after what it holds.
     #[cold]
     #[inline(never)]
     fn put_piece_past<P: Piece>(&mut self, piece: &P) -> Result<(), Failed>
@@ -127,8 +125,7 @@ impl<S: Sink> Out<S> {
         Ok(())
     }
 
-    /// Passes all that is held on to the sink. `Failed` comes with a fault of the sink: then some of
-    /// it, from the front, is with the sink. Nothing is held either way.
+    /// Passes all that is held on to the sink. `Failed` comes if the sink fails; then the sink has a beginning of it. Nothing is held either way.
     pub fn flush(&mut self) -> Result<(), Failed>
         ensures written { Writes result self.old self.new [] }
         ensures empty { self.new.held ≡ [] }
@@ -139,7 +136,7 @@ impl<S: Sink> Out<S> {
     }
 }
 
-/// Writes the bytes from a place on, where there is room for them, and returns where they end.
+/// Writes the bytes into the room from `at` on, if there is room for them, and returns the index after them.
 #[inline]
 fn place(room: &mut [u8], at: usize, bytes: &[u8]) -> usize
     requires { at + length bytes.now ≤ length room.old }

@@ -6,8 +6,7 @@ use crate::source::Source;
 use std::io::Read;
 use std::marker::Model;
 
-/// A reader as a source. It tells its bytes where the reader does, and any error of a read is a
-/// fault.
+/// A reader as a source. Its bytes are known if those of the reader are. Any error of a read is a fault.
 #[derive(Drop)]
 pub struct ReadSource<R> {
     reader: R,

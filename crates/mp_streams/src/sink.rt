@@ -7,14 +7,14 @@ use crate::failed::Failed;
 
 /// Takes bytes in order, and counts its faults.
 pub trait Sink {
-    // The bytes taken so far, where the value tells them.
+    // The bytes taken so far, if they are known.
     ghost taken: { Self → Option (List ℕ) };
 
     // The number of faults so far.
     ghost fault_count: { Self → ℕ };
 
-    /// Takes at least one of the bytes, from their front, and returns how many. `Failed` comes
-    /// where the device fails: then no byte was taken, and there is one fault more.
+    /// Takes at least one byte from the front, and returns how many. `Failed` comes if the device fails; then no byte was taken, and there is one
+    /// more fault.
     fn put(&mut self, bytes: &[u8]) -> Result<usize, Failed>
         requires some { 0 < length bytes.now }
         ensures count { IfOk result (λ n. (0 < n) × (n ≤ length bytes.now)) }

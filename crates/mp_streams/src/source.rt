@@ -7,14 +7,14 @@ use crate::failed::Failed;
 
 /// Gives bytes in order, and counts its faults.
 pub trait Source {
-    // The bytes that are left, where the value tells them.
+    // The bytes that are left, if they are known.
     ghost left: { Self → Option (List ℕ) };
 
     // The number of faults so far.
     ghost fault_count: { Self → ℕ };
 
-    /// Writes the next bytes to the front of the room and returns how many, 0 only at the end.
-    /// `Failed` comes where the device fails: then no byte was given, and there is one fault more.
+    /// Writes the next bytes to the front of the room and returns how many, 0 only at the end. `Failed` comes if the device fails; then no byte was
+    /// given, and there is one more fault.
     fn take(&mut self, room: &mut [u8]) -> Result<usize, Failed>
         requires some { 0 < length room.old }
         ensures count { IfOk result (λ n. n ≤ length room.new) }

@@ -1,4 +1,4 @@
-//! Why a source was not read.
+//! The reason why a source wasn't read.
 ghost use Rattle.mp_streams.specs.declared.take_error.TakeError.TheVariants as errors;
 ghost use Rattle.std.specs.Prelude.{◌≡◌};
 
@@ -6,7 +6,7 @@ use crate::failed::Failed;
 use std::alloc::AllocError;
 use thiserror::Error;
 
-/// Why a source was read neither to its end nor to the limit.
+/// The reason why a source was read neither to its end nor to the limit.
 #[derive(Clone, Copy, Debug, PartialEq, Eq, Error)]
 pub enum TakeError {
     #[error("the device failed")]

@@ -1,4 +1,4 @@
-//! All that a source has.
+//! Takes all that a source has.
 ghost use Rattle.std.specs.Prelude.{◌≡◌, ◌-◌, ◌^◌, ◌<◌, ◌≤◌, length, take, IfOk, IfSome, OnErr};
 ghost use Rattle.std.specs.Io.KnownBytes.{Consumes, IsAtEnd};
 ghost use Rattle.mp_streams.specs.StreamBytes.{ConsumesUpTo};
@@ -8,8 +8,8 @@ use crate::source::Source;
 use crate::take_error::TakeError;
 use std::alloc::Global;
 
-/// Takes all that is left, but no more bytes than the limit. `Failed` comes with the first fault of
-/// the source, `OutOfMemory` where the memory for the bytes is refused; some bytes, no more than the limit, may be taken then.
+/// Takes all bytes that are left, up to the limit. `Failed` comes with the first fault of the source, and `OutOfMemory` if there is no memory for the
+/// bytes; some bytes, up to the limit, may have been taken then.
 #[tactic(auto, using(crate::proofs::StreamLemmas::taken_front))]
 pub fn take_all<S: Source>(
     alloc: Global,

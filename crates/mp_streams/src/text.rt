@@ -1,4 +1,4 @@
-//! Texts that are written one behind the other.
+//! Texts that are written one after the other.
 ghost use Rattle.std.specs.Prelude.{◌≡◌, ℕ, List, ◌++◌};
 ghost use Rattle.std.specs.Fmt.{decimal};
 ghost use Rattle.mp_streams.specs.Outgoing.{Writes};
@@ -7,13 +7,12 @@ use crate::failed::Failed;
 use crate::out::Out;
 use crate::sink::Sink;
 
-/// What has a text: bytes, a number, or several such things one behind the other, as
-/// `("horizon ", horizon, "\n")`.
+/// A value with a text: bytes, a number, or several such values one after the other, for example `("horizon ", horizon, "\n")`.
 pub trait Text {
     // Its bytes.
     ghost text: { Self → List ℕ };
 
-    /// Writes its text. `Failed` is as that of `Out::put_bytes`.
+    /// Writes its text. `Failed` comes as in `Out::put_bytes`.
     fn put_to<S: Sink>(&self, out: &mut Out<S>) -> Result<(), Failed>
         ensures { Writes result out.old out.new (text self.now) };
 }

@@ -1,4 +1,4 @@
-//! Why a text was not written.
+//! The reason why a text wasn't written.
 ghost use Rattle.mp_streams.specs.declared.write_error.WriteError.TheVariants as errors;
 ghost use Rattle.std.specs.Prelude.{◌≡◌};
 
@@ -6,13 +6,13 @@ use crate::failed::Failed;
 use std::alloc::{AllocError, AllocFailed};
 use thiserror::Error;
 
-/// Why a text that takes memory was not written to its end.
+/// The reason why a text that takes memory wasn't written to its end.
 #[derive(Clone, Copy, Debug, PartialEq, Eq, Error)]
 pub enum WriteError {
     /// A write of the output failed.
     #[error("write failed")]
     WriteFailed,
-    /// Memory was wanting.
+    /// Memory ran out.
     #[error("out of memory")]
     OutOfMemory,
 }

@@ -6,8 +6,7 @@ use crate::sink::Sink;
 use std::io::Write;
 use std::marker::Model;
 
-/// A writer as a sink. It tells its bytes where the writer does, and a write that takes no byte is
-/// a fault.
+/// A writer as a sink. Its bytes are known if those of the writer are. A write that takes no byte is a fault.
 #[derive(Drop)]
 pub struct WriteSink<W> {
     writer: W,
