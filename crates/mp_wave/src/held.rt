@@ -1,4 +1,4 @@
-//! How a wave holds its changes.
+//! The forms in which a wave holds its changes.
 ghost use Rattle.std.specs.Prelude.{◌≡◌, ℕ, ◌++◌, ◌∷◌, [], IfOk};
 ghost use Rattle.mp_wave.specs.ToggleWaves.{toggle_changes};
 ghost use Rattle.mp_wave.specs.WaveChanges.{held_changes, IsLow};
@@ -7,10 +7,11 @@ use crate::pairs::{long_pairs, pairs_of, short_pairs_of};
 use crate::wave_changes::WaveChanges;
 use std::alloc::{AllocError, Global};
 
-/// The least level that is held in 8 bytes. Where all levels are less, each takes 4.
+/// The least level that takes 8 bytes. If all levels are below it, each takes 4.
 const LONG: u64 = 4_294_967_296;
 
-/// The times at which a level of 0 or 1 toggles, or changes with their levels, by how long these are.
+/// The changes of a level: the times at which a level of 0 or 1 toggles, or pairs of a time and a level, in the shortest form in which all levels
+/// fit.
 #[derive(Debug, Drop)]
 pub(crate) enum Held {
     Toggles(Vec<u32>),
@@ -23,7 +24,7 @@ impl Held {
     ghost use Rattle.mp_wave.specs.Waveform.{last_from, last_time};
     ghost use Rattle.mp_wave.specs.WaveChanges.{changes_in, held_changes, IsHeld, IsLow};
 
-    /// No changes of a level.
+    /// No changes.
     pub(crate) fn none(alloc: Global, initial: u64) -> Held
         ensures value { held_changes initial result ≡ [] }
         ensures low { IsLow initial result }
@@ -37,7 +38,7 @@ impl Held {
         }
     }
 
-    /// The changes of this level.
+    /// The changes after this initial level.
     #[inline(always)]
     pub(crate) fn changes(&self, initial: u64) -> WaveChanges<'_>
         ensures { changes_in result ≡ held_changes initial self.now }
@@ -52,7 +53,7 @@ impl Held {
         }
     }
 
-    /// The first changes, so many of them, with room for as many as there are.
+    /// The first `count` changes, with room for as many as there are in all.
     pub(crate) fn front(&self, alloc: Global, count: usize) -> Result<Held, AllocError>
         requires { (initial : ℕ) → count ≤ length (held_changes initial self.now) }
         ensures value { (initial : ℕ) → IfOk result (λ front. held_changes initial front ≡ take count (held_changes initial self.now)) }
@@ -92,7 +93,7 @@ impl Held {
         }
     }
 
-    /// One more change of a level, to another than the last. Where memory runs out, the changes stay as they were.
+    /// Adds a change to a level other than the last one. If memory runs out, the changes stay as they were.
     #[inline(always)]
     pub(crate) fn push(&mut self, initial: u64, time: u32, level: u64) -> Result<(), AllocError>
         requires held { IsHeld initial self.old }
@@ -111,7 +112,7 @@ impl Held {
         Ok(())
     }
 
-    /// One more change, after which the changes have to be held in another form.
+    /// Adds a change with which the changes no longer fit into their form.
     #[cold]
     #[inline(never)]
     fn push_longer(&mut self, initial: u64, time: u32, level: u64) -> Result<(), AllocError>
@@ -131,7 +132,7 @@ impl Held {
     }
 }
 
-/// Toggles of a level and one change more, as changes with their levels.
+/// Toggles of a level and one more change, as pairs.
 fn listed(initial: u64, times: &Vec<u32>, time: u32, level: u64) -> Result<Held, AllocError>
     ensures value { IfOk result (λ held. held_changes initial held ≡ toggle_changes initial times.now.items ++ (time, level) ∷ []) }
     ensures low { IfOk result (IsLow initial) }
@@ -147,7 +148,7 @@ fn listed(initial: u64, times: &Vec<u32>, time: u32, level: u64) -> Result<Held,
     Ok(Held::Pairs(pairs))
 }
 
-/// Changes with short levels and one change more, as changes with levels of any length.
+/// Pairs with short levels and one more change, as pairs with levels of any length.
 fn lengthened(short: &Vec<(u32, u32)>, time: u32, level: u64) -> Result<Held, AllocError>
     ensures value { (initial : ℕ) → IfOk result (λ held. held_changes initial held ≡ short.now.items ++ (time, level) ∷ []) }
     ensures low { (initial : ℕ) → IfOk result (IsLow initial) }

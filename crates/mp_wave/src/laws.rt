@@ -1,4 +1,4 @@
-//! What holds of all waveforms.
+//! Laws of waveforms.
 
 ghost use Rattle.mp_wave.specs.Laws.{SameByLevels, HoldsLevel, HasLevels, IsInForm, GrowsByHolding, JoinsChanges, KeepsLevels, CutsLevels};
 ghost use Rattle.mp_wave.specs.ToggleWaves.{ToggleWavesAreWaves};
@@ -8,7 +8,7 @@ pub fn same_levels()
     ensures { SameByLevels }
 {}
 
-/// A level that is held from a time on is the wave's level from then on, and leaves the levels before.
+/// A level that is held from a time on is the wave's level from then on, and the levels before stay.
 pub fn held_level()
     ensures { HoldsLevel }
 {}
@@ -29,17 +29,17 @@ pub fn changes_join()
     ensures { JoinsChanges }
 {}
 
-/// A wave that is kept up to a time has its levels before that time, and then the last of them.
+/// The prefix of a wave up to a time has the wave's levels before that time, and holds the last of them from then on.
 pub fn kept_levels()
     ensures { KeepsLevels }
 {}
 
-/// From the level at a time, the changes later than that and earlier than an end give the levels up to that end.
+/// The level at a time and the changes after it and before an end give the levels up to that end.
 pub fn cut_levels()
     ensures { CutsLevels }
 {}
 
-/// The times at which a level of one bit changes tell its wave.
+/// The times at which a level of one bit changes determine its wave.
 pub fn toggle_waves_are_waves()
     ensures { ToggleWavesAreWaves }
 {}

@@ -1,4 +1,4 @@
-//! Changes with their levels, made of others.
+//! Conversions of changes to pairs.
 ghost use Rattle.std.specs.Prelude.{◌≡◌, IfOk};
 ghost use Rattle.mp_wave.specs.ToggleWaves.{toggle_changes};
 
@@ -21,7 +21,7 @@ pub(crate) fn pairs_of(
     Ok(pairs)
 }
 
-/// The changes of a level that toggles at these times, with levels of 4 bytes.
+/// The changes of a level that toggles at these times, as pairs with levels of 4 bytes.
 pub(crate) fn short_pairs_of(
     alloc: Global,
     level: u64,
@@ -38,7 +38,7 @@ pub(crate) fn short_pairs_of(
     Ok(pairs)
 }
 
-/// These changes with levels of 8 bytes.
+/// These pairs with levels of 8 bytes.
 pub(crate) fn long_pairs(alloc: Global, short: &[(u32, u32)]) -> Result<Vec<(u32, u64)>, AllocError>
     ensures { IfOk result (λ pairs. pairs.items ≡ short.now) }
 {

@@ -9,10 +9,10 @@ ghost use Rattle.mp_wave.specs.Faults.{pair_at};
 
 use crate::WaveChanges;
 
-/// How many of the last changes are looked at before the others: in a wave that is being built what is looked for is mostly among them.
+/// This many of the last changes are searched before the others: in a wave that is being built a search mostly ends among them.
 const LAST_FEW: usize = 8;
 
-/// How many changes are passed over at once, none of which is later than a time: those before a place, or none.
+/// A number of changes that can be skipped since none of them is later than a time: all before a place, or none.
 fn passed_but(changes: WaveChanges<'_>, first: usize, time: u32) -> usize
     requires { IsNonDecreasingBy (λ (c : ℕ × ℕ). c.0) (changes_in changes) }
     ensures bound { result ≤ length (changes_in changes.entry) }
@@ -25,7 +25,7 @@ fn passed_but(changes: WaveChanges<'_>, first: usize, time: u32) -> usize
     }
 }
 
-/// How many of the changes aren't later than a time, by a search.
+/// The number of changes that aren't later than a time, by binary search.
 #[inline(never)]
 fn search_upto(changes: WaveChanges<'_>, time: u32) -> usize
     requires { IsNonDecreasingBy (λ (c : ℕ × ℕ). c.0) (changes_in changes) }
@@ -37,7 +37,7 @@ fn search_upto(changes: WaveChanges<'_>, time: u32) -> usize
     first + changes.from_place(first).search_upto(time)
 }
 
-/// How many of the changes aren't later than a time.
+/// The number of changes that aren't later than a time.
 #[inline(always)]
 pub(crate) fn count_upto(changes: WaveChanges<'_>, time: u32) -> usize
     requires { IsNonDecreasingBy (λ (c : ℕ × ℕ). c.0) (changes_in changes) }
@@ -57,7 +57,7 @@ pub(crate) fn count_upto(changes: WaveChanges<'_>, time: u32) -> usize
     }
 }
 
-/// How many of the changes are earlier than a time.
+/// The number of changes earlier than a time.
 #[inline(always)]
 pub(crate) fn count_before(changes: WaveChanges<'_>, time: u32) -> usize
     requires { IsNonDecreasingBy (λ (c : ℕ × ℕ). c.0) (changes_in changes) }
@@ -94,7 +94,7 @@ pub(crate) fn earlier_than(changes: WaveChanges<'_>, time: u32) -> WaveChanges<'
     changes.before_place(count)
 }
 
-/// Whether both lists have the same pair at a place that they have.
+/// Whether both lists have a pair at a place, and it is the same.
 #[inline(always)]
 fn has_pair(one: WaveChanges<'_>, other: WaveChanges<'_>, place: usize) -> bool
     requires one { place < length (changes_in one) }
@@ -104,7 +104,7 @@ fn has_pair(one: WaveChanges<'_>, other: WaveChanges<'_>, place: usize) -> bool
     one.time_at(place) == other.time_at(place) && one.level_at(place) == other.level_at(place)
 }
 
-/// Whether both lists have the same pair at a place, with a time before an end.
+/// Whether both lists have a pair at a place, it is the same, and its time is before an end.
 #[inline(always)]
 fn has_same(one: WaveChanges<'_>, other: WaveChanges<'_>, place: usize, end: u32) -> bool
     ensures same { IsTrue result ↔ (place < length (changes_in one.entry)) × (place < length (changes_in other.entry)) × (pair_at (changes_in one.entry) place ≡ pair_at (changes_in other.entry) place) × ((pair_at (changes_in one.entry) place).0 < end) }
@@ -116,7 +116,7 @@ fn has_same(one: WaveChanges<'_>, other: WaveChanges<'_>, place: usize, end: u32
         && one.time_at(place) < end
 }
 
-/// The time of the change at a place, or an end that comes first.
+/// The time of the change at a place, or the end if that comes first.
 fn time_at(changes: WaveChanges<'_>, place: usize, end: u32) -> u32
     ensures within { result ≤ end }
     ensures first { place < length (changes_in changes.entry) → result ≤ (pair_at (changes_in changes.entry) place).0 }

@@ -5,10 +5,10 @@ use crate::{Wave, WaveChanges};
 use std::alloc::{AllocError, Global};
 use std::marker::Model;
 
-/// For how many times room is made at first: as many as fit into the least block that the allocator gives.
+/// The first capacity: as many times as fit into the smallest block of the allocator.
 const FIRST_TIMES: usize = 6;
 
-/// For how many times there is room when it is made once more. From then on it doubles.
+/// The second capacity. From then on it doubles.
 const NEXT_TIMES: usize = 16;
 
 /// The wave of a wire of width 1: its level at time 0, and the times at which it toggles, by rising time from 1. Contracts see the wave.
@@ -46,8 +46,8 @@ impl ToggleWave {
         }
     }
 
-    /// The wave of which the levels before a time are those of another, the last of them held from then on. It has room for as many toggles as
-    /// the other has changes.
+    /// A wave with the levels of another one before a time, and the last of them from then on. It has room for as many toggles as the other has
+    /// changes.
     pub fn from_prefix(alloc: Global, wave: &Wave, upto: u32) -> Result<ToggleWave, AllocError>
         requires some { 0 < upto }
         requires low { (t : ℕ) → level_of wave.now t ≤ 1 }
@@ -87,7 +87,7 @@ impl ToggleWave {
         (initial, times)
     }
 
-    /// The wire toggles at a time later than before. Where memory runs out, the wave stays as it was.
+    /// Adds a toggle at a time later than the last one. If memory runs out, the wave stays as it was.
     #[inline(always)]
     pub fn toggle(&mut self, time: u32) -> Result<(), AllocError>
         requires { last_time 0 self.old.changes < time }
@@ -103,7 +103,7 @@ ghost use Rattle.std.specs.Prelude.{ℕ};
 ghost use Rattle.mp_wave.specs.ToggleWaves.{times_of};
 ghost use Rattle.mp_wave.specs.WaveChanges.{changes_in};
 
-/// The times of these changes too.
+/// Appends the times of these changes.
 fn push_times(times: &mut Vec<u32>, changes: WaveChanges<'_>) -> Result<(), AllocError>
     ensures { OnOk result (times.new.items ≡ times.old.items ++ times_of (changes_in changes.entry)) }
 {
@@ -133,7 +133,7 @@ fn push_long_times(times: &mut Vec<u32>, pairs: &[(u32, u64)]) -> Result<(), All
     Ok(())
 }
 
-/// One time more.
+/// Appends a time.
 #[inline(always)]
 fn push_time(times: &mut Vec<u32>, time: u32) -> Result<(), AllocError>
     ensures ok { OnOk result (times.new.items ≡ times.old.items ++ time ∷ []) }

@@ -10,8 +10,8 @@ use crate::{ToggleWave, WaveCause, WaveChanges, WaveError};
 use std::alloc::{AllocError, Global};
 use std::marker::Model;
 
-/// The level of a wire at time 0, and its changes: pairs of a time and the level from then on,
-/// by rising time from 1, each level another than the one before it.
+/// The level of a wire at time 0, and its changes: pairs of a time and the level from then on, by rising time from 1, each level other than the one
+/// before it.
 #[derive(Debug, Drop)]
 pub struct Wave {
     initial: u64,
@@ -44,7 +44,7 @@ impl Wave {
         }
     }
 
-    /// The wave with this level at time 0 and these changes, or the first pair that is no change.
+    /// The wave with this level at time 0 and these changes. The error is the first pair that isn't a change.
     pub fn from_changes(initial: u64, changes: Vec<(u32, u64)>) -> Result<Self, WaveError>
         requires { vec_len changes < 2 ^ 32 }
         ensures accepted { IsOk result ↔ IsWaveform (record { initial = initial; changes = changes.items }) }
@@ -77,7 +77,7 @@ impl Wave {
         self.held.changes(self.initial)
     }
 
-    /// The level at a time: that of the last change which is not later, or the initial one.
+    /// The level at a time: that of the last change up to it, or the initial one.
     #[inline(never)]
     pub fn level_at(&self, time: u32) -> u64
         ensures value { result ≡ level_of self.now time }
@@ -100,8 +100,8 @@ impl Wave {
         earlier_than(later_than(self.changes(), from), to)
     }
 
-    /// The least time, below an end, at which the two waves have different levels, if any. It takes as long as the changes
-    /// that they have in common.
+    /// The least time below `upto` at which the two waves have different levels, if any. The search takes time for each change that they have in
+    /// common.
     pub fn first_difference(&self, other: &Wave, upto: u32) -> Option<u32>
         ensures none { IfNone result (AgreeBelow self.now other.now upto) }
         ensures some { IfSome result (λ time. IsFirstDifference self.now other.now upto time) }
@@ -126,7 +126,7 @@ impl Wave {
         })
     }
 
-    /// The wave up to a time, its last level before that time held, with room for as many changes as this one has.
+    /// The wave up to a time, from which on its last level is held, with room for as many changes as this one has.
     pub(crate) fn prefix(&self, alloc: Global, upto: u32) -> Result<Wave, AllocError>
         ensures { IfOk result (λ prefix. prefix ≡ kept_before upto self.now) }
     {
@@ -137,7 +137,7 @@ impl Wave {
         })
     }
 
-    /// One more change at the end. Where memory runs out, the wave stays as it was.
+    /// Adds a change at the end. If memory runs out, the wave stays as it was.
     #[inline(always)]
     pub(crate) fn push_change(&mut self, time: u32, level: u64) -> Result<(), AllocError>
         requires later { last_time 0 self.old.changes < time }

@@ -6,7 +6,7 @@ use crate::Wave;
 use std::alloc::{AllocError, Global};
 use std::marker::Model;
 
-/// A wave that is made from its levels by rising time, each held until the next.
+/// Builds a wave from levels by rising time, each of which is held until the next one.
 #[derive(Debug, Drop)]
 pub struct WaveBuilder {
     wave: Wave,
@@ -30,7 +30,7 @@ impl WaveBuilder {
     ghost use Rattle.mp_wave.specs.Waveform.{IsWaveform, held_from, kept_before, level_of};
     ghost use Rattle.mp_wave.specs.Building.{IsBuilding};
 
-    /// A wave of which the level at time 0 is known, held so far.
+    /// A wave with this level at time 0, held so far.
     pub fn new(alloc: Global, initial: u64) -> Self
         ensures { result ≡ record { wave = record { initial = initial; changes = [] }; next = 1 } }
     {
@@ -41,8 +41,8 @@ impl WaveBuilder {
         }
     }
 
-    /// A wave of which the levels before a time are known: those of another wave, the last of them held so far. It has room for as many
-    /// changes as the other wave has.
+    /// A wave that starts with the levels of another one before a time, and holds the last of them so far. It has room for as many changes as the
+    /// other wave has.
     pub fn from_prefix(alloc: Global, wave: &Wave, upto: u32) -> Result<Self, AllocError>
         requires { 0 < upto }
         ensures value { IfOk result (λ builder. builder ≡ record { wave = kept_before upto wave.now; next = upto }) }
@@ -56,8 +56,7 @@ impl WaveBuilder {
         })
     }
 
-    /// From this time on the level is this one; the level that it has already adds no change.
-    /// Where memory runs out, the builder stays as it was.
+    /// Sets the level from a time on; a level that it already has adds no change. If memory runs out, the builder stays as it was.
     #[inline(always)]
     pub fn push_level(&mut self, time: u32, level: u64) -> Result<(), AllocError>
         requires later { self.old.next ≤ time }
@@ -75,7 +74,7 @@ impl WaveBuilder {
         Ok(())
     }
 
-    /// The first time whose level may still be given: 1, and then one after the last that was.
+    /// The first time at which a level may be pushed: 1, and then one after the last such time.
     pub fn next_time(&self) -> u32
         ensures value { result ≡ self.now.next }
         ensures form { IsBuilding self.now }
@@ -83,7 +82,7 @@ impl WaveBuilder {
         self.next_time
     }
 
-    /// The level at a time, the last one held. From the last given time on it is answered without a search.
+    /// The level at a time, with the last one held. From the last pushed time on this takes no search.
     #[inline(always)]
     pub fn level_at(&self, time: u32) -> u64
         ensures { result ≡ level_of self.now.wave time }
@@ -94,7 +93,7 @@ impl WaveBuilder {
         self.wave.level_at(time)
     }
 
-    /// The wave so far, its last level held.
+    /// The wave so far, with its last level held.
     pub fn wave(&self) -> &Wave
         ensures value { result.now ≡ self.now.wave }
         ensures form { IsBuilding self.now }
@@ -102,7 +101,7 @@ impl WaveBuilder {
         &self.wave
     }
 
-    /// The wave that was built, its last level held for ever.
+    /// The finished wave, with its last level held for ever.
     pub fn finish(self) -> Wave
         ensures value { result ≡ self.wave }
         ensures form { IsWaveform result }

@@ -1,18 +1,18 @@
-//! The changes of a wave, as it holds them.
+//! The changes of a wave, in the form in which it holds them.
 ghost use Rattle.std.specs.Prelude.{◌≡◌, ◌<◌, ◌≤◌, drop, length, slice_index_or};
 ghost use Rattle.mp_wave.specs.ToggleWaves.{level_after};
 
 use crate::pairs::{long_pairs, pairs_of};
 use std::alloc::{AllocError, Global};
 
-/// Changes by rising time, each a time and the level from then on: an iterator over these pairs. Nothing is copied where they are listed.
+/// Changes by rising time, each a time and the level from then on: an iterator over these pairs, which copies nothing.
 #[derive(Clone, Copy, Debug)]
 pub enum WaveChanges<'a> {
-    /// The level before them, and the times at which it toggles: to 1 from 0, and else to 0.
+    /// The level before them, and the times at which it toggles: from 0 to 1, and otherwise to 0.
     Toggles { level: u64, times: &'a [u32] },
-    /// The times and levels themselves, where these are below 2^32.
+    /// Times and levels, all of which are below 2^32.
     ShortPairs(&'a [(u32, u32)]),
-    /// The times and levels themselves.
+    /// Times and levels.
     Pairs(&'a [(u32, u64)]),
 }
 
@@ -30,7 +30,7 @@ impl<'a> WaveChanges<'a> {
         WaveChanges::Pairs(&[])
     }
 
-    /// How many changes there are.
+    /// The number of changes.
     #[inline(always)]
     pub fn len(self) -> usize
         ensures { result ≡ length (changes_in self.entry) }
@@ -68,7 +68,7 @@ impl<'a> WaveChanges<'a> {
         }
     }
 
-    /// The change at a place, if there are so many.
+    /// The change at a place, if there is one.
     #[inline(always)]
     pub fn get(self, place: usize) -> Option<(u32, u64)>
         ensures { result ≡ slice_get (changes_in self.entry) place }
@@ -155,7 +155,7 @@ impl<'a> WaveChanges<'a> {
         }
     }
 
-    /// How many of the changes aren't later than a time, by a search among all of them.
+    /// The number of changes that aren't later than a time, by a search among all of them.
     pub(crate) fn search_upto(self, time: u32) -> usize
         requires { IsNonDecreasingBy (λ (c : ℕ × ℕ). c.0) (changes_in self) }
         ensures bound { result ≤ length (changes_in self.entry) }
@@ -169,7 +169,7 @@ impl<'a> WaveChanges<'a> {
         }
     }
 
-    /// How many of the changes are earlier than a time, by a search among all of them.
+    /// The number of changes earlier than a time, by a search among all of them.
     pub(crate) fn search_before(self, time: u32) -> usize
         requires { IsNonDecreasingBy (λ (c : ℕ × ℕ). c.0) (changes_in self) }
         ensures bound { result ≤ length (changes_in self.entry) }
@@ -220,7 +220,7 @@ fn times_from(times: &[u32], place: usize) -> &[u32]
     &times[place..]
 }
 
-/// The level of 0 or 1 after so many toggles.
+/// The level of a wire of width 1 after a number of toggles.
 fn toggled(level: u64, toggles: usize) -> u64
     requires { level ≤ 1 }
     ensures { result ≡ level_after level toggles }
@@ -228,7 +228,7 @@ fn toggled(level: u64, toggles: usize) -> u64
     if toggles % 2 == 0 { level } else { 1 - level }
 }
 
-/// The level after so many toggles.
+/// The level after a number of toggles.
 fn level_after(level: u64, toggles: usize) -> u64
     ensures { result ≡ level_after level toggles }
 {

@@ -1,15 +1,14 @@
-//! Why a list of pairs is no wave.
+//! The reason why a list of pairs isn't a wave.
 
 use thiserror::Error;
 
-/// What is wrong with a pair of a time and a level, against the pair before it.
-/// Of several causes the first counts, in this order.
+/// What is wrong with a pair of a time and a level. If several of these apply, it is the first in this order.
 #[derive(Clone, Copy, Debug, PartialEq, Eq, Error)]
 pub enum WaveCause {
     /// The time is 0, whose level is the initial one.
     #[error("its time is 0")]
     Time,
-    /// The time is not later than that of the pair before.
+    /// The time isn't later than that of the pair before.
     #[error("it is not later than the pair before")]
     Order,
     /// The level is that of the pair before, or the initial one.
@@ -17,7 +16,7 @@ pub enum WaveCause {
     Same,
 }
 
-/// The first pair that is refused, by its place in the list from 0, and why.
+/// The first pair that isn't a change, by its place in the list from 0, and the reason.
 #[derive(Clone, Copy, Debug, PartialEq, Eq, Error)]
 #[error("pair {place} is no change: {cause}")]
 pub struct WaveError {
