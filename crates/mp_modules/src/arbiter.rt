@@ -1,4 +1,4 @@
-//! ARBITER: two ports own something in turn.
+//! ARBITER: grants ownership to one of two ports at a time.
 ghost use Rattle.std.specs.Prelude.{◌≡◌};
 ghost use Rattle.mp_modules.specs.Arbiter.{is_owner_done, released, owning, granted, promoted, made_wait, is_engaged, requested, is_request_ignored, before_requests, after_first_request, arbiter_step, is_done_without_grant, is_repeat_request};
 
@@ -42,7 +42,7 @@ fn is_owner_done(owner: Client, first: bool, second: bool) -> bool
     }
 }
 
-/// The owner's done event ends its ownership.
+/// The state after these done events: that of the owner ends its ownership.
 fn released(memory: Memory, first: bool, second: bool) -> Memory
     ensures { result ≡ released first second memory }
 {
@@ -53,7 +53,7 @@ fn released(memory: Memory, first: bool, second: bool) -> Memory
     }
 }
 
-/// The port owns, and it waits no longer.
+/// The state in which the port owns and no longer waits.
 fn owning(mut memory: Memory, client: Client) -> Memory
     ensures { result ≡ owning client memory }
 {
@@ -62,7 +62,7 @@ fn owning(mut memory: Memory, client: Client) -> Memory
     memory
 }
 
-/// The port's grant output changes, and it owns.
+/// The state after a grant to the port: its grant output changes, and it owns.
 fn granted(memory: Memory, client: Client) -> Memory
     ensures { result ≡ granted client memory }
 {
@@ -73,7 +73,7 @@ fn granted(memory: Memory, client: Client) -> Memory
     }
 }
 
-/// Where nobody owns, a port that waits is granted.
+/// The state after a grant to a port that waits, if nobody owns.
 fn promoted(memory: Memory) -> Memory
     ensures { result ≡ promoted memory }
 {
@@ -103,7 +103,8 @@ fn is_engaged(memory: Memory, client: Client) -> bool
     client.is_same(memory.served) || memory.waiting.has(client)
 }
 
-/// A request event is ignored of a port that owns or waits; else the port is granted where nobody owns, and waits where one does.
+/// The state after a request event of the port, if there is one: it is ignored if the port owns or waits; otherwise the port is granted if nobody
+/// owns, and waits if somebody does.
 fn requested(memory: Memory, client: Client, event: bool) -> Memory
     ensures { result ≡ requested client event memory }
 {

@@ -27,7 +27,7 @@ fn after_first_call(memory: Memory, levels: &[u64]) -> Memory
     called(ready, Client::First, memory.is_event(levels, 0))
 }
 
-/// The client's done output changes, and nobody is served then.
+/// The state after the client's done output has changed; nobody is served then.
 fn returned(memory: Memory, client: Client) -> Memory
     ensures { result ≡ returned client memory }
 {
@@ -38,7 +38,7 @@ fn returned(memory: Memory, client: Client) -> Memory
     }
 }
 
-/// A done event returns to the client that is served, if any.
+/// The state after a done event, if there is one: it is passed to the client that is served, if any.
 fn ended(memory: Memory, event: bool) -> Memory
     ensures { result ≡ ended event memory }
 {
@@ -49,7 +49,7 @@ fn ended(memory: Memory, event: bool) -> Memory
     }
 }
 
-/// A request event is served while nobody is.
+/// The state after a request event, if there is one: the client is served if nobody else is.
 fn called(memory: Memory, client: Client, event: bool) -> Memory
     ensures { result ≡ called client event memory }
 {

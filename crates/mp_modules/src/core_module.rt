@@ -1,4 +1,4 @@
-//! The modules that hold no data.
+//! The modules without data.
 ghost use Rattle.std.specs.Prelude.{◌≡◌};
 ghost use Rattle.mp_modules.specs.Tables.{first_output};
 
@@ -71,7 +71,7 @@ impl EventModule for CoreModule {
         memory
     }
 
-    // Inlined, so that the kinds that come most often write just what changes, where it is kept.
+    // Inlined, so that the most frequent kinds write only what changes, in place.
     #[inline(always)]
     fn step(&self, memory: &mut Memory, levels: &[u64]) {
         match *self {

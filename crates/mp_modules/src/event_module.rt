@@ -1,9 +1,9 @@
-//! What every event module does.
+//! The behaviour of an event module.
 
 use crate::finding_set::FindingSet;
 use crate::memory::Memory;
 
-/// What an event module does, a unit of time after the other.
+/// The behaviour of an event module, unit by unit.
 pub trait EventModule {
     ghost use Rattle.std.specs.Prelude.{◌≡◌, ℕ, List};
     ghost use Rattle.mp_modules.specs.declared.memory.Memory.{Memory};
@@ -22,26 +22,26 @@ pub trait EventModule {
     /// The level of an output before its delay.
     ghost level_out: { Self → Memory → ℕ → ℕ };
 
-    /// What is found at a unit with these input levels.
+    /// The findings of a unit with these input levels.
     ghost found: { Self → Memory → List ℕ → FindingSet };
 
     /// The state before time 0.
     fn start(&self) -> Memory
         ensures { result ≡ start_of self.now };
 
-    /// The state at time 0, where the input ports have these levels.
+    /// The state at time 0, with these levels at the input ports.
     fn settle(&self, levels: &[u64]) -> Memory
         ensures { result ≡ settled self.now levels.now };
 
-    /// A state goes on to that of the next unit, at a time from 1 on, where the input ports have these levels.
+    /// Steps a state to the next unit, at a time from 1 on, with these levels at the input ports.
     fn step(&self, memory: &mut Memory, levels: &[u64])
         ensures { memory.new ≡ stepped self.now memory.old levels.now };
 
-    /// The level of an output in a state, before the output's delay, and 0 where there is no such port.
+    /// The level of an output in a state, before the output's delay; 0 if there is no such port.
     fn out(&self, memory: Memory, port: usize) -> u64
         ensures { result ≡ level_out self.now memory port };
 
-    /// What is found at a time from 1 on, after the state of the unit before, where the input ports have these levels.
+    /// The findings at a time from 1 on, from the state one unit before and these levels at the input ports.
     fn findings(&self, memory: Memory, levels: &[u64]) -> FindingSet
         ensures { result ≡ found self.now memory levels.now };
 

@@ -1,39 +1,39 @@
-//! What may be found at a module or a bundle.
+//! The codes of findings.
 ghost use Rattle.std.specs.Prelude.{◌≡◌, ◌≤◌};
 ghost use Rattle.mp_modules.specs.Findings.{by_number, code_number, code_word};
 
 use crate::finding_set::CODES;
 
-/// What may be found at a module, or at a bundle of a request, an acknowledge and a data wire, at a unit of time from 1 on.
+/// What can be found at a module or a bundle, at a time from 1 on. "Before" means one unit before.
 #[derive(Clone, Copy, Debug, PartialEq, Eq)]
 pub enum FindingCode {
-    /// Both inputs of a XOR change.
+    /// Both inputs of a XOR change at the same time.
     MergeCollision,
-    /// An input of a C changes that waited for the other: behind its bubble it differed from the output one unit before.
+    /// An input of a C takes its event back: it changes, and its level, behind its bubble, differed from the output before.
     Withdrawn,
-    /// The diamond and the first input of a SELECT change.
+    /// The first input and the diamond of a SELECT change at the same time.
     SelectUnstable,
-    /// A request event of a CALL was ignored.
+    /// A request event of a CALL is ignored.
     CallOverlap,
-    /// A done event of a CALL was ignored.
+    /// A done event of a CALL is ignored.
     DoneWithoutCall,
-    /// A request event of an ARBITER was ignored.
+    /// A request event of an ARBITER is ignored.
     RepeatRequest,
-    /// A done event of an ARBITER was ignored.
+    /// A done event of an ARBITER is ignored.
     DoneWithoutGrant,
-    /// The capture input of a REG changes that was held one unit before.
+    /// The capture input of a REG changes, and the REG was held before.
     CaptureWhileHeld,
-    /// The pass input of a REG changes that was open one unit before.
+    /// The pass input of a REG changes, and the REG was open before.
     PassWhileOpen,
-    /// The data of a REG changes that was open one unit before and is held now.
+    /// The data input of a REG changes when it closes: it was open before and is held now.
     DataAtCapture,
-    /// The data of a bundle changes that was busy one unit before.
+    /// The data of a bundle change, and the bundle was busy before.
     DataWhileBusy,
-    /// The data of a bundle changes no longer than its setup time before a request event, or with it.
+    /// The data of a bundle change at a request event, or earlier than one by at most the setup of the bundle.
     Setup,
-    /// A request event of a bundle that was busy one unit before.
+    /// A request event of a bundle that was busy before.
     RequestWhileBusy,
-    /// An acknowledge event of a bundle that was not busy one unit before.
+    /// An acknowledge event of a bundle that wasn't busy before.
     AckWhileIdle,
 }
 

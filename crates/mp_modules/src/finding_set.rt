@@ -1,11 +1,11 @@
-//! A set of what was found.
+//! Sets of findings.
 
 use crate::finding_code::FindingCode;
 
-/// How many codes there are.
+/// The number of codes.
 pub const CODES: usize = 14;
 
-/// A set of codes: for each, by its number less 1, whether it is present.
+/// A set of codes: for each code, at the index of its number less 1, whether it is present.
 #[derive(Clone, Copy, Debug, PartialEq, Eq)]
 pub struct FindingSet {
     pub present: [bool; CODES],
@@ -40,7 +40,7 @@ impl FindingSet {
         self
     }
 
-    /// The set, with the code too where it is found.
+    /// The set, with the code too if `found` is true.
     pub fn with_if(self, code: FindingCode, found: bool) -> Self
         ensures { result ≡ with_code_if code found self }
     {

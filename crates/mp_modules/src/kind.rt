@@ -9,7 +9,7 @@ use crate::memory::{MOST_INPUTS, MOST_OUTPUTS};
 /// A kind of event module (Sutherland 1989). BUF is a delay, NOT an inverter, XOR the merge of two events, C their rendezvous; TOGGLE,
 /// SELECT, CALL and ARBITER steer events; REG holds data from a capture to a pass; ADDC, XORC, SUM and BIT compute on data.
 ///
-/// The width of a module is that of the wire at its first input, where its kind has ports of any width, and else 1.
+/// The width of a module is that of the wire at its first input if its kind has ports of any width, and otherwise 1.
 #[derive(Clone, Copy, Debug, PartialEq, Eq)]
 pub enum Kind {
     Buf,
@@ -28,7 +28,7 @@ pub enum Kind {
 }
 
 impl Kind {
-    /// How many input ports it has.
+    /// The number of input ports.
     pub fn inputs(self) -> usize
         ensures count { result ≡ input_count self }
         ensures few { result ≤ MOST_INPUTS }
@@ -41,7 +41,7 @@ impl Kind {
         }
     }
 
-    /// How many output ports it has.
+    /// The number of output ports.
     pub fn outputs(self) -> usize
         ensures count { result ≡ output_count self }
         ensures few { result ≤ MOST_OUTPUTS }
@@ -60,7 +60,7 @@ impl Kind {
         }
     }
 
-    /// How many parameters it is made from.
+    /// The number of parameters.
     pub fn params(self) -> usize
         ensures { result ≡ param_count self }
     {
@@ -100,7 +100,7 @@ impl Kind {
     }
 
     #[tactic(auto, unfolding(crate::specs::Kinds::kind_named))]
-    /// The kind that texts name so, and nothing for any other word.
+    /// The kind that has this name in texts; `None` for any other word.
     pub fn from_word(word: &[u8]) -> Option<Kind>
         ensures { result ≡ kind_named word.now }
     {
@@ -135,7 +135,7 @@ impl Kind {
         }
     }
 
-    /// Whether it has ports of any width, which is then that of the wire at its first input.
+    /// Whether it has ports of any width. Their width is then that of the wire at the first input.
     pub fn has_width(self) -> bool
         ensures { result ≡ has_width self }
     {
@@ -203,7 +203,7 @@ impl Kind {
     }
 
     #[tactic(auto, unfolding(crate::specs::Levels::fits_width))]
-    /// Whether the number is below what each parameter is below.
+    /// Whether the number is below the bound of the kind's parameters.
     fn is_in_range(self, width: u32, param: u64) -> bool
         ensures { result ≡ nat_lt param (param_bound self width) }
     {

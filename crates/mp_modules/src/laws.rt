@@ -1,4 +1,4 @@
-//! What holds of every kind, and of the event modules over time.
+//! Laws of the kinds, and of event modules over time.
 
 ghost use Rattle.mp_modules.specs.Laws.{IsNamedByWord, IsNamedByNoOther};
 ghost use Rattle.mp_modules.specs.EventLaws.{DotHasHalfUp, BlankHasHalfDown, ChangesWhereInputsAgree, HasAgreedLevel, HasEachEvent, TrueWhereDiamondIsOne, FalseWhereDiamondIsNot, HasOnePending, ReturnsToAskers, ServesEachRequest, ReturnsEachDone, GrantsOneAUnit, GrantsWhileFree, OwnsFromGrant, EndsEachGrant, AsksEachGrant, GrantsEachRequest, EndsEachGrantOnce, NobodyWaitsWhileFree};
@@ -13,20 +13,20 @@ pub fn named_by_no_other()
     ensures { IsNamedByNoOther }
 {}
 
-/// Of the events of a TOGGLE's input dot has had half, rounded up, and blank half, rounded down.
+/// The dot output of a TOGGLE has had half of the input's events, rounded up, and blank half, rounded down.
 pub fn toggle_steers_in_turn()
     ensures dot { DotHasHalfUp }
     ensures blank { BlankHasHalfDown }
 {}
 
-/// The output of a C changes only in a unit in which both inputs, behind their bubbles, have its new level, and where they have the same
-/// level it has that too.
+/// The output of a C changes only in a unit in which both inputs, behind their bubbles, have its new level. Whenever they have the same level, the
+/// output has it too.
 pub fn c_changes_where_inputs_agree()
     ensures changes { ChangesWhereInputsAgree }
     ensures agreed { HasAgreedLevel }
 {}
 
-/// The outputs of a SELECT together have had as many events as its input, each at the output that the diamond's level then chose.
+/// The outputs of a SELECT together have had as many events as its input, each at the output that the diamond chose at its time.
 pub fn select_gives_each_event_once()
     ensures each { HasEachEvent }
     ensures on_true { TrueWhereDiamondIsOne }
@@ -40,15 +40,15 @@ pub fn call_serves_one_at_a_time()
     ensures asked { ReturnsToAskers }
 {}
 
-/// Where nothing is found at a CALL, a client's requests are its done events and one more while it is served, and each event of the done
-/// input has come to one of them.
+/// If nothing is found at a CALL, a client has made as many requests as it has had done events, and one more while it is served, and each event of
+/// the done input has been passed to one of the clients.
 pub fn call_loses_no_event()
     ensures requests { ServesEachRequest }
     ensures dones { ReturnsEachDone }
 {}
 
-/// An ARBITER grants at most one port in a unit, and only where nobody owned before the unit or the owner's done event comes in it; the
-/// port owns then. It has had at most as many grants as requests, and as done events, but for one while it owns.
+/// An ARBITER grants at most one port in a unit, and only if nobody owned before the unit or the owner's done event comes in it; the port then owns.
+/// A port has had at most as many grants as requests, and at most one more than done events, and that only while it owns.
 pub fn arbiter_grants_one_at_a_time()
     ensures one { GrantsOneAUnit }
     ensures free { GrantsWhileFree }
@@ -57,8 +57,8 @@ pub fn arbiter_grants_one_at_a_time()
     ensures asked { AsksEachGrant }
 {}
 
-/// Where nothing is found at an ARBITER, a port's requests are its grants and one more while it waits, and its grants are its done events
-/// and one more while it owns. Nobody waits while nobody owns.
+/// If nothing is found at an ARBITER, a port has made as many requests as it has had grants, and one more while it waits, and has had as many grants
+/// as it has made done events, and one more while it owns. Nobody waits while nobody owns.
 pub fn arbiter_loses_no_event()
     ensures requests { GrantsEachRequest }
     ensures dones { EndsEachGrantOnce }

@@ -72,8 +72,8 @@ impl Waiting {
     }
 }
 
-/// A module's state at a time: its input levels then, its outputs before their delays, and, of a module that serves clients, whom
-/// it serves and who waits. Where a kind has fewer ports the places behind them hold 0.
+/// A module's state at a time: its input levels then, its outputs before their delays, and, in a module that serves clients, whom
+/// it serves and who waits. The places after the last port hold 0.
 #[derive(Clone, Copy, Debug, PartialEq, Eq)]
 pub struct Memory {
     pub inputs: [u64; MOST_INPUTS],
@@ -129,7 +129,7 @@ impl Memory {
         self.set_outputs(levels, [output, 0, 0]);
     }
 
-    /// The level of an output before its delay, 0 where there is no such port.
+    /// The level of an output before its delay, 0 if there is no such port.
     pub fn output(&self, port: usize) -> u64
         ensures { result ≡ output_of self.now port }
     {
@@ -171,7 +171,7 @@ impl Memory {
 
 ghost use Rattle.mp_modules.specs.Memories.{input_levels};
 
-/// The levels at the input ports, and 0 behind them.
+/// The levels at the input ports, and 0 after them.
 fn input_levels(levels: &[u64]) -> [u64; MOST_INPUTS]
     ensures { result ≡ input_levels levels.now }
 {
@@ -183,7 +183,7 @@ fn input_levels(levels: &[u64]) -> [u64; MOST_INPUTS]
     ]
 }
 
-/// The level at a port, 0 where there is none.
+/// The level at a port, 0 if there is none.
 pub fn level_at(levels: &[u64], port: usize) -> u64
     ensures { result ≡ slice_index levels.now port }
 {

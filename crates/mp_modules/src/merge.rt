@@ -4,7 +4,7 @@ ghost use Rattle.mp_modules.specs.Merge.{merged, is_collision};
 
 use crate::memory::{Memory, level_at};
 
-/// 1 where the inputs differ.
+/// 1 if the inputs differ, and otherwise 0.
 pub(crate) fn merged(levels: &[u64]) -> u64
     ensures { result ≡ merged levels.now }
 {

@@ -5,7 +5,7 @@ ghost use Rattle.mp_modules.specs.Tables.{rendezvous};
 
 use crate::memory::{Memory, level_at};
 
-/// What a C-element is made from: its output before time 0, and which of its inputs have a bubble, which inverts them.
+/// A C-element: its output before time 0, and which of its inputs have a bubble, which inverts them.
 #[derive(Clone, Copy, Debug, PartialEq, Eq)]
 pub struct Rendezvous {
     pub initial: bool,
@@ -25,7 +25,7 @@ impl Rendezvous {
         }
     }
 
-    /// The level of the inputs, behind their bubbles, where they agree, and else the former output.
+    /// The level of the inputs behind their bubbles if they agree, and otherwise the former output.
     pub(crate) fn join(self, former: u64, levels: &[u64]) -> u64
         ensures { result ≡ joined self former levels.now }
     {
@@ -34,7 +34,7 @@ impl Rendezvous {
         if a == b { a } else { former }
     }
 
-    /// Whether an input changes that waited for the other.
+    /// Whether an input changes that was waiting for the other one.
     pub(crate) fn is_withdrawn(self, memory: Memory, levels: &[u64]) -> bool
         ensures { result ≡ is_withdrawn self memory levels.now }
     {
@@ -43,7 +43,7 @@ impl Rendezvous {
     }
 }
 
-/// The level behind a bubble, where there is one.
+/// The level behind a bubble, if the input has one.
 fn bubbled(bubble: bool, level: u64) -> u64
     ensures { result ≡ bubbled bubble level }
 {

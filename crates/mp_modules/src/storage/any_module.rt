@@ -1,4 +1,4 @@
-//! Each kind of module, as one type.
+//! Modules of any kind as one type.
 ghost use Rattle.std.specs.Prelude.{◌≡◌};
 ghost use Rattle.mp_modules.specs.storage.AnyModules.{is_width_of, core_kind};
 
@@ -20,8 +20,8 @@ impl AnyModule {
     ghost use Rattle.mp_modules.specs.storage.AnyModules.{is_width_of, any_part_of, kind_of};
 
     #[tactic(auto, unfolding(crate::specs::storage::AnyModules::any_part_of))]
-    /// The module of a kind with these parameters and this width. Nothing where the kind doesn't accept the parameters, or the width is
-    /// not 1 to 64, and 1 for a kind without ports of any width.
+    /// The module of a kind with these parameters and this width. `None` if the kind doesn't accept the parameters, or if the width isn't 1 to 64, or
+    /// 1 for a kind without ports of any width.
     pub fn of(kind: Kind, params: &[u64], width: u32) -> Option<AnyModule>
         ensures made { IsSome result ↔ IsTrue (is_width_of kind width && are_params kind width params.now) }
         ensures part { IfSome result (λ part. part ≡ any_part_of kind params.now width) }
@@ -129,7 +129,7 @@ impl EventModule for AnyModule {
         }
     }
 
-    // Inlined, as the steps of the modules without data are.
+    // Inlined, like the steps of modules without data.
     #[inline(always)]
     #[tactic(auto, unfolding(crate::specs::storage::AnyModules::step))]
     fn step(&self, memory: &mut Memory, levels: &[u64]) {

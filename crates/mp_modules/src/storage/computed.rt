@@ -1,17 +1,16 @@
 //! ADDC, XORC, SUM and BIT compute on data.
 use crate::{EventModule, FindingSet, Kind, Memory, level_at};
 
-/// A module that holds nothing: its output is computed from its input levels alone. Sums are modulo two to the power of the width, which
-/// is at most 64 bits.
+/// A module that holds nothing: its output depends only on its input levels. Sums are modulo two to the power of the width, which is at most 64 bits.
 #[derive(Clone, Copy, Debug, PartialEq, Eq)]
 pub enum Computed {
     /// Adds a constant to the input.
     AddC { addend: u64, width: u32 },
-    /// Inverts those bits of the input that a constant has.
+    /// Inverts the bits of the input that are 1 in a constant.
     XorC { mask: u64 },
     /// Adds two inputs.
     Sum { width: u32 },
-    /// Gives the input's bit at a place, the least bit's place being 0.
+    /// Gives the bit at a place of the input; the least significant bit has the place 0.
     Bit { place: u64 },
 }
 

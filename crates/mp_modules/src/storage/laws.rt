@@ -1,4 +1,4 @@
-//! What the definitions come to.
+//! Laws of the definitions.
 
 ghost use Rattle.mp_modules.specs.storage.AnyModules.{KeepsKind};
 ghost use Rattle.mp_modules.specs.storage.RegLaws.{ChangesWhileOpen, FollowsWhileOpen};
@@ -9,7 +9,7 @@ pub fn keeps_kind()
     ensures { KeepsKind }
 {}
 
-/// The data output of a REG changes only in a unit in which it is open, its capture and its pass being equal, and is its data input then.
+/// The data output of a REG changes only in a unit in which it is open, that is, its capture and its pass are equal; then it is the data input.
 pub fn register_changes_while_open()
     ensures changes { ChangesWhileOpen }
     ensures follows { FollowsWhileOpen }

@@ -78,7 +78,7 @@ fn is_open(levels: &[u64]) -> bool
     level_at(levels, 1) == level_at(levels, 2)
 }
 
-/// The data while open, and else what was held.
+/// The data while it is open, and otherwise what it held.
 fn latched(former: u64, levels: &[u64]) -> u64
     ensures { result ≡ latched former levels.now }
 {
