@@ -5,8 +5,7 @@ use crate::single_edit::SingleEdit;
 use std::alloc::AllocError;
 use std::marker::Model;
 
-/// Edits that are made one after the other, as one edit. A batch may have any number of them: a netlist refuses the one that has none
-/// or too many.
+/// Edits that are made one after the other, as one edit. A batch may have any number of them; a netlist refuses a batch with none or too many.
 #[derive(Drop)]
 pub struct Batch {
     edits: Vec<SingleEdit>,

@@ -1,11 +1,11 @@
-//! A value in a block of its own.
+//! Values in blocks of memory of their own.
 ghost use Rattle.std.specs.Prelude.{◌≡◌, IfOk};
 
 use std::alloc::{AllocError, Global};
 use std::marker::Model;
 use std::sync::Arc;
 
-/// A value in a block of memory of its own, so that what holds it is small. Clones share the block. Contracts see the value.
+/// A value in a block of memory of its own, so that the owner stays small. Clones share the block. Contracts see the value.
 #[derive(Drop)]
 pub struct Boxed<T> {
     inner: Arc<T, Global>,
@@ -32,7 +32,7 @@ impl<T: Drop> Clone for Boxed<T> {
 }
 
 impl<T: Drop> Boxed<T> {
-    /// This value in a block of its own. The error comes where memory is wanting.
+    /// This value in a block of its own. `AllocError` comes if memory runs out.
     pub fn new(alloc: Global, value: T) -> Result<Self, AllocError>
         ensures { IfOk result (λ boxed. boxed ≡ value) }
     {

@@ -1,9 +1,9 @@
-//! What a netlist keeps of a bundle.
+//! A bundle as a netlist keeps it.
 use crate::ids::WireId;
 use crate::name::Name;
 
-/// A bundle of the two-phase bundled data convention (Sutherland 1989): the request and acknowledge wires, the data that goes with
-/// them, and for how many units the data must stand before a request.
+/// A bundle of the two-phase bundled data convention (Sutherland 1989): the request and acknowledge wires, the data wire, and the setup: for how many
+/// units the data must be there before a request.
 #[derive(Clone, Drop)]
 pub struct BundleRecord {
     pub name: Name,

@@ -5,7 +5,7 @@ use crate::batch::Batch;
 use crate::single_edit::SingleEdit;
 use std::alloc::AllocError;
 
-/// A change of a netlist, which is made as a whole or refused as a whole.
+/// A change of a netlist, which is made or refused as a whole.
 #[derive(Clone, Drop)]
 pub enum Edit {
     /// A change of one thing.

@@ -1,4 +1,4 @@
-//! Why an edit is refused.
+//! The reasons why an edit is refused.
 ghost use Rattle.std.specs.Prelude.{◌≡◌, codes, option_map};
 ghost use Rattle.mp_records.specs.declared.edit_error.EditError.TheVariants.{OutOfMemory};
 ghost use Rattle.mp_records.specs.EditErrors.{number_of, name_of};
@@ -6,7 +6,7 @@ ghost use Rattle.mp_records.specs.EditErrors.{number_of, name_of};
 use std::alloc::{AllocError, AllocFailed};
 use thiserror::Error;
 
-/// Why an edit is refused. A refused edit changes nothing.
+/// The reason why an edit is refused. A refused edit changes nothing.
 #[derive(Clone, Copy, Debug, PartialEq, Eq, Error)]
 pub enum EditError {
     #[error("the name is taken")]
@@ -49,7 +49,7 @@ pub enum EditError {
     OutOfMemory,
     #[error("not 1 to 256 edits in the batch")]
     BadBatch,
-    /// A batch is refused for one of its edits: which one, the first having place 1, and the number of that edit's own refusal.
+    /// A batch is refused for one of its edits: the place of that edit, counted from 1, and the number of its own refusal.
     #[error("edit {place} of the batch is refused with number {number}")]
     InBatch { place: u32, number: u32 },
 }
@@ -71,7 +71,7 @@ impl<T: Drop> From<AllocFailed<T>> for EditError {
 }
 
 impl EditError {
-    /// The number by which texts and programs know the refusal, from 1 to 21.
+    /// The number of the refusal in texts, from 1 to 21.
     pub fn number(self) -> u32
         ensures { result ≡ number_of self }
     {
@@ -100,7 +100,7 @@ impl EditError {
         }
     }
 
-    /// The name of the refusal with this number, and nothing for a number that no refusal has.
+    /// The name of the refusal with this number; `None` if no refusal has it.
     pub fn name_of(number: u32) -> Option<&'static str>
         ensures { option_map (λ name. name.now) result ≡ name_of number }
     {

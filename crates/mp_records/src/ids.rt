@@ -1,4 +1,4 @@
-//! The numbers of wires, modules and bundles. Each is counted from 0 in order of adding, and never used again.
+//! The numbers of wires, modules and bundles. Each sort is numbered from 0 in the order of adding, and no number is used again.
 
 /// A wire's number.
 #[derive(Clone, Copy, Debug, Default, PartialEq, Eq)]

@@ -1,4 +1,4 @@
-//! What a wire, a module, a bundle and an edit are as data.
+//! Wires, modules, bundles and edits as data.
 #![tactic(auto)]
 
 mod batch;

@@ -1,4 +1,4 @@
-//! What a netlist keeps of a module.
+//! A module as a netlist keeps it.
 ghost use Rattle.std.specs.Prelude.{◌≡◌, ◌==◌};
 ghost use Rattle.std.specs.List.{list_any};
 ghost use Rattle.mp_records.specs.declared.ports.Input.{Input};
@@ -26,35 +26,35 @@ impl ModuleRecord {
     ghost use Rattle.mp_records.specs.NamedWires.{module_names};
     ghost use Rattle.mp_records.specs.PortChanges.{with_input, with_input_delay, with_output, with_delay};
 
-    /// Whether an input or an output is at the wire.
+    /// Whether a port of the module is at the wire.
     pub fn names(&self, wire: WireId) -> bool
         ensures { result ≡ module_names wire.0 self.now }
     {
         reads(self.inputs.as_slice(), wire) || drives(self.outputs.as_slice(), wire)
     }
 
-    /// Sets the wire of an input port, where there is such a port. The port keeps its delay.
+    /// Sets the wire of an input port, if the port exists. The port keeps its delay.
     pub fn set_input(&mut self, port: usize, wire: WireId)
         ensures { self.new ≡ with_input port wire self.old }
     {
         self.inputs.set_wire(port, wire);
     }
 
-    /// Sets the delay of an input port, where there is such a port.
+    /// Sets the delay of an input port, if the port exists.
     pub fn set_input_delay(&mut self, port: usize, delay: u32)
         ensures { self.new ≡ with_input_delay port delay self.old }
     {
         self.inputs.set_delay(port, delay);
     }
 
-    /// Sets the wire of an output port, where there is such a port. The port keeps its delay.
+    /// Sets the wire of an output port, if the port exists. The port keeps its delay.
     pub fn set_output(&mut self, port: usize, wire: Option<WireId>)
         ensures { self.new ≡ with_output port wire self.old }
     {
         self.outputs.set_wire(port, wire);
     }
 
-    /// Sets the delay of an output port, where there is such a port.
+    /// Sets the delay of an output port, if the port exists.
     pub fn set_delay(&mut self, port: usize, delay: u32)
         ensures { self.new ≡ with_delay port delay self.old }
     {
@@ -62,14 +62,14 @@ impl ModuleRecord {
     }
 }
 
-/// Whether one of the inputs is at the wire.
+/// Whether one of the inputs reads the wire.
 fn reads(inputs: &[Input], wire: WireId) -> bool
     ensures { result ≡ list_any (λ (i : Input). i.wire.0 == wire.0) inputs.now }
 {
     inputs.iter().any(|port| port.wire.0 == wire.0)
 }
 
-/// Whether one of the outputs is at the wire.
+/// Whether one of the outputs drives the wire.
 fn drives(outputs: &[Output], wire: WireId) -> bool
     ensures { result ≡ list_any (λ (o : Output). is_wire o.wire wire.0) outputs.now }
 {

@@ -1,4 +1,4 @@
-//! The text by which a thing is named.
+//! Names of wires, modules and bundles.
 ghost use Rattle.std.specs.Prelude.{◌≡◌, ◌≤◌, IfOk, IsOk, length, string_bytes};
 ghost use Rattle.std.specs.Arc.{arc_value};
 ghost use Rattle.mp_records.specs.Names.{is_name, is_name_byte, begins_with_letter};
@@ -15,16 +15,16 @@ use std::hash::{Hash, Hasher};
 use std::marker::Model;
 use std::sync::Arc;
 
-/// How long a text may be to stand in place. Few names are longer, and an edit is larger by each byte.
+/// The greatest length of a text that is kept in place. Few names are longer, and an edit gets larger with each byte.
 const IN_PLACE: usize = 16;
 
-/// A text that names something, or is meant to. A short one stands in place, without a block of memory, and clones share a long one.
+/// A text that names something, or is meant to. A short one is kept in place, without a block of memory; clones share a long one.
 #[derive(Drop)]
 pub struct Name {
     text: Text,
 }
 
-/// Where the text of a name stands.
+/// How the text of a name is kept.
 #[derive(Drop)]
 enum Text {
     Short(ArrayString<IN_PLACE>),
@@ -79,7 +79,7 @@ impl Clone for Name {
 }
 
 impl Name {
-    /// The name of this text. The error comes where memory is wanting, and never for a text of at most 16 bytes.
+    /// The name with this text. `AllocError` comes if memory runs out, and never for a text of at most 16 bytes.
     pub fn new(alloc: Global, text: &str) -> Result<Self, AllocError>
         ensures value { IfOk result (λ name. name ≡ text.now) }
         ensures short { length text.now ≤ 16 → IsOk result }
@@ -100,7 +100,7 @@ impl Name {
     }
 
     #[tactic(auto, unfolding(crate::specs::Names::is_name))]
-    /// Whether the text is a letter, then letters, digits and `_`, 32 bytes at most.
+    /// Whether the text is a letter, then letters, digits and `_`, at most 32 bytes in all.
     pub fn is_valid(&self) -> bool
         ensures { result ≡ is_name self.now }
     {
@@ -109,7 +109,7 @@ impl Name {
     }
 }
 
-/// The name whose text stands in place.
+/// A name whose text is kept in place.
 fn short(text: ArrayString<IN_PLACE>) -> Name
     ensures { result ≡ text.bytes }
 {
@@ -118,7 +118,7 @@ fn short(text: ArrayString<IN_PLACE>) -> Name
     }
 }
 
-/// The name of a text, in a block of memory.
+/// A name whose text is kept in a block of memory.
 fn long(alloc: Global, text: &str) -> Result<Name, AllocError>
     ensures { IfOk result (λ name. name ≡ text.now) }
 {
@@ -128,7 +128,7 @@ fn long(alloc: Global, text: &str) -> Result<Name, AllocError>
     })
 }
 
-/// The name whose text others have too.
+/// A name that shares its text with others.
 fn shared(text: &Arc<String, Global>) -> Result<Name, AllocError>
     ensures { IfOk result (λ name. name ≡ string_bytes (arc_value text.now)) }
 {

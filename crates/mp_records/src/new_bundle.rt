@@ -1,7 +1,7 @@
 //! A bundle that is to be added.
 use crate::name::Name;
 
-/// A bundle that is to be: its name, its wires by name, and its setup in units.
+/// A bundle that is to be added: its name, its wires by name, and its setup in units.
 #[derive(Drop)]
 pub struct NewBundle {
     pub name: Name,

@@ -4,7 +4,7 @@ use crate::params::Params;
 use crate::port_names::{InputNames, OutputNames};
 use mp_modules::Kind;
 
-/// A module that is to be: its name, its kind with the parameters, and its ports at wires by name.
+/// A module that is to be added: its name, its kind with the parameters, and its ports with their wires by name.
 #[derive(Drop)]
 pub struct NewModule {
     pub name: Name,

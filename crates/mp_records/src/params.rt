@@ -4,7 +4,7 @@ ghost use Rattle.std.specs.Prelude.{◌≡◌};
 use std::alloc::AllocError;
 use std::marker::Model;
 
-/// The numbers that a module is made from, in the order of its kind's parameters.
+/// The parameters of a module, in the order of its kind.
 #[derive(Drop)]
 pub struct Params {
     numbers: Vec<u64>,

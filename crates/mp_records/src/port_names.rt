@@ -1,10 +1,10 @@
-//! The ports of a module that is to be added: wires by name.
+//! The ports of a module that is to be added, with their wires by name.
 ghost use Rattle.std.specs.Prelude.{◌≡◌};
 
 use crate::name::Name;
 use std::marker::Model;
 
-/// An input port that is to be: the name of the wire that it reads, and its transport delay in units.
+/// An input port that is to be added: the name of the wire that it reads, and its transport delay in units.
 #[derive(Drop)]
 pub struct InputName {
     pub wire: Name,
@@ -42,7 +42,7 @@ impl InputNames {
     }
 }
 
-/// An output port that is to be: the name of the wire that it drives, if any, and its transport delay in units.
+/// An output port that is to be added: the name of the wire that it drives, if any, and its transport delay in units.
 #[derive(Drop)]
 pub struct OutputName {
     pub wire: Option<Name>,

@@ -1,4 +1,4 @@
-//! The ports of a module that stands: wires by number.
+//! The ports of a module in a netlist, with their wires by number.
 ghost use Rattle.std.specs.Prelude.{◌≡◌, slice_set};
 
 use crate::ids::WireId;
@@ -7,14 +7,14 @@ use mp_modules::{MOST_INPUTS, MOST_OUTPUTS};
 use std::alloc::AllocError;
 use std::marker::Model;
 
-/// An input port: the wire that it reads, and its transport delay in units. A level of the wire reaches the module so much later.
+/// An input port: the wire that it reads, and its transport delay in units. A level of the wire reaches the module later by that delay.
 #[derive(Clone, Copy, Debug, Default, PartialEq, Eq)]
 pub struct Input {
     pub wire: WireId,
     pub delay: u32,
 }
 
-/// The inputs of a module, by port. They stand in place, without a block of memory of their own.
+/// The inputs of a module, by port. They are kept in place, without a block of memory of their own.
 #[derive(Drop)]
 pub struct Inputs {
     ports: ArrayVec<Input, MOST_INPUTS>,
@@ -56,7 +56,7 @@ impl Inputs {
         self.ports.as_slice()
     }
 
-    /// Sets the wire of a port, where there is such a port.
+    /// Sets the wire of a port, if there is such a port.
     pub(crate) fn set_wire(&mut self, port: usize, wire: WireId)
         ensures { self.new ≡ slice_set self.old port (record (input_in self.old port) { wire = wire }) }
     {
@@ -65,7 +65,7 @@ impl Inputs {
         }
     }
 
-    /// Sets the delay of a port, where there is such a port.
+    /// Sets the delay of a port, if there is such a port.
     pub(crate) fn set_delay(&mut self, port: usize, delay: u32)
         ensures { self.new ≡ slice_set self.old port (record (input_in self.old port) { delay = delay }) }
     {
@@ -82,7 +82,7 @@ pub struct Output {
     pub delay: u32,
 }
 
-/// The outputs of a module, by port. They stand in place, as inputs do.
+/// The outputs of a module, by port. They are kept in place, like inputs.
 #[derive(Drop)]
 pub struct Outputs {
     ports: ArrayVec<Output, MOST_OUTPUTS>,
@@ -124,7 +124,7 @@ impl Outputs {
         self.ports.as_slice()
     }
 
-    /// Sets the wire of a port, where there is such a port.
+    /// Sets the wire of a port, if there is such a port.
     pub(crate) fn set_wire(&mut self, port: usize, wire: Option<WireId>)
         ensures { self.new ≡ slice_set self.old port (record (output_in self.old port) { wire = wire }) }
     {
@@ -133,7 +133,7 @@ impl Outputs {
         }
     }
 
-    /// Sets the delay of a port, where there is such a port.
+    /// Sets the delay of a port, if there is such a port.
     pub(crate) fn set_delay(&mut self, port: usize, delay: u32)
         ensures { self.new ≡ slice_set self.old port (record (output_in self.old port) { delay = delay }) }
     {

@@ -5,9 +5,8 @@ use crate::name::Name;
 use crate::new_bundle::NewBundle;
 use crate::new_module::NewModule;
 
-/// A change of one thing in a netlist. It names things by their present names, and its numbers may be out of range: the edit is refused then.
-/// What adds a module or a bundle names much, and stands in a block of its own, as does the second name of an edit that has two, so that
-/// each edit is small.
+/// A change of one thing in a netlist. It names things by their present names. Its numbers may be out of range; then the edit is refused. A new
+/// module or bundle is kept in a block of its own, and so is the second name of an edit with two names, so that each edit is small.
 #[derive(Clone, Drop)]
 pub enum SingleEdit {
     /// Adds a wire of a new name, with a width in bits and an initial level.
@@ -16,17 +15,17 @@ pub enum SingleEdit {
         width: u64,
         level: u64,
     },
-    /// Removes a wire that no module and no bundle names, with what was set on it. Its name may be given again, its number never is.
+    /// Removes a wire that no module and no bundle names, with its stimulus. Its name may be used again; its number isn't.
     RemoveWire {
         wire: Name,
     },
-    /// Adds a module of a new name, whose ports are at wires that stand.
+    /// Adds a module of a new name, whose wires exist.
     AddModule(Boxed<NewModule>),
     /// Removes a module. The wires that it drove have no driver then.
     RemoveModule {
         module: Name,
     },
-    /// Adds a bundle of a new name, whose wires stand.
+    /// Adds a bundle of a new name, whose wires exist.
     AddBundle(Boxed<NewBundle>),
     /// Removes a bundle.
     RemoveBundle {
@@ -56,12 +55,12 @@ pub enum SingleEdit {
         port: u64,
         delay: u64,
     },
-    /// Sets a wire from outside, in place of what was set on it before.
+    /// Sets a wire from outside, in place of its earlier stimulus.
     SetStimulus {
         wire: Name,
         changes: Changes,
     },
-    /// Takes away what was set on a wire from outside.
+    /// Removes the stimulus of a wire.
     ClearStimulus {
         wire: Name,
     },

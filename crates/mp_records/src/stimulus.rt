@@ -1,4 +1,4 @@
-//! What is set on a wire from outside.
+//! What sets a wire from outside.
 ghost use Rattle.std.specs.Prelude.{◌≡◌};
 
 use std::alloc::AllocError;

@@ -1,9 +1,8 @@
-//! What a netlist keeps of a wire.
+//! A wire as a netlist keeps it.
 use crate::name::Name;
 use crate::stimulus::Stimulus;
 
-/// A wire: its name, its width in bits, its level from time 0 until something changes it, and what is set on it from outside, if
-/// anything.
+/// A wire: its name, its width in bits, its level from time 0 until something changes it, and its stimulus, if any.
 #[derive(Clone, Drop)]
 pub struct WireRecord {
     pub name: Name,
