@@ -1,10 +1,10 @@
-//! How often the states of modules are kept.
+//! Checkpoints.
 ghost use Rattle.std.specs.Prelude.{◌≡◌, ◌<◌, ◌≤◌};
 ghost use Rattle.mp_netlist.specs.Limits.{checkpoint_units};
 
 use crate::format::Format;
 
-/// In a run up to a horizon the states of modules are kept at each multiple of so many units.
+/// The distance of checkpoints in a run up to this horizon, in units: the states of modules are kept at each multiple of it.
 pub fn checkpoint_units(horizon: u32) -> u32
     ensures value { result ≡ checkpoint_units horizon }
     ensures some { 0 < result }

@@ -3,9 +3,9 @@
 /// How large a netlist may get, and for how long it may run.
 #[derive(Clone, Copy, Debug, PartialEq, Eq)]
 pub enum Format {
-    /// As texts of formats 1 and 2.
+    /// The format of texts of formats 1 and 2.
     Standard,
-    /// As texts of format 4.
+    /// The format of texts of format 4.
     Large,
 }
 
@@ -13,7 +13,7 @@ impl Format {
     ghost use Rattle.std.specs.Prelude.{◌≡◌, ◌≤◌};
     ghost use Rattle.mp_netlist.specs.Limits.{max_horizon, horizon_limit, wire_limit, module_limit, bundle_limit};
 
-    /// The longest time that a netlist runs for, in units.
+    /// The greatest horizon, in units.
     pub fn max_horizon(self) -> u64
         ensures value { result ≡ horizon_limit self }
         ensures most { result ≤ max_horizon }
@@ -24,7 +24,7 @@ impl Format {
         }
     }
 
-    /// How many wires may ever be added to a netlist.
+    /// The greatest number of wires that can be added, removed ones included.
     pub fn max_wires(self) -> usize
         ensures { result ≡ wire_limit self }
     {
@@ -34,7 +34,7 @@ impl Format {
         }
     }
 
-    /// How many modules may ever be added to a netlist.
+    /// The greatest number of modules that can be added, removed ones included.
     pub fn max_modules(self) -> usize
         ensures { result ≡ module_limit self }
     {
@@ -44,7 +44,7 @@ impl Format {
         }
     }
 
-    /// How many bundles may ever be added to a netlist.
+    /// The greatest number of bundles that can be added, removed ones included.
     pub fn max_bundles(self) -> usize
         ensures { result ≡ bundle_limit self }
     {

@@ -20,7 +20,7 @@ impl Index {
     ghost use Rattle.std.specs.Str.{bytes_eq};
     ghost use Rattle.mp_netlist.specs.Indexes.{number_in};
 
-    /// Without a name.
+    /// An index without names.
     pub fn new() -> Index
         ensures { (name : List ℕ) → number_in result name ≡ None }
     {
@@ -50,7 +50,7 @@ impl Index {
         Ok(())
     }
 
-    /// Another handle of the index, which is shared until one of them changes.
+    /// A copy of the index. The two share memory until one of them changes.
     pub fn copy(&self) -> Result<Index, AllocError>
         ensures { IfOk result (λ copy. (name : List ℕ) → number_in copy name ≡ number_in self.now name) }
     {
@@ -63,7 +63,7 @@ impl Index {
     }
 }
 
-/// Sets the number of a name, in a copy where others look there too.
+/// Sets the number of a name, in a copy if others share the index.
 fn insert_shared(
     shared: &mut Arc<IndexMap<Name, u32>, Global>,
     name: Name,

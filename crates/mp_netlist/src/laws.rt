@@ -1,4 +1,4 @@
-//! What holds of every netlist.
+//! Laws of netlists.
 
 ghost use Rattle.mp_netlist.specs.Drivers.{FindsPorts, FindsOnlyPorts, LeavesNoDriver};
 ghost use Rattle.mp_netlist.specs.Delays.{DelaysAreLeast};
@@ -19,13 +19,13 @@ pub fn leaves_no_driver()
     ensures { LeavesNoDriver }
 {}
 
-/// No port that drives a wire has a delay below the least, which is at least 1; and one has it, or it is the horizon and no port
-/// drives a wire.
+/// The least delay is at least 1. No port that drives a wire has a smaller delay, and one of them has it; if there is no such port, it is the
+/// horizon.
 pub fn delays_are_least()
     ensures { DelaysAreLeast }
 {}
 
-/// A netlist is one after each edit that is not refused, a batch among them.
+/// A netlist is well formed after each accepted edit, batches included.
 pub fn edits_keep_netlists()
     ensures { EditsKeepNetlists }
 {}

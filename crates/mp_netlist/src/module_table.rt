@@ -9,8 +9,8 @@ use mp_records::{ModuleRecord, Name, Output, WireId};
 use std::alloc::{AllocError, Global};
 use std::marker::Model;
 
-/// Modules by number, from 0 in order of adding, and by name. A wire that one of them drives is marked, and stays so; so for a wire that isn't
-/// they needn't be looked at. Contracts see the modules alone.
+/// Modules by number, from 0 in the order of adding, and by name. A wire that one of them drives is marked and stays marked, so an unmarked wire has
+/// no driver among them. Contracts see only the modules.
 #[derive(Drop)]
 pub struct ModuleTable {
     table: Table<ModuleRecord>,
@@ -37,7 +37,7 @@ impl ModuleTable {
     ghost use Rattle.mp_netlist.specs.Drivers.{driver_from, port_of};
     ghost use Rattle.mp_netlist.specs.Slots.{slot_at, number_named};
 
-    /// A table of nothing.
+    /// An empty table.
     pub fn new(alloc: Global) -> ModuleTable
         ensures { result ≡ [] }
     {
@@ -47,7 +47,7 @@ impl ModuleTable {
         }
     }
 
-    /// The module of this number, where it stands.
+    /// The module of this number, if it exists.
     pub fn get(&self, number: u32) -> Option<&ModuleRecord>
         ensures { option_copied result ≡ slot_at self.now number }
     {
@@ -68,14 +68,14 @@ impl ModuleTable {
         self.table.number_spelled(text)
     }
 
-    /// Whether a module drives this wire, or did so once: if not, none is its driver.
+    /// Whether a module drives this wire, or has driven it. If not, no module is its driver.
     pub fn may_drive(&self, wire: WireId) -> bool
         ensures { result ≡ false → driver_from 0 self.now wire.0 Nothing ≡ Nothing }
     {
         may_be_driven(self.driven.as_slice(), wire)
     }
 
-    /// Makes a place for the mark of a wire, if it is the next one. No module drives the wire.
+    /// Adds a place for the mark of a wire, if the wire is the next one. No module drives it.
     pub fn add_mark(&mut self, wire: WireId) -> Result<(), AllocError>
         requires { (m : ℕ) → port_of (slot_at self.old m) wire.0 ≡ None }
         ensures { self.new ≡ self.old }
@@ -97,14 +97,14 @@ impl ModuleTable {
         self.table.push(added)
     }
 
-    /// Takes away the module of this number. The number stays empty.
+    /// Removes the module of this number. The number stays empty.
     pub fn remove(&mut self, number: u32)
         ensures { self.new ≡ slice_set self.old number None }
     {
         self.table.remove(number);
     }
 
-    /// Changes what stands in the slot of this number.
+    /// Changes the module of this number, if it exists.
     pub fn change<C: Change<ModuleRecord>>(&mut self, number: u32, change: C)
         ensures { self.new ≡ slice_set self.old number (option_map (C.changed change) (slot_at self.old number)) }
     {
@@ -123,21 +123,21 @@ impl ModuleTable {
         Ok(ModuleTable { table, driven })
     }
 
-    /// How many modules were ever added.
+    /// The number of modules that were ever added.
     pub fn len(&self) -> usize
         ensures { result ≡ length self.now }
     {
         self.table.len()
     }
 
-    /// What stands, by number.
+    /// The slots, by number.
     pub fn as_slice(&self) -> &[Option<ModuleRecord>]
         ensures { result.now ≡ self.now }
     {
         self.table.as_slice()
     }
 
-    /// Where its memory is from.
+    /// The allocator of its memory.
     pub fn allocator(&self) -> Global {
         self.table.allocator()
     }

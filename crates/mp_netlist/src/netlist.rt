@@ -26,10 +26,10 @@ pub const MAX_DELAY: u64 = 65535;
 /// The longest setup of a bundle, in units.
 pub const MAX_SETUP: u64 = 65535;
 
-/// How many edits a batch may have.
+/// The greatest number of edits of a batch.
 pub const MAX_BATCH: usize = 256;
 
-/// Wires, modules and bundles by number, for how many units they run, and how many there may be.
+/// Wires, modules and bundles by number, with a horizon and a format that limits how many there may be.
 #[derive(Drop)]
 pub struct Netlist {
     format: Format,
@@ -58,8 +58,7 @@ impl Netlist {
     ghost use Rattle.mp_netlist.specs.Limits.{max_horizon, max_wires, max_modules, max_bundles, horizon_limit};
     ghost use Rattle.mp_netlist.specs.Circuit.{IsCircuit, IsWire, IsModule, IsBundle, empty_circuit, wire_at, module_at, bundle_at, wire_named, module_named, bundle_named};
 
-    /// A netlist of a format without records that runs for `horizon` units: refused as `BadHorizon` exactly where they are not 1 to
-    /// the longest of the format.
+    /// An empty netlist of this format and horizon. `BadHorizon` comes exactly if the horizon isn't 1 to the longest of the format.
     pub fn empty(alloc: Global, format: Format, horizon: u64) -> Result<Netlist, NewError>
         ensures ok { IfOk result (λ netlist. netlist ≡ empty_circuit format horizon) }
         ensures allowed { IsOk result ↔ ((1 ≤ horizon) × (horizon ≤ horizon_limit format)) }
@@ -77,14 +76,14 @@ impl Netlist {
         })
     }
 
-    /// How large it may get.
+    /// The format, which limits how large it may get.
     pub fn format(&self) -> Format
         ensures { result ≡ self.now.format }
     {
         self.format
     }
 
-    /// For how many units it runs: times are from 0 to one below.
+    /// The horizon, in units: times are from 0 to one below it.
     pub fn horizon(&self) -> u32
         ensures value { result ≡ self.now.horizon }
         ensures low { 1 ≤ result }
@@ -94,7 +93,7 @@ impl Netlist {
         self.horizon
     }
 
-    /// How many wires were ever added. Their numbers are below.
+    /// The number of wires that were ever added. Their numbers are below it.
     pub fn wire_slots(&self) -> u32
         ensures value { result ≡ length self.now.wires }
         ensures few { result ≤ max_wires }
@@ -102,7 +101,7 @@ impl Netlist {
         self.wires.len() as u32
     }
 
-    /// How many modules were ever added. Their numbers are below.
+    /// The number of modules that were ever added. Their numbers are below it.
     pub fn module_slots(&self) -> u32
         ensures value { result ≡ length self.now.modules }
         ensures few { result ≤ max_modules }
@@ -110,7 +109,7 @@ impl Netlist {
         self.modules.len() as u32
     }
 
-    /// How many bundles were ever added. Their numbers are below.
+    /// The number of bundles that were ever added. Their numbers are below it.
     pub fn bundle_slots(&self) -> u32
         ensures value { result ≡ length self.now.bundles }
         ensures few { result ≤ max_bundles }
@@ -118,7 +117,7 @@ impl Netlist {
         self.bundles.len() as u32
     }
 
-    /// The wire of this number, where it stands.
+    /// The wire of this number, if it exists.
     pub fn wire(&self, id: WireId) -> Option<&WireRecord>
         ensures value { option_copied result ≡ wire_at self.now id.0 }
         ensures form { IfSome result (λ found. IsWire self.now.horizon found.now) }
@@ -126,7 +125,7 @@ impl Netlist {
         self.wires.get(id.0)
     }
 
-    /// The module of this number, where it stands.
+    /// The module of this number, if it exists.
     pub fn module(&self, id: ModuleId) -> Option<&ModuleRecord>
         ensures value { option_copied result ≡ module_at self.now id.0 }
         ensures form { IfSome result (λ found. IsModule self.now found.now) }
@@ -134,7 +133,7 @@ impl Netlist {
         self.modules.get(id.0)
     }
 
-    /// The bundle of this number, where it stands.
+    /// The bundle of this number, if it exists.
     pub fn bundle(&self, id: BundleId) -> Option<&BundleRecord>
         ensures value { option_copied result ≡ bundle_at self.now id.0 }
         ensures form { IfSome result (λ found. IsBundle self.now found.now) }

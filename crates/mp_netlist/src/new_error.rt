@@ -1,7 +1,7 @@
-//! Why no netlist is made.
+//! The reason why a netlist is not made.
 use thiserror::Error;
 
-/// Why no netlist is made.
+/// The reason why a netlist is not made.
 #[derive(Clone, Copy, Debug, PartialEq, Eq, Error)]
 pub enum NewError {
     #[error("the horizon is not 1 to the longest of its format")]

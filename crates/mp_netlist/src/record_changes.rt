@@ -1,4 +1,4 @@
-//! The changes of a record in its place, each of which keeps the record's name.
+//! Changes of a record in place, which keep the record's name.
 ghost use Rattle.std.proofs.Common.{refl, rules};
 ghost use Rattle.mp_records.specs.PortChanges.{with_input, with_input_delay, with_output, with_delay};
 ghost use Rattle.mp_netlist.specs.Edits.{with_stimulus, without_stimulus};

@@ -7,7 +7,7 @@ use mp_records::Name;
 use std::alloc::{AllocError, Global};
 use std::marker::Model;
 
-/// What is kept by its name. Its clones equal it.
+/// A thing with a name. Its clones are equal to it.
 pub trait Named: Clone + Drop {
     ghost name_of: { Self → List ℕ };
 
@@ -29,8 +29,7 @@ pub trait Change<R: Named>: Drop {
     ghost keeps_name: { (change : Self) (thing : R) → R.name_of (changed change thing) ≡ R.name_of thing };
 }
 
-/// Things by number, from 0 in order of adding, and by name. The number of a thing that went may stay in the index, since its slot stays
-/// empty.
+/// Things by number, from 0 in the order of adding, and by name. The number of a removed thing may stay in the index, since its slot stays empty.
 #[derive(Drop)]
 pub struct Table<R: Named> {
     slots: Vec<Option<R>>,
@@ -54,7 +53,7 @@ impl<R: Named> Table<R> {
     ghost use Rattle.std.specs.Option.{option_copied};
     ghost use Rattle.mp_netlist.specs.Slots.{slot_at, number_named};
 
-    /// A table of nothing.
+    /// An empty table.
     pub fn new(alloc: Global) -> Table<R>
         ensures { result ≡ [] }
     {
@@ -64,7 +63,7 @@ impl<R: Named> Table<R> {
         }
     }
 
-    /// The thing of this number, where it stands.
+    /// The thing of this number, if it exists.
     pub fn get(&self, number: u32) -> Option<&R>
         ensures { option_copied result ≡ slot_at self.now number }
     {
@@ -84,7 +83,7 @@ impl<R: Named> Table<R> {
         }
     }
 
-    /// The number of the thing that has this name. It is looked for at the number `near` and at the next one first, which costs less if it is there.
+    /// The number of the thing that has this name. The numbers `near` and the next one are tried first, which costs less if it is one of them.
     pub fn number_near(&self, name: &Name, near: u32) -> Option<u32>
         ensures { result ≡ number_named R.name_of self.now name.now }
     {
@@ -100,7 +99,7 @@ impl<R: Named> Table<R> {
         self.number_named(name)
     }
 
-    /// The number of the thing whose name is this text. Where memory for a long text is wanting, each thing is looked at.
+    /// The number of the thing whose name is this text. If there is no memory for a long text, each thing is looked at.
     pub fn number_spelled(&self, text: &str) -> Option<u32>
         ensures { result ≡ number_named R.name_of self.now text.now }
     {
@@ -110,7 +109,7 @@ impl<R: Named> Table<R> {
         }
     }
 
-    /// The number of the thing whose name is this text, found by a look at each thing.
+    /// The number of the thing whose name is this text, by a look at each thing.
     fn number_sought(&self, text: &str) -> Option<u32>
         ensures { result ≡ number_named R.name_of self.now text.now }
     {
@@ -138,7 +137,7 @@ impl<R: Named> Table<R> {
         Ok(())
     }
 
-    /// Takes away the thing of this number. The number stays empty.
+    /// Removes the thing of this number. The number stays empty.
     pub fn remove(&mut self, number: u32)
         ensures { self.new ≡ slice_set self.old number None }
     {
@@ -166,27 +165,27 @@ impl<R: Named> Table<R> {
         })
     }
 
-    /// How many things were ever added.
+    /// The number of things that were ever added.
     pub fn len(&self) -> usize
         ensures { result ≡ length self.now }
     {
         self.slots.len()
     }
 
-    /// What stands, by number.
+    /// The slots, by number.
     pub fn as_slice(&self) -> &[Option<R>]
         ensures { result.now ≡ self.now }
     {
         self.slots.as_slice()
     }
 
-    /// Where its memory is from.
+    /// The allocator of its memory.
     pub fn allocator(&self) -> Global {
         *self.slots.allocator()
     }
 }
 
-/// Whether a thing of this name stands in the slot of this number.
+/// Whether the thing of this number exists and has this name.
 fn has_name<R: Named>(slots: &[Option<R>], number: u32, name: &str) -> bool
     ensures { result ≡ has_name R.name_of name.now (slot_at slots.now number) }
 {
@@ -196,7 +195,7 @@ fn has_name<R: Named>(slots: &[Option<R>], number: u32, name: &str) -> bool
     }
 }
 
-/// Whether something stands in the slot of this number.
+/// Whether the thing of this number exists.
 fn stands<T>(slots: &[Option<T>], number: u32) -> bool
     ensures { result ≡ is_some (slice_index_or slots.now number None) }
 {
@@ -216,7 +215,7 @@ fn change_slot<R: Named, C: Change<R>>(slots: &mut Vec<Option<R>>, number: usize
     }
 }
 
-/// Takes away what stands in the slot of this number.
+/// Empties the slot of this number.
 fn clear<T: Drop>(slots: &mut Vec<Option<T>>, number: usize)
     requires { number < vec_len slots.old }
     ensures { slots.new.items ≡ slice_set slots.old.items number None }

@@ -1,4 +1,4 @@
-//! What an edit does to a netlist.
+//! Makes edits.
 use crate::netlist::Netlist;
 use crate::netlist::new_ports::NewPorts;
 use crate::record_changes::{
@@ -19,9 +19,9 @@ impl Netlist {
     ghost use Rattle.mp_netlist.specs.Circuit.{IsCircuit, wire_at, module_at, wire_named, module_named, bundle_named};
     ghost use Rattle.mp_netlist.specs.Edits.{after, after_single, RefusedBy, takes_memory, single_takes_memory, refusal, edited, wire_refusal, wire_removal_refusal, module_refusal, module_removal_refusal, bundle_refusal, bundle_removal_refusal, input_refusal, output_refusal, input_delay_refusal, delay_refusal, stimulus_refusal, clearing_refusal, with_wire_record, with_new_wire, input_of, output_of, new_module, with_new_module, new_bundle, with_new_bundle, with_bundle, with_stimulus, without_stimulus, with_wire, with_module, wire_id, module_id, bundle_id};
 
-    /// Makes the edit, or says which check fails first, or `OutOfMemory`, which no edit is told but a batch and those that add a thing or
-    /// set a stimulus. A batch is made whole, or refused for the first of its edits that is refused: with `InBatch`, or with
-    /// `OutOfMemory` where that was met before. A refusal leaves the netlist as it was.
+    /// Makes the edit. The error is the first check that fails; or `OutOfMemory`, which only a batch and an edit that adds a thing or sets a stimulus
+    /// can get. A batch is made as a whole, or refused for the first of its edits that is refused: with `InBatch`, or with `OutOfMemory` if memory
+    /// runs out before that. A refused edit leaves the netlist as it was.
     pub fn apply(&mut self, edit: &Edit) -> Result<(), EditError>
         ensures ok { OnOk result (after self.old edit.now ≡ Ok self.new) }
         ensures refused { IfErr result (RefusedBy edit.now (after self.old edit.now)) }
@@ -37,7 +37,7 @@ impl Netlist {
         }
     }
 
-    /// Makes an edit of one thing, or says why it is refused, as `apply` does.
+    /// Makes an edit of one thing. The errors are those of `apply`.
     pub(crate) fn apply_single(&mut self, edit: &SingleEdit) -> Result<(), EditError>
         ensures ok { OnOk result (after_single self.old edit.now ≡ Ok self.new) }
         ensures refused { IfErr result (RefusedBy (Single edit.now) (after_single self.old edit.now)) }
@@ -54,7 +54,7 @@ impl Netlist {
     }
 
     #[tactic(auto, unfolding(crate::specs::Edits::edited, crate::specs::Edits::refusal))]
-    /// Adds a module, or says why it is refused, as `apply` does of the edit that adds it. The wires at its ports are looked up once.
+    /// Adds a module, as `apply` does for the edit that adds it, with the same errors. The wires at its ports are looked up once.
     pub fn apply_module(&mut self, new: &NewModule) -> Result<(), EditError>
         ensures ok { OnOk result (after_single self.old (AddModule new.now) ≡ Ok self.new) }
         ensures refused { IfErr result (RefusedBy (Single (AddModule new.now)) (after_single self.old (AddModule new.now))) }
@@ -67,7 +67,7 @@ impl Netlist {
     }
 
     #[tactic(auto, unfolding(crate::specs::Edits::edited, crate::specs::Edits::refusal))]
-    /// Makes an edit of one thing that no check refuses. The error comes where memory is wanting.
+    /// Makes an edit of one thing that no check refuses. `AllocError` comes if memory runs out.
     pub(crate) fn make_single(&mut self, edit: &SingleEdit) -> Result<(), AllocError>
         requires { refusal self.old edit.now ≡ None }
         ensures ok { OnOk result (self.new ≡ edited self.old edit.now) }

@@ -8,8 +8,8 @@ impl Netlist {
     ghost use Rattle.mp_netlist.specs.Limits.{max_batch};
     ghost use Rattle.mp_netlist.specs.Edits.{checked, after, after_single, after_each, in_place, RefusedBy};
 
-    /// The netlist after the edit, or why it is refused, as `apply` tells; this one stays as it is. It takes one copy, also for a batch,
-    /// and none where `check` refuses the edit.
+    /// The netlist after the edit; this one stays as it is. The errors are those of `apply`. It makes one copy, even for a batch, and none if `check`
+    /// refuses the edit.
     pub fn after(&self, edit: &Edit) -> Result<Netlist, EditError>
         ensures ok { IfOk result (λ next. after self.now edit.now ≡ Ok next) }
         ensures refused { IfErr result (RefusedBy edit.now (after self.now edit.now)) }
@@ -20,7 +20,7 @@ impl Netlist {
         Ok(next)
     }
 
-    /// Makes an edit that `check` lets pass. Of a batch that is refused the edits before stay made.
+    /// Makes an edit that `check` doesn't refuse. If a batch is refused, the edits before the refused one stay made.
     fn make(&mut self, edit: &Edit) -> Result<(), EditError>
         requires { checked self.old edit.now ≡ None }
         ensures ok { OnOk result (after self.old edit.now ≡ Ok self.new) }
@@ -32,7 +32,7 @@ impl Netlist {
         }
     }
 
-    /// Makes the edits of a batch in turn, up to the first that is refused.
+    /// Makes the edits of a batch in turn, up to the first one that is refused.
     fn make_each(&mut self, batch: &Batch) -> Result<(), EditError>
         requires { length batch.now ≤ max_batch }
         ensures ok { OnOk result (after_each 1 self.old batch.now ≡ Ok self.new) }
@@ -44,7 +44,7 @@ impl Netlist {
         Ok(())
     }
 
-    /// Makes the edit of a batch that has this place.
+    /// Makes the edit at this place of a batch.
     fn make_in_place(&mut self, place: u32, edit: &SingleEdit) -> Result<(), EditError>
         ensures ok { OnOk result (in_place place (after_single self.old edit.now) ≡ Ok self.new) }
         ensures refused { IfErr result (λ error. (in_place place (after_single self.old edit.now) ≡ Err error) ⊎ (error ≡ OutOfMemory)) }

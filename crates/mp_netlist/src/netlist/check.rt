@@ -1,4 +1,4 @@
-//! Why an edit is refused.
+//! Checks of edits.
 ghost use Rattle.std.specs.Prelude.{◌≡◌};
 ghost use Rattle.std.specs.Result.{result_err};
 ghost use Rattle.mp_netlist.specs.Edits.{first_failing, batch_checks};
@@ -16,8 +16,8 @@ impl Netlist {
     ghost use Rattle.std.specs.Result.{result_err};
     ghost use Rattle.mp_netlist.specs.Edits.{checked, refusal, wire_refusal, wire_removal_refusal, module_refusal, module_removal_refusal, bundle_refusal, bundle_removal_refusal, input_refusal, output_refusal, input_delay_refusal, delay_refusal, stimulus_refusal, clearing_refusal, input_of, output_of};
 
-    /// The first check that the edit fails, in the order of its kind, where it is not want of memory. Of a batch it tells `BadBatch` alone:
-    /// its edits are judged as they are made.
+    /// Checks the edit. The error is the first check that it fails, in the order of its kind, lack of memory apart. For a batch it is only
+    /// `BadBatch`, since the edits of a batch are checked as they are made.
     pub fn check(&self, edit: &Edit) -> Result<(), EditError>
         ensures { result_err result ≡ checked self.now edit.now }
     {
@@ -28,7 +28,7 @@ impl Netlist {
     }
 
     #[tactic(auto, unfolding(crate::specs::Edits::refusal))]
-    /// The first check that an edit of one thing fails, in the order of its kind, where it is not want of memory.
+    /// Checks an edit of one thing. The error is the first check that it fails, in the order of its kind, lack of memory apart.
     pub(crate) fn check_single(&self, edit: &SingleEdit) -> Result<(), EditError>
         ensures { result_err result ≡ refusal self.now edit.now }
     {
@@ -98,7 +98,7 @@ impl Netlist {
         Ok(())
     }
 
-    /// The ports of a module that is to be added, or the first check that it fails.
+    /// The ports of a module that is to be added. The error is the first check that it fails.
     pub(crate) fn check_module(&self, new: &NewModule) -> Result<NewPorts, EditError>
         ensures refused { result_err result ≡ module_refusal self.now new.now }
         ensures inputs { IfOk result (λ ports. ports.inputs ≡ map (input_of self.now) new.now.inputs) }
@@ -286,7 +286,7 @@ impl Netlist {
     }
 }
 
-/// Whether a batch has edits, and not too many.
+/// Checks that a batch has edits, and not too many.
 fn check_batch(batch: &Batch) -> Result<(), EditError>
     ensures { result_err result ≡ first_failing (batch_checks batch.now) }
 {

@@ -11,7 +11,7 @@ impl Netlist {
     ghost use Rattle.mp_netlist.specs.Delays.{least_delay};
 
     #[tactic(auto, unfolding(crate::specs::Delays::least_delay))]
-    /// The least delay over all outputs that have a wire, in units, and the horizon where none has.
+    /// The least delay of all outputs that have a wire, in units; the horizon if there is none.
     pub fn least_delay(&self) -> u32
         ensures { result ≡ least_delay self.now }
     {
@@ -35,7 +35,7 @@ fn least_among(modules: &[Option<ModuleRecord>]) -> Option<u32>
     least
 }
 
-/// The least of a delay, if any, and of those of the outputs.
+/// The least of a delay, if there is one, and the delays of the outputs.
 fn least_in(known: Option<u32>, outputs: &[Output]) -> Option<u32>
     ensures { result ≡ fold lesser known (delays_of outputs.now) }
 {

@@ -13,7 +13,7 @@ impl Netlist {
     ghost use Rattle.mp_netlist.specs.Circuit.{stimulus_at};
     ghost use Rattle.mp_netlist.specs.Drivers.{driver};
 
-    /// What drives the wire of this number: nothing where none stands.
+    /// What drives the wire of this number: nothing if there is none.
     pub fn driver_of(&self, wire: WireId) -> Driver
         ensures { result ≡ driver self.now wire.0 }
     {
@@ -28,7 +28,7 @@ impl Netlist {
         driver_among(modules, wire)
     }
 
-    /// Whether the wire of this number stands and has a stimulus.
+    /// Whether the wire of this number exists and has a stimulus.
     pub(crate) fn has_stimulus(&self, wire: WireId) -> bool
         ensures { result ≡ is_some (stimulus_at self.now wire.0) }
     {
@@ -39,7 +39,7 @@ impl Netlist {
     }
 }
 
-/// Whether the driver is nothing, or just that port of that module.
+/// Whether the driver is nothing, or that port of that module.
 pub(crate) fn is_free_for(id: ModuleId, port: u64, driver: Driver) -> bool
     ensures { result ≡ is_free_for id.0 port driver }
 {
@@ -50,7 +50,7 @@ pub(crate) fn is_free_for(id: ModuleId, port: u64, driver: Driver) -> bool
     }
 }
 
-/// The module and port that have the wire as output, or else nothing.
+/// The module and the port that drive the wire, or nothing.
 fn driver_among(modules: &[Option<ModuleRecord>], wire: WireId) -> Driver
     requires few { length modules.now < 2 ^ 32 }
     requires forms { All HasFewPorts modules.now }

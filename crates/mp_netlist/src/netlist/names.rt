@@ -38,7 +38,7 @@ impl Netlist {
         }
     }
 
-    /// The number of the module that has the name, 0 where none has.
+    /// The number of the module that has the name, 0 if there is none.
     pub(crate) fn module_id(&self, name: &Name) -> ModuleId
         ensures { result ≡ module_id self.now name.now }
     {
@@ -48,14 +48,14 @@ impl Netlist {
         }
     }
 
-    /// Whether a bundle of the name stands.
+    /// Whether there is a bundle of this name.
     pub(crate) fn bundle_stands(&self, name: &Name) -> bool
         ensures { result ≡ bundle_stands self.now name.now }
     {
         self.find_bundle(name).is_some()
     }
 
-    /// The number of the bundle that has the name, 0 where none has.
+    /// The number of the bundle that has the name, 0 if there is none.
     pub(crate) fn bundle_id(&self, name: &Name) -> BundleId
         ensures { result ≡ bundle_id self.now name.now }
     {
@@ -65,7 +65,7 @@ impl Netlist {
         }
     }
 
-    /// How many input ports the module of this number has, 0 where none stands.
+    /// The number of input ports of the module of this number, 0 if there is none.
     pub(crate) fn input_ports(&self, id: ModuleId) -> u64
         ensures { result ≡ input_ports (module_at self.now id.0) }
     {
@@ -75,7 +75,7 @@ impl Netlist {
         }
     }
 
-    /// How many output ports the module of this number has, 0 where none stands.
+    /// The number of output ports of the module of this number, 0 if there is none.
     pub(crate) fn output_ports(&self, id: ModuleId) -> u64
         ensures { result ≡ output_ports (module_at self.now id.0) }
     {
@@ -85,7 +85,7 @@ impl Netlist {
         }
     }
 
-    /// The width of an input port of the module of this number, 0 where none stands.
+    /// The width of an input port of the module of this number, 0 if there is none.
     pub(crate) fn input_width(&self, id: ModuleId, port: u64) -> u32
         ensures { result ≡ input_width_of self.now (module_at self.now id.0) port }
     {
@@ -97,7 +97,7 @@ impl Netlist {
         }
     }
 
-    /// The width of an output port of the module of this number, 0 where none stands.
+    /// The width of an output port of the module of this number, 0 if there is none.
     pub(crate) fn output_width(&self, id: ModuleId, port: u64) -> u32
         ensures { result ≡ output_width_of self.now (module_at self.now id.0) port }
     {

@@ -25,7 +25,7 @@ impl Netlist {
     ghost use Rattle.mp_netlist.specs.Edits.{are_distinct, stands, wire_id, inputs_stand, inputs_fit, outputs_fit, is_undriven, driven_names, new_width};
     ghost use Rattle.mp_netlist.specs.NewPorts.{AreNamedPorts, named_input, named_output, width_of_first};
 
-    /// The ports of a new module, where all wires that it names stand. Their delays aren't checked.
+    /// The ports of a new module, if all wires that it names exist. Their delays aren't checked.
     pub(crate) fn named_ports(&self, new: &NewModule) -> Option<NewPorts>
         requires inputs { length new.now.inputs ≤ MOST_INPUTS }
         requires outputs { length new.now.outputs ≤ MOST_OUTPUTS }
@@ -38,7 +38,7 @@ impl Netlist {
         Some(NewPorts { inputs, outputs })
     }
 
-    /// Inputs at the wires that they name, where all of these stand.
+    /// The inputs at the wires that they name, if all of these exist.
     fn named_inputs(&self, names: &InputNames, near: WireId) -> Option<Inputs>
         requires { length names.now ≤ MOST_INPUTS }
         ensures stand { is_some result ≡ inputs_stand self.now names.now }
@@ -54,7 +54,7 @@ impl Netlist {
         Some(Inputs::new(ports))
     }
 
-    /// Outputs at the wires that they name, where all of these stand.
+    /// The outputs at the wires that they name, if all of these exist.
     fn named_outputs(&self, names: &OutputNames, near: WireId) -> Option<Outputs>
         requires { length names.now ≤ MOST_OUTPUTS }
         ensures stand { is_some result ≡ list_all (stands self.now) (driven_names names.now) }
@@ -74,7 +74,7 @@ impl Netlist {
         Some(Outputs::new(ports))
     }
 
-    /// The number of the wire that has the name, where one stands. It costs less where this wire or the next one has it.
+    /// The number of the wire that has the name, if there is one. It costs less if this wire or the next one has it.
     fn standing_wire(&self, name: &Name, near: WireId) -> Option<WireId>
         ensures stand { is_some result ≡ stands self.now name.now }
         ensures wire { IfSome result (λ wire. wire ≡ wire_id self.now name.now) }
@@ -85,7 +85,7 @@ impl Netlist {
         }
     }
 
-    /// A wire that the last module drives, if it stands and drives one. Those that a new module names are often near.
+    /// A wire that the last module drives, if that module exists and drives one. The wires of a new module are often near it.
     fn last_driven(&self) -> WireId {
         match self.modules.as_slice() {
             [.., Some(last)] => first_driven(last.outputs.as_slice()),
@@ -177,7 +177,7 @@ impl Netlist {
     }
 }
 
-/// The wire of the first output, where it drives one.
+/// The wire of the first output, if it drives one.
 fn first_driven(outputs: &[Output]) -> WireId {
     match outputs {
         [
@@ -191,7 +191,7 @@ fn first_driven(outputs: &[Output]) -> WireId {
     }
 }
 
-/// A delay, where a port may have it, and else one that no port may have.
+/// The delay if a port may have it, and otherwise one that no port may have.
 fn kept_delay(delay: u64) -> u32
     ensures { result ≡ kept_delay delay }
 {

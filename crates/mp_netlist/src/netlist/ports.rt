@@ -15,14 +15,14 @@ impl Netlist {
     ghost use Rattle.std.specs.Prelude.{◌≡◌, option_map};
     ghost use Rattle.mp_netlist.specs.Edits.{stands, wire_id, width_named};
 
-    /// Whether a wire of the name stands.
+    /// Whether there is a wire of this name.
     pub(crate) fn stands(&self, name: &Name) -> bool
         ensures { result ≡ stands self.now name.now }
     {
         self.find_wire(name).is_some()
     }
 
-    /// The number of the wire that has the name, 0 where none has.
+    /// The number of the wire that has the name, 0 if there is none.
     pub(crate) fn id_of(&self, name: &Name) -> WireId
         ensures { result ≡ wire_id self.now name.now }
     {
@@ -42,7 +42,7 @@ impl Netlist {
         }
     }
 
-    /// The width of the wire that has the name, 0 where none has.
+    /// The width of the wire that has the name, 0 if there is none.
     pub(crate) fn width_of(&self, name: &Name) -> u32
         ensures { result ≡ width_named self.now name.now }
     {
@@ -53,7 +53,7 @@ impl Netlist {
     }
 }
 
-/// Whether no wire is named by two of the outputs.
+/// Whether no two of the outputs name the same wire.
 pub(crate) fn are_distinct(outputs: &[OutputName]) -> bool
     ensures { result ≡ are_distinct (driven_names outputs.now) }
 {

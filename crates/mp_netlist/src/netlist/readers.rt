@@ -1,4 +1,4 @@
-//! Who reads a wire of a netlist.
+//! The readers of a wire.
 ghost use Rattle.std.specs.Prelude.{◌≡◌, ◌<◌, ◌^◌, ◌++◌, All, OnOk, length};
 ghost use Rattle.std.specs.List.{enumerate_from, flat_map};
 ghost use Rattle.mp_netlist.specs.Readers.{ports_at, readers_in};
@@ -13,7 +13,7 @@ impl Netlist {
     ghost use Rattle.mp_netlist.specs.Readers.{readers};
 
     #[tactic(auto, unfolding(crate::specs::Readers::readers))]
-    /// Each module and input port that is at the wire of this number, by module, then port.
+    /// Each module and input port that reads the wire of this number, by module, then port.
     pub fn readers_of(&self, wire: WireId) -> Result<Vec<(ModuleId, u32)>, AllocError>
         ensures { IfOk result (λ found. found.items ≡ readers self.now wire.0) }
     {
@@ -23,7 +23,7 @@ impl Netlist {
     }
 }
 
-/// Adds the input ports of the modules that are at the wire.
+/// Adds the input ports of the modules that read the wire.
 fn push_readers(
     found: &mut Vec<(ModuleId, u32)>,
     modules: &[Option<ModuleRecord>],
@@ -41,7 +41,7 @@ fn push_readers(
     Ok(())
 }
 
-/// Adds the input ports of a module that are at the wire.
+/// Adds the input ports of a module that read the wire.
 fn push_ports(
     found: &mut Vec<(ModuleId, u32)>,
     id: ModuleId,

@@ -1,4 +1,4 @@
-//! Which wires are named by modules and bundles.
+//! The uses of wires by modules and bundles.
 ghost use Rattle.std.specs.Prelude.{◌≡◌};
 ghost use Rattle.std.specs.List.{list_any};
 ghost use Rattle.mp_records.specs.NamedWires.{module_names, bundle_names};

@@ -9,7 +9,7 @@ impl Netlist {
     ghost use Rattle.std.specs.Prelude.{◌≡◌};
     ghost use Rattle.mp_netlist.specs.Circuit.{wire_at, width_of, module_width};
 
-    /// The width of the wire of this number, 0 where none stands.
+    /// The width of the wire of this number, 0 if there is none.
     pub(crate) fn wire_width(&self, id: WireId) -> u32
         ensures { result ≡ width_of (wire_at self.now id.0) }
     {
@@ -19,7 +19,7 @@ impl Netlist {
         }
     }
 
-    /// The width of a module: that of the wire at its first input where its kind has ports of any width, and else 1.
+    /// The width of a module: that of the wire at its first input if its kind has ports of any width, and otherwise 1.
     pub fn module_width(&self, found: &ModuleRecord) -> u32
         ensures { result ≡ module_width self.now found.now }
     {
