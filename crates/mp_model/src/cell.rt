@@ -1,4 +1,4 @@
-//! One module while time passes.
+//! A module as time passes.
 ghost use Rattle.std.specs.Prelude.{◌≡◌};
 
 use mp_modules::{AnyModule, EventModule, Memory};
@@ -14,7 +14,7 @@ impl Cell {
     ghost use Rattle.std.specs.Prelude.{◌≡◌};
     ghost use Rattle.mp_model.specs.Cells.{after_answer};
 
-    /// Goes on to the state at a time, where the inputs have these levels.
+    /// Steps to the state at a time, with these levels at the inputs.
     pub(crate) fn answer(&mut self, time: u32, levels: &[u64])
         ensures { self.new ≡ after_answer self.old time levels.now }
     {

@@ -20,8 +20,8 @@ use mp_netlist::{Input, ModuleId, ModuleRecord, Netlist, WireId};
 use mp_wave::Wave;
 use std::alloc::{AllocError, Global};
 
-/// The wave of each wire up to the horizon, one place per wire number and none for a removed wire: each level is the one that the
-/// netlist and its stimuli give, computed unit by unit from time 0.
+/// The wave of each wire up to the horizon, by wire number, `None` for a removed wire. Each level is the one that the netlist and its stimuli give,
+/// computed unit by unit from time 0.
 pub fn plain_waves(alloc: Global, netlist: &Netlist) -> Result<Vec<Option<Wave>>, AllocError>
     ensures { IfOk result (λ found. found.items ≡ waves netlist.now) }
 {
@@ -101,7 +101,7 @@ fn first_cell_at(netlist: &Netlist, id: ModuleId) -> Option<Cell>
     })
 }
 
-/// The event module that a netlist's record stands for.
+/// The event module of a record.
 pub fn built(netlist: &Netlist, found: &ModuleRecord) -> AnyModule
     requires width { IsTrue (is_width_of found.now.kind (module_width netlist.now found.now)) }
     requires params { IsTrue (are_params found.now.kind (module_width netlist.now found.now) found.now.params) }
@@ -114,7 +114,7 @@ pub fn built(netlist: &Netlist, found: &ModuleRecord) -> AnyModule
     }
 }
 
-/// Each wire goes on to the next unit of time, which is this one.
+/// Steps each wire to the next unit, which is this time.
 fn advance_all(tracks: &mut Vec<Option<Track>>, time: u32)
     ensures { tracks.new.items ≡ map (option_map (advanced time)) tracks.old.items }
 {
@@ -131,7 +131,7 @@ fn advance(slot: &mut Option<Track>, time: u32)
     }
 }
 
-/// Each module answers at a time.
+/// Steps each module to a time.
 fn answer_all(
     netlist: &Netlist,
     tracks: &mut Vec<Option<Track>>,
@@ -153,8 +153,8 @@ fn answer_all(
     Ok(())
 }
 
-/// One module answers at a time: its next state, from the levels at its inputs now, gives the levels of its outputs later. Where no
-/// input has an event both stay as they are.
+/// Steps a module to a time: its next state, from the levels at its inputs now, gives the levels of its outputs later. If no input has an event, both
+/// stay as they are.
 fn answer(
     netlist: &Netlist,
     tracks: &mut Vec<Option<Track>>,
@@ -187,7 +187,7 @@ fn answer(
     }
 }
 
-/// Whether the level at an input of a module changed now. Where no input of the netlist has a delay, no delay is read.
+/// Whether the level at an input of a module changed now. If no input of the netlist has a delay, no delay is read.
 #[inline(always)]
 fn has_event(tracks: &[Option<Track>], inputs: &[Input], time: u32, late: bool) -> bool
     requires { late ≡ false → list_any is_late inputs.now ≡ false }
@@ -252,7 +252,7 @@ fn step_in(slot: &mut Option<Cell>, time: u32, levels: &[u64])
     }
 }
 
-/// A module's state, where one stands.
+/// A module's state, if there is one.
 fn memory_of(cells: &[Option<Cell>], id: ModuleId) -> Option<&Memory>
     ensures { option_copied result ≡ memory_at cells.now id.0 }
 {
@@ -262,8 +262,8 @@ fn memory_of(cells: &[Option<Cell>], id: ModuleId) -> Option<&Memory>
     }
 }
 
-/// Reads the levels now of a module's inputs, by port, into their places. A level is written where it is read again, since to hand
-/// the places back would be to copy what was written just before.
+/// Reads the present levels of a module's inputs, by port, into `levels`. It writes there and returns nothing, since returning them would copy what
+/// has just been written.
 fn read_levels(
     tracks: &[Option<Track>],
     inputs: &[Input],
@@ -288,8 +288,7 @@ fn present_level(tracks: &[Option<Track>], port: Input, time: u32) -> u64
     }
 }
 
-/// A module's outputs give their wires the levels that its state at a time has, each after its delay. What comes at the horizon or
-/// later is in no wave.
+/// Schedules the output levels of a module's state at a time on the wires, each after its delay. A level at the horizon or later is in no wave.
 fn deliver(
     netlist: &Netlist,
     tracks: &mut Vec<Option<Track>>,
@@ -317,7 +316,7 @@ fn deliver(
     Ok(())
 }
 
-/// From a time on the level of a wire is known to be this one.
+/// Schedules this level of a wire from a time on.
 fn expect(
     tracks: &mut Vec<Option<Track>>,
     wire: WireId,

@@ -1,8 +1,8 @@
-//! Small netlists whose waves the definitions compute.
+//! Small netlists, whose waves follow from the definitions.
 
 ghost use Rattle.mp_model.specs.Examples.{SelfLoop, CElement, TwoStageControl, LateBuffer};
 
-/// An inverter that reads its own output oscillates, and a buffer behind it follows.
+/// An inverter that reads its own output oscillates, and a buffer after it follows.
 pub fn self_loop()
     ensures { SelfLoop }
 {}
@@ -17,7 +17,7 @@ pub fn two_stage_control()
     ensures { TwoStageControl }
 {}
 
-/// A buffer hears of its wire as late as its input's delay says.
+/// A buffer sees its wire later by the delay of its input.
 pub fn late_buffer()
     ensures { LateBuffer }
 {}

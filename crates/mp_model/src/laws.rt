@@ -1,4 +1,4 @@
-//! What the levels, states and waves of a netlist satisfy.
+//! Laws of the levels, states, waves and findings of a netlist.
 
 ghost use Rattle.mp_model.specs.FindingLaws.{FindsByRule};
 ghost use Rattle.mp_model.specs.Laws.{Satisfies, IsOnlyOne, FollowsPorts, BeginsAtInitialLevels, HasLevels, HaveWidth};
@@ -33,7 +33,7 @@ pub fn levels_have_width()
     ensures { HaveWidth }
 {}
 
-/// A finding is told exactly where the rule of its code holds, at its module or bundle and its time.
+/// A finding is listed exactly if the rule of its code holds at its module or bundle and its time.
 pub fn finds_by_rule()
     ensures { FindsByRule }
 {}

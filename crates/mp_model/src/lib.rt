@@ -1,4 +1,4 @@
-//! What netlists mean, and how that is computed unit by unit.
+//! The meaning of netlists, and a plain evaluator that computes it unit by unit.
 #![tactic(auto)]
 
 mod cell;

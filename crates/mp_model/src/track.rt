@@ -1,4 +1,4 @@
-//! The wave of one wire while time passes.
+//! A wire as time passes.
 ghost use Rattle.std.specs.Prelude.{◌≡◌, ◌≤◌, ◌-◌, ◌^◌, ◌<◌, IfOk, OnOk, IfSome, ◌+◌};
 
 use mp_netlist::WireRecord;
@@ -6,7 +6,7 @@ use mp_wave::{Wave, WaveBuilder};
 use std::alloc::{AllocError, Global};
 use std::marker::Model;
 
-/// A wire's wave as far as it is known, how many of its changes are past, its level now, and whether that is an event.
+/// A wire's wave as far as it is known, the number of its changes that are past, its present level, and whether that is an event.
 #[derive(Drop)]
 pub(crate) struct Track {
     builder: WaveBuilder,
@@ -31,7 +31,7 @@ impl Track {
     ghost use Rattle.mp_wave.specs.Waveform.{level_of};
     ghost use Rattle.mp_model.specs.Tracks.{AreTimesIn, first_progress, advanced, expecting, level_before, event_before};
 
-    /// A wire's track at time 0: its stimulus, if any, is known ahead.
+    /// The track of a wire at time 0. Its stimulus, if any, is known in advance.
     pub(crate) fn new(alloc: Global, wire: &WireRecord) -> Result<Self, AllocError>
         requires { IfSome wire.now.stimulus (AreTimesIn 1 (2 ^ 32 - 1)) }
         ensures { IfOk result (λ track. track ≡ first_progress wire.now) }
@@ -48,7 +48,7 @@ impl Track {
         })
     }
 
-    /// The level so many units before this time, or at time 0 where that is earlier.
+    /// The level `delay` units before this time, or at time 0 if that is earlier.
     #[inline(always)]
     pub(crate) fn level_before(&self, time: u32, delay: u32) -> u64
         ensures { result ≡ level_before time delay self.now }
@@ -60,7 +60,7 @@ impl Track {
         }
     }
 
-    /// Whether the level is another than one unit before, which is so at no time 0.
+    /// Whether the level differs from the one a unit before; false at time 0.
     #[inline(always)]
     pub(crate) fn has_event(&self) -> bool
         ensures { result ≡ self.now.event }
@@ -68,7 +68,7 @@ impl Track {
         self.event
     }
 
-    /// Whether the level so many units before this time was another than one unit before that, which is so at no time 0.
+    /// Whether the level `delay` units before this time differs from the one a unit before that; false at time 0.
     #[inline(always)]
     pub(crate) fn has_event_before(&self, time: u32, delay: u32) -> bool
         ensures { result ≡ event_before time delay self.now }
@@ -80,7 +80,7 @@ impl Track {
         }
     }
 
-    // Few inputs have delays: the search is kept apart, so that the others are read as quickly as if there were none.
+    // Few inputs have delays. The search is a function of its own, so that the others are read as fast as if there were none.
     #[inline(never)]
     #[cold]
     fn changed_at(&self, time: u32, delay: u32) -> bool
@@ -99,7 +99,7 @@ impl Track {
         self.builder.level_at(time)
     }
 
-    /// Goes on to the next unit of time, which is this one.
+    /// Steps to the next unit, which is this time.
     pub(crate) fn advance(&mut self, time: u32)
         ensures { self.new ≡ advanced time self.old }
     {
@@ -114,7 +114,7 @@ impl Track {
         }
     }
 
-    /// From a time on, which is not earlier than the first whose level may still be given, the level is this one.
+    /// Schedules this level from a time on, which isn't earlier than the first time whose level is still open.
     pub(crate) fn expect(&mut self, time: u32, level: u64) -> Result<(), AllocError>
         requires later { self.old.next ≤ time }
         requires last { time < 2 ^ 32 - 1 }

@@ -1,4 +1,4 @@
-//! How waves are listed.
+//! Lists of waves.
 ghost use Rattle.std.specs.Prelude.{◌≡◌, map, option_map, IfOk};
 ghost use Rattle.std.specs.Option.{option_copied};
 ghost use Rattle.std.specs.Arc.{arc_value};
@@ -9,12 +9,12 @@ use mp_wave::Wave;
 use std::alloc::{AllocError, Global};
 use std::sync::Arc;
 
-/// A place for each wire number, with the wave of the wire where one stands.
+/// A place for each wire number, with the wave of the wire if there is one.
 #[derive(Drop)]
 pub(crate) enum WaveList {
-    /// The waves stand in place, and no other list has them.
+    /// The waves are kept in place, and no other list has them.
     InPlace(Vec<Option<Wave>>),
-    /// Each wave is in a block of its own, which other lists may share.
+    /// Each wave has a block of its own, which other lists may share.
     Shared(Vec<Option<Arc<Wave, Global>>>),
 }
 
@@ -29,7 +29,7 @@ impl WaveList {
         }
     }
 
-    /// The wave at a place, to be shared: one that stands in place is copied.
+    /// The wave at a place, to be shared; one that is kept in place is copied.
     pub(crate) fn share_one(&self, place: usize) -> Result<Option<Arc<Wave, Global>>, AllocError>
         ensures { IfOk result (λ wave. option_map arc_value wave ≡ slot_at (listed_waves self.now) place) }
     {
@@ -42,7 +42,7 @@ impl WaveList {
         }
     }
 
-    /// All waves, to be shared: those that stand in place are copied.
+    /// All waves, to be shared; those that are kept in place are copied.
     pub(crate) fn share_all(
         &self,
         alloc: Global,

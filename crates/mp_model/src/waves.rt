@@ -9,7 +9,7 @@ use std::alloc::{AllocError, Global};
 use std::marker::Model;
 use std::sync::Arc;
 
-/// A wave for each wire number at which a wire stands. Two lists can share waves.
+/// The wave of each wire, by wire number. Two lists can share waves.
 #[derive(Drop)]
 pub struct Waves {
     list: WaveList,
@@ -31,7 +31,7 @@ impl Waves {
     ghost use Rattle.std.specs.Arc.{arc_value};
     ghost use Rattle.mp_netlist.specs.Slots.{slot_at};
 
-    /// The waves in the order of their wires' numbers, with nothing where no wire stands.
+    /// The waves by wire number, `None` if there is no wire.
     pub fn new(list: Vec<Option<Arc<Wave, Global>>>) -> Waves
         ensures { result ≡ map (option_map arc_value) list.items }
     {
@@ -40,7 +40,7 @@ impl Waves {
         }
     }
 
-    /// These waves, which stand in place. Where they are shared later they are copied.
+    /// These waves, kept in place. They are copied when they are shared later.
     pub fn in_place(list: Vec<Option<Wave>>) -> Waves
         ensures { result ≡ list.items }
     {
@@ -60,14 +60,14 @@ impl Waves {
         Ok(Waves::new(list))
     }
 
-    /// The wave of a wire that stands.
+    /// The wave of a wire that exists.
     pub fn of(&self, wire: WireId) -> Option<&Wave>
         ensures { option_copied result ≡ slot_at self.now wire.0 }
     {
         self.list.get(wire.0 as usize)
     }
 
-    /// The wave of a wire that stands, to be shared. It is copied only where these waves stand in place.
+    /// The wave of a wire that exists, to be shared. It is copied only if these waves are kept in place.
     pub fn shared(&self, wire: WireId) -> Result<Option<Arc<Wave, Global>>, AllocError>
         ensures { IfOk result (λ wave. option_map arc_value wave ≡ slot_at self.now wire.0) }
     {
