@@ -1,4 +1,4 @@
-//! The batches that scripts have.
+//! Batches in scripts.
 ghost use Rattle.std.specs.Prelude.{◌≡◌, ◌∷◌};
 ghost use Rattle.mp_text.specs.Clauses.{IfOk, All, slice_split, byte, OutOfMemory, Gives, texts, AreAscii, is_mark, part_edit, each_part, batch_of, part_texts};
 
@@ -9,7 +9,7 @@ use crate::stated_edit::is_mark;
 use mp_netlist::{Batch, SingleEdit};
 use std::alloc::{AllocError, Global};
 
-/// The batch of the words behind `batch`.
+/// The batch that the words after `batch` state.
 pub fn batch(alloc: Global, words: &[&[u8]]) -> Result<Batch, LineError>
     requires { AreAscii words.now }
     ensures { Gives OutOfMemory (λ batch. batch) result (batch_of (texts words.now)) }
@@ -27,7 +27,7 @@ fn parts<'a, 'b>(alloc: Global, words: &'a [&'b [u8]]) -> Result<Vec<&'a [&'b [u
     words.split(|word| is_mark(b';', word)).collect(alloc)
 }
 
-/// The batch of the edits that the parts say, in order.
+/// The batch of the edits that the parts state, in order.
 #[tactic(auto, using(crate::proofs::BundleStageLemmas::batch_line_each_part_steps))]
 fn each_part(alloc: Global, parts: &[&[&[u8]]]) -> Result<Batch, LineError>
     requires { All (λ part. AreAscii part.now) parts.now }
@@ -41,7 +41,7 @@ fn each_part(alloc: Global, parts: &[&[&[u8]]]) -> Result<Batch, LineError>
     Ok(Batch::new(edits))
 }
 
-/// The edit of one thing that a part's words say.
+/// The edit of one thing that the words of a part state.
 #[tactic(auto, using(crate::proofs::lemmas::lexing::WordLemmas::rest_ascii))]
 fn part_edit(alloc: Global, words: &[&[u8]]) -> Result<SingleEdit, LineError>
     requires { AreAscii words.now }

@@ -1,6 +1,6 @@
-//! First words of statements that are edits.
+//! The first words of statements that are edits.
 
-/// The first word of an edit that texts and scripts have.
+/// The first word of an edit that occurs in texts and in scripts.
 #[derive(Clone, Copy)]
 pub enum EditWord {
     /// `wire`
@@ -17,7 +17,7 @@ impl EditWord {
     ghost use Rattle.std.specs.Prelude.{◌≡◌};
     ghost use Rattle.mp_text.specs.Clauses.{edit_word, statement_takes};
 
-    /// What the word is as such a first word, where it is one.
+    /// The first word that this text is; `None` if it isn't one.
     pub fn from_word(word: &[u8]) -> Option<EditWord>
         ensures { result ≡ edit_word word.now }
     {
@@ -30,7 +30,7 @@ impl EditWord {
         }
     }
 
-    /// Whether so many words may stand behind it.
+    /// Whether this number of words can follow it.
     pub fn takes(self, count: usize) -> bool
         ensures { result ≡ statement_takes self count }
     {

@@ -1,4 +1,4 @@
-//! What the netlist of a text is made of.
+//! Laws of texts and their netlists.
 ghost use Rattle.mp_text.specs.Clauses.{IsReplay, IsReadAsWritten};
 
 /// A text that is read states one horizon, and its netlist is the replay of its other statements'
@@ -8,9 +8,9 @@ pub fn text_is_replay()
     ensures { IsReplay }
 {}
 
-/// Where the text of a well-formed netlist is not longer than its format allows, it is read as a netlist with
-/// the same records: the same format and horizon, the same wires with what is set on them, and the same modules
-/// and bundles with the names of their wires, all in the same order, if perhaps under other numbers.
+/// If the text of a well-formed netlist is not longer than its format allows, it is read as a netlist with the same records: the same format and
+/// horizon, the same wires with their stimuli, and the same modules and bundles with the names of their wires, all in the same order, though perhaps
+/// under other numbers.
 #[tactic(auto, using(crate::proofs::RoundTripLemmas::read_as_written))]
 pub fn written_text_is_read()
     ensures { IsReadAsWritten }

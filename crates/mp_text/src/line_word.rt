@@ -1,15 +1,15 @@
-//! First words of script lines.
+//! The first words of script lines.
 use crate::question_word::QuestionWord;
 use crate::single_word::SingleWord;
 
 /// The first word of a script's line.
 #[derive(Clone, Copy)]
 pub enum LineWord {
-    /// That of an edit of one thing.
+    /// The first word of an edit of one thing.
     Single(SingleWord),
     /// `batch`
     Batch,
-    /// That of a question.
+    /// The first word of a question.
     Question(QuestionWord),
 }
 
@@ -17,7 +17,7 @@ impl LineWord {
     ghost use Rattle.std.specs.Prelude.{◌≡◌};
     ghost use Rattle.mp_text.specs.Clauses.{line_word, takes};
 
-    /// What the word is as such a first word, where it is one.
+    /// The first word that this text is; `None` if it isn't one.
     pub fn from_word(word: &[u8]) -> Option<LineWord>
         ensures { result ≡ line_word word.now }
     {
@@ -30,7 +30,7 @@ impl LineWord {
         }
     }
 
-    /// Whether so many words may stand behind it.
+    /// Whether this number of words can follow it.
     pub fn takes(self, count: usize) -> bool
         ensures { result ≡ takes self count }
     {

@@ -1,16 +1,16 @@
-//! The ports of a module, as a text has them.
+//! The ports of a module as texts.
 ghost use Rattle.std.specs.Prelude.{◌≡◌, ◌∷◌};
 ghost use Rattle.mp_text.specs.Clauses.{ℕ, List, flat_map, Circuit, Writes, wire_name, input_text, output_name, output_text};
 
 use mp_netlist::{Input, Netlist, Output, WireId};
 use mp_streams::{Failed, Out, Sink, Text};
 
-/// A port of a module, as a text has it.
+/// A port of a module, as in a text.
 pub trait Port {
     // Its text in a netlist.
     ghost port_text: { Circuit → Self → List ℕ };
 
-    /// Writes a space and its text. `Failed` is as that of `Out::put_bytes`.
+    /// Writes a space and its text. `Failed` comes as in `Out::put_bytes`.
     fn put_spaced<S: Sink>(&self, out: &mut Out<S>, netlist: &Netlist) -> Result<(), Failed>
         ensures { Writes result out.old out.new (32 ∷ port_text netlist.now self.now) };
 }
@@ -36,7 +36,7 @@ impl Port for Output {
     }
 }
 
-/// Ports of a module of the netlist, each behind a space.
+/// Ports of a module of the netlist, each after a space.
 #[derive(Clone, Copy)]
 pub struct Ports<'a, P> {
     pub netlist: &'a Netlist,
@@ -54,7 +54,7 @@ impl<'a, P: Port> Text for Ports<'a, P> {
     }
 }
 
-/// The name of the wire at an output, `-` where there is none.
+/// The name of the wire at an output, `-` if there is none.
 fn output_word(netlist: &Netlist, wire: Option<WireId>) -> &[u8]
     ensures { result.now ≡ output_name netlist.now wire }
 {
@@ -64,7 +64,7 @@ fn output_word(netlist: &Netlist, wire: Option<WireId>) -> &[u8]
     }
 }
 
-/// The name of the wire of this number, and nothing where none stands.
+/// The name of the wire of this number; nothing if there is none.
 pub fn wire_word(netlist: &Netlist, wire: WireId) -> &[u8]
     ensures { result.now ≡ wire_name netlist.now wire }
 {

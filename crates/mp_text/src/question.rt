@@ -1,8 +1,8 @@
-//! What a script asks for.
+//! The questions of scripts.
 use crate::wire_names::WireNames;
 use mp_netlist::Name;
 
-/// What a script asks of the present netlist. Times may be at or above the horizon.
+/// A question about the present netlist. Times may be at or above the horizon.
 #[derive(Clone, Drop)]
 pub enum Question {
     /// The wave of the wire of this name.
@@ -11,27 +11,27 @@ pub enum Question {
     Waves,
     /// The netlist's text.
     Text,
-    /// What is found in the netlist.
+    /// The findings.
     Report,
     /// Whether the netlist works.
     Check,
     /// The value change dump of the netlist.
     Dump,
-    /// What was evaluated for the last edit.
+    /// What was computed again for the last edit.
     Work,
-    /// The timing diagram from one time on to before another: of the wires of these names, or of all where there are none.
+    /// The timing diagram from one time to before another: of the wires of these names, or of all wires if there are no names.
     Show {
         from: u64,
         to: u64,
         wires: WireNames,
     },
-    /// Why a wire has its level at a time: the chain of its causes, in so many steps at most, which are 1 to `MAX_STEPS`.
+    /// Why a wire has its level at a time: the chain of its causes, in at most this number of steps, 1 to `MAX_STEPS`.
     Why {
         wire: Name,
         time: u64,
         steps: u32,
     },
-    /// Where the time of that chain went.
+    /// How the time of that chain divides among the modules.
     Path {
         wire: Name,
         time: u64,
@@ -40,7 +40,7 @@ pub enum Question {
     Waits {
         time: u64,
     },
-    /// The events, gaps and margins from one time on to before another.
+    /// The events, gaps and margins from one time to before another.
     Measure {
         from: u64,
         to: u64,
@@ -49,9 +49,9 @@ pub enum Question {
     Graph,
     /// The netlist as Verilog.
     Verilog,
-    /// How many edits were accepted.
+    /// The number of accepted edits.
     Version,
-    /// The accepted edits from this place on, the first being 1.
+    /// The accepted edits from this number on. The first edit has the number 1.
     Edits {
         from: u64,
     },

@@ -1,4 +1,4 @@
-//! First words of the lines that are questions.
+//! The first words of questions.
 
 /// The first word of a question.
 #[derive(Clone, Copy)]
@@ -41,7 +41,7 @@ impl QuestionWord {
     ghost use Rattle.std.specs.Prelude.{◌≡◌};
     ghost use Rattle.mp_text.specs.Clauses.{question_word, question_takes};
 
-    /// What the word is as such a first word, where it is one.
+    /// The first word that this text is; `None` if it isn't one.
     pub fn from_word(word: &[u8]) -> Option<QuestionWord>
         ensures { result ≡ question_word word.now }
     {
@@ -66,7 +66,7 @@ impl QuestionWord {
         }
     }
 
-    /// Whether so many words may stand behind it.
+    /// Whether this number of words can follow it.
     pub fn takes(self, count: usize) -> bool
         ensures { result ≡ question_takes self count }
     {
@@ -75,7 +75,7 @@ impl QuestionWord {
             QuestionWord::Path | QuestionWord::Measure => count == 2,
             QuestionWord::Why => count == 2 || count == 3,
             QuestionWord::Show => count >= 2,
-            // the others stand alone
+            // no word can follow the others
             _ => count == 0,
         }
     }

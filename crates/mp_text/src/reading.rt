@@ -11,19 +11,16 @@ use crate::text_state::TextState;
 use mp_netlist::Netlist;
 use std::alloc::Global;
 
-/// The netlist of a text of `horizon`, `wire`, `module`, `stim` and `bundle` statements, one a
-/// line: the empty netlist of the horizon after the edits of the others in turn. A statement
-/// `format` may come first.
+/// Reads a netlist from a text of statements, one on each line: the empty netlist of the statement `horizon`, after the edits of the statements
+/// `wire`, `module`, `stim` and `bundle` in turn. A statement `format` may come first.
 ///
-/// Else the first line that fails, counted from 1, with its first fault: a byte that is not
-/// allowed, also in a comment (`NotAscii`); a first word that is no statement
-/// (`UnknownStatement`); a `format` that is not on the first line with words (`BadFormat`), a second
-/// `horizon` (`SecondHorizon`) or another statement before it (`NoHorizon`); the number or shape of
-/// the words (`WordCount`); a kind that is none (`UnknownStatement`); a word that is not the number
-/// or pair that it should be, or a horizon not 1 to 65,536, or with `format 2` not 1 to 1,048,576, or
-/// with `format 4` not 1 to 1,073,741,824 (`BadNumber`); a `format` that is not 1, 2 or 4 (`BadFormat`); an edit that is refused (`Refused`).
-/// `TooLong` with line 0 is a text longer than its format allows, and `NoHorizon` with the number of lines one without a horizon.
-/// `OutOfMemory` comes with the line at which memory was wanting, none behind the first that fails.
+/// The error is the first line that fails, counted from 1, with its first fault: a byte that isn't allowed, even in a comment (`NotAscii`); a first
+/// word that isn't a statement (`UnknownStatement`); a `format` that is not on the first line with words (`BadFormat`), a second `horizon`
+/// (`SecondHorizon`) or another statement before it (`NoHorizon`); the number or shape of the words (`WordCount`); a kind that doesn't exist
+/// (`UnknownStatement`); a word that isn't the number or the pair that it should be, or a horizon not 1 to 65,536, or with `format 2` not 1 to
+/// 1,048,576, or with `format 4` not 1 to 1,073,741,824 (`BadNumber`); a `format` that is not 1, 2 or 4 (`BadFormat`); an edit that is refused
+/// (`Refused`). `TooLong` with line 0 comes for a text that is longer than its format allows, and `NoHorizon` with the number of lines for one
+/// without a horizon. `OutOfMemory` comes with the line at which memory ran out, which isn't after the first line that fails.
 #[tactic(auto, using(crate::proofs::TextLemmas::text_over, crate::proofs::TextLemmas::text_within))]
 pub fn read_netlist(alloc: Global, text: &[u8]) -> Result<Netlist, TextError>
     ensures read { GivesText result (text_at text.now) }
@@ -39,7 +36,7 @@ pub fn read_netlist(alloc: Global, text: &[u8]) -> Result<Netlist, TextError>
     read_lines(alloc, text)
 }
 
-/// The netlist of a text that may be as long as a text of any format, whatever format it states; or the first line that fails.
+/// Reads a netlist as `read_netlist` does, from a text that may be as long as one of any format.
 #[tactic(auto, using(crate::proofs::TextLemmas::reading_read_lines_steps))]
 pub fn read_lines(alloc: Global, text: &[u8]) -> Result<Netlist, TextError>
     requires { length text.now ≤ max_text }

@@ -1,4 +1,4 @@
-//! The edits that scripts alone have.
+//! The edits that occur only in scripts.
 ghost use Rattle.std.specs.Prelude.{◌≡◌};
 ghost use Rattle.mp_text.specs.Clauses.{IfOk, IsAscii, OutOfMemory, Gives, wire_or_none, texts, AreAscii, removal, port_change, single_edit};
 
@@ -8,7 +8,7 @@ use crate::stated_edit::stated_edit;
 use mp_netlist::{Boxed, Name, SingleEdit};
 use std::alloc::{AllocError, Global};
 
-/// The edit of a first word and the words behind it.
+/// The edit that a first word and the words after it state.
 #[tactic(auto, using(crate::proofs::GivenLemmas::word_steps))]
 pub fn single_edit(
     alloc: Global,
@@ -30,7 +30,7 @@ pub fn single_edit(
     }
 }
 
-/// The edit that takes away the thing of this sort and name.
+/// The edit that removes the thing of this sort and name.
 fn removal(alloc: Global, thing: &[u8], name: &[u8]) -> Result<SingleEdit, LineError>
     requires { IsAscii name.now }
     ensures { Gives OutOfMemory (λ edit. edit) result (removal thing.now name.now) }
@@ -44,7 +44,7 @@ fn removal(alloc: Global, thing: &[u8], name: &[u8]) -> Result<SingleEdit, LineE
     }
 }
 
-/// The edit that has an input hear another wire or an output drive another or none, or the edit of a delay of one of these.
+/// The edit that lets an input read another wire or an output drive another wire or none, or that sets the delay of a port.
 fn port_change(
     alloc: Global,
     first: SingleWord,
@@ -80,7 +80,7 @@ fn port_change(
     }
 }
 
-/// The wire that is named, in a block of its own, where `-` names none. The error comes where memory is wanting.
+/// The name of a wire in a block of its own; `None` for `-`. `AllocError` comes if memory runs out.
 fn boxed_wire(alloc: Global, name: &[u8]) -> Result<Option<Boxed<Name>>, AllocError>
     requires { IsAscii name.now }
     ensures { IfOk result (λ wire. wire ≡ wire_or_none name.now) }

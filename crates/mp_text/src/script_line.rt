@@ -1,14 +1,14 @@
-//! What the lines of a script say.
+//! The lines of a script.
 use crate::question::Question;
 use mp_netlist::Edit;
 
-/// What a script's line says.
+/// A line of a script.
 #[derive(Clone, Drop)]
 pub enum Line {
-    /// There are no words.
+    /// A line without words.
     Empty,
-    /// The netlist is to be changed.
+    /// An edit.
     Change(Edit),
-    /// Something is asked for.
+    /// A question.
     Ask(Question),
 }

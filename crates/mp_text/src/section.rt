@@ -6,7 +6,7 @@ use crate::written_lines::{put_bundle, put_module, put_stimulus, put_wire};
 use mp_netlist::{BundleId, ModuleId, Netlist, WireId};
 use mp_streams::{Failed, Out, Sink, Text};
 
-/// The lines of a netlist's text behind its horizon, of one sort each.
+/// A part of a netlist's text after its horizon, with the lines of one sort.
 #[derive(Clone, Copy)]
 pub enum Section {
     Wires,
@@ -46,7 +46,7 @@ impl<'a> SectionLines<'a> {
         SectionLines { netlist, section }
     }
 
-    /// How many slots the section goes through.
+    /// The number of slots of the section.
     fn slot_count(&self) -> u32
         ensures { result ≡ slot_count self.now.netlist.now self.now.section }
     {
@@ -57,7 +57,7 @@ impl<'a> SectionLines<'a> {
         }
     }
 
-    /// Writes the line for the slot of this number, and nothing where none stands in it.
+    /// Writes the line for the slot of this number; nothing if there is none in it.
     fn put_slot<S: Sink>(&self, out: &mut Out<S>, number: u32) -> Result<(), Failed>
         ensures { Writes result out.old out.new (slot_line self.now.netlist.now self.now.section number) }
     {

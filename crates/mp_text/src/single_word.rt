@@ -1,10 +1,10 @@
-//! First words of the lines that are edits of one thing.
+//! The first words of edits of one thing.
 use crate::edit_word::EditWord;
 
 /// The first word of an edit of one thing, as a line or in a batch.
 #[derive(Clone, Copy)]
 pub enum SingleWord {
-    /// That of an edit that texts have too.
+    /// The first word of an edit that occurs in texts too.
     Stated(EditWord),
     /// `remove`
     Remove,
@@ -24,7 +24,7 @@ impl SingleWord {
     ghost use Rattle.std.specs.Prelude.{◌≡◌};
     ghost use Rattle.mp_text.specs.Clauses.{single_word, single_takes};
 
-    /// What the word is as such a first word, where it is one.
+    /// The first word that this text is; `None` if it isn't one.
     pub fn from_word(word: &[u8]) -> Option<SingleWord>
         ensures { result ≡ single_word word.now }
     {
@@ -39,7 +39,7 @@ impl SingleWord {
         }
     }
 
-    /// Whether so many words may stand behind it.
+    /// Whether this number of words can follow it.
     pub fn takes(self, count: usize) -> bool
         ensures { result ≡ single_takes self count }
     {

@@ -4,7 +4,7 @@ ghost use Rattle.mp_text.specs.Clauses.{flat_map};
 
 use mp_streams::{Failed, Out, Sink, Text};
 
-/// Texts, each behind a space.
+/// Texts, each after a space.
 #[derive(Clone, Copy)]
 pub struct Spaced<'a, T> {
     pub items: &'a [T],

@@ -10,7 +10,7 @@ use mp_netlist::{
 };
 use std::alloc::{AllocError, Global};
 
-/// The edit of a first word and the words behind it.
+/// The edit that a first word and the words after it state.
 #[tactic(auto, using(crate::proofs::GivenLemmas::word_steps))]
 pub fn stated_edit(alloc: Global, word: EditWord, words: &[&[u8]]) -> Result<SingleEdit, LineError>
     requires { AreAscii words.now }
@@ -44,7 +44,7 @@ pub fn stated_edit(alloc: Global, word: EditWord, words: &[&[u8]]) -> Result<Sin
     }
 }
 
-/// The module that the words behind `module` state.
+/// The module that the words after `module` state.
 pub fn stated_module(alloc: Global, words: &[&[u8]]) -> Result<NewModule, LineError>
     requires { AreAscii words.now }
     ensures { Gives OutOfMemory AddModule result (module_edit (texts words.now)) }
@@ -57,7 +57,7 @@ pub fn stated_module(alloc: Global, words: &[&[u8]]) -> Result<NewModule, LineEr
     module_of(alloc, name, kind, params, inputs, outputs)
 }
 
-/// The module of the parts of the words behind `module`.
+/// The module that these parts of the words after `module` state.
 #[tactic(auto, using(crate::proofs::GivenLemmas::wanting_given))]
 fn module_of(
     alloc: Global,
@@ -84,7 +84,7 @@ fn module_of(
     })
 }
 
-/// The words before and behind the first that is this byte alone: all and none where there is none.
+/// The words before and after the first word that is this byte alone; all words and none if there is no such word.
 #[tactic(auto, using(crate::proofs::PartLemmas::divided_steps))]
 fn divided<'a, 'b>(mark: u8, words: &'a [&'b [u8]]) -> (&'a [&'b [u8]], &'a [&'b [u8]])
     requires { AreAscii words.now }

@@ -11,17 +11,14 @@ use crate::stated_question::stated_question;
 use mp_netlist::Edit;
 use std::alloc::Global;
 
-/// What a line of a script says, which is given without its line feed: an edit, as in a netlist's
-/// text, or a batch of them, or a question; or nothing, where there are no words.
+/// Reads a line of a script, without its line feed: an edit, a batch of edits, or a question; or nothing, if there are no words.
 ///
-/// Else its first fault: a byte that is not allowed, also in a comment (`NotAscii`); a first word
-/// that no line has (`UnknownStatement`); the number or shape of the words (`WordCount`); a kind
-/// that is none (`UnknownStatement`); a word that is not the number or pair that it should be
-/// (`BadNumber`). The parts of a batch are looked at in turn. Whether the netlist takes the edit is
-/// not looked at.
+/// The error is its first fault: a byte that isn't allowed, even in a comment (`NotAscii`); a first word that begins no line (`UnknownStatement`);
+/// the number or shape of the words (`WordCount`); a kind that doesn't exist (`UnknownStatement`); a word that isn't the number or the pair that it
+/// should be (`BadNumber`). The parts of a batch are read in turn. Whether a netlist accepts the edit isn't checked.
 ///
-/// `OutOfMemory` says that memory was wanting. It comes only for a line whose bytes are allowed,
-/// whose first word is one that lines have, and with as many words behind it as may stand there.
+/// `OutOfMemory` comes if memory runs out, but only for a line whose bytes are allowed, whose first word begins lines, and whose number of words is
+/// right.
 #[tactic(auto, using(crate::proofs::LineStartLemmas::read_line_steps))]
 pub fn read_line(alloc: Global, line: &[u8]) -> Result<Line, LineError>
     ensures read { Gives OutOfMemory (λ line. line) result (line_at line.now) }
@@ -43,7 +40,7 @@ pub fn read_line(alloc: Global, line: &[u8]) -> Result<Line, LineError>
     stated_line(alloc, first, &words.as_slice()[1..])
 }
 
-/// The line of a first word and the words behind it.
+/// The line that a first word and the words after it state.
 fn stated_line(alloc: Global, first: LineWord, words: &[&[u8]]) -> Result<Line, LineError>
     requires { AreAscii words.now }
     ensures { Gives OutOfMemory (λ line. line) result (stated_line first (texts words.now)) }

@@ -8,13 +8,13 @@ use crate::question_word::QuestionWord;
 use crate::wire_names::WireNames;
 use std::alloc::{AllocError, Global};
 
-/// How many steps of a chain may be asked for.
+/// The greatest number of steps of a chain.
 pub const MAX_STEPS: u32 = 1_048_576;
 
-/// How many steps of a chain are given where a question names no number of them.
+/// The number of steps of a chain if a question doesn't give one.
 pub const USUAL_STEPS: u32 = 20;
 
-/// The question of a first word and the words behind it.
+/// The question that a first word and the words after it state.
 #[tactic(auto, using(crate::proofs::GivenLemmas::word_steps))]
 pub fn stated_question(
     alloc: Global,
@@ -57,7 +57,7 @@ pub fn stated_question(
     }
 }
 
-/// The question of a first word with no words behind it.
+/// The question that a first word states alone.
 fn lone_question(word: QuestionWord) -> Result<Question, LineError>
     ensures { result ≡ stated_question word [] }
 {
@@ -80,7 +80,7 @@ fn lone_question(word: QuestionWord) -> Result<Question, LineError>
     }
 }
 
-/// The words as names of wires, in order. The error comes where memory is wanting.
+/// The words as names of wires, in order. `AllocError` comes if memory runs out.
 #[tactic(auto, using(crate::proofs::PartLemmas::wire_names_steps))]
 fn wire_names(alloc: Global, words: &[&[u8]]) -> Result<WireNames, AllocError>
     requires { AreAscii words.now }
@@ -94,7 +94,7 @@ fn wire_names(alloc: Global, words: &[&[u8]]) -> Result<WireNames, AllocError>
     Ok(WireNames::new(names))
 }
 
-/// The question of a wire, a time and a number of steps, which is looked at behind the time.
+/// The question about a wire, a time and a number of steps, which is read after the time.
 fn chain_question(
     alloc: Global,
     wire: &[u8],
@@ -111,7 +111,7 @@ fn chain_question(
     })
 }
 
-/// The number of steps that the word spells, 1 to `MAX_STEPS`, and `BadNumber` for any other word.
+/// The number of steps that the word spells, 1 to `MAX_STEPS`. `BadNumber` comes for any other word.
 fn steps_word(word: &[u8]) -> Result<u32, LineError>
     ensures { result ≡ steps_word word.now }
 {

@@ -1,4 +1,4 @@
-//! What a line makes of a netlist.
+//! How a line of a text changes the netlist.
 #![tactic(auto, using(crate::proofs::lemmas::lexing::WordLemmas::rest_ascii), unfolding(crate::specs::Texts::after_line, crate::specs::Statements::statement_of, crate::specs::Texts::after_statement))]
 
 ghost use Rattle.std.specs.Prelude.{◌≡◌};
@@ -13,8 +13,8 @@ use crate::text_state::TextState;
 use mp_netlist::{Edit, EditError, Netlist, NewError};
 use std::alloc::Global;
 
-/// Makes of the text so far what a line says, whose words are read in place of those of the line
-/// before. The text so far is lent, since who owns it lets it go at each place where a fault is told.
+/// Applies a line to the state of the text so far. `words` is reused from line to line. The state is lent and not passed by value, since its owner
+/// would have to drop it at each place that reports a fault.
 pub fn line<'a>(
     alloc: Global,
     state: &mut TextState,
@@ -27,7 +27,7 @@ pub fn line<'a>(
     statement(alloc, state, words.as_slice())
 }
 
-/// Makes of the text so far what a line's words say.
+/// Applies the words of a line to the state of the text so far.
 fn statement(alloc: Global, state: &mut TextState, words: &[&[u8]]) -> Result<(), TextCode>
     requires { AreAscii words.now }
     ensures { Gives (Line OutOfMemory) (λ _. state.new) result (after_statement state.old (statement_of (texts words.now))) }
@@ -48,7 +48,7 @@ fn statement(alloc: Global, state: &mut TextState, words: &[&[u8]]) -> Result<()
     }
 }
 
-/// Takes the form that the words state, on the first line with words.
+/// Sets the format that the words state, on the first line with words.
 fn format(state: &mut TextState, words: &[&[u8]]) -> Result<(), TextCode>
     ensures { Gives (Line OutOfMemory) (λ _. state.new) result (after_statement state.old (Format (stated_number (texts words.now)))) }
 {
@@ -60,7 +60,7 @@ fn format(state: &mut TextState, words: &[&[u8]]) -> Result<(), TextCode>
     Ok(())
 }
 
-/// Begins the netlist with the horizon that the words state.
+/// Begins a netlist with the horizon that the words state.
 fn start(alloc: Global, state: &mut TextState, words: &[&[u8]]) -> Result<(), TextCode>
     ensures { Gives (Line OutOfMemory) (λ _. state.new) result (after_statement state.old (Start (stated_number (texts words.now)))) }
 {
@@ -74,7 +74,7 @@ fn start(alloc: Global, state: &mut TextState, words: &[&[u8]]) -> Result<(), Te
     Ok(())
 }
 
-/// The empty netlist of a horizon that a text of this form may state.
+/// The empty netlist of a horizon that a text of this format may state.
 fn empty_netlist(alloc: Global, format: TextFormat, horizon: u64) -> Result<Netlist, TextCode>
     ensures { Gives (Line OutOfMemory) (λ netlist. Open netlist) result (begun format horizon) }
 {
@@ -88,7 +88,7 @@ fn empty_netlist(alloc: Global, format: TextFormat, horizon: u64) -> Result<Netl
     }
 }
 
-/// The number that the words are, where they are one.
+/// The number that the words state, if they are one word that is a number.
 pub fn stated_number(words: &[&[u8]]) -> Result<u64, LineError>
     ensures { result ≡ stated_number (texts words.now) }
 {
@@ -98,7 +98,7 @@ pub fn stated_number(words: &[&[u8]]) -> Result<u64, LineError>
     }
 }
 
-/// Makes the edit that a line states, where a netlist stands.
+/// Makes the edit that a line states, if there is a netlist.
 #[tactic(auto, using(crate::proofs::GivenLemmas::gives_told), unfolding(crate::specs::Texts::after_statement))]
 fn change(
     alloc: Global,
@@ -112,14 +112,14 @@ fn change(
     let TextState::Open(netlist) = state else {
         return Err(TextCode::NoHorizon);
     };
-    // a module needs no block of its own, as an edit does
+    // a module needs no block of its own here, unlike an edit
     match first {
         EditWord::Module => told(netlist.apply_module(&stated_module(alloc, words)?)),
         _ => told(netlist.apply(&Edit::Single(stated_edit(alloc, first, words)?))),
     }
 }
 
-/// How an edit ended, as it is told of the line that states it.
+/// The fault of a line whose edit ended in this way.
 fn told(ended: Result<(), EditError>) -> Result<(), TextCode>
     ensures { result ≡ told ended }
 {

@@ -9,7 +9,7 @@ use thiserror::Error;
 /// What is wrong with a line of a netlist's text.
 #[derive(Clone, Copy, Debug, PartialEq, Eq, Error)]
 pub enum TextCode {
-    /// What is wrong with the line by itself, also where memory was wanting.
+    /// What is wrong with the line by itself, or that memory ran out.
     #[error("{0}")]
     Line(LineError),
     #[error("no horizon before it")]
@@ -35,7 +35,7 @@ impl From<LineError> for TextCode {
 impl TextCode {
     ghost use Rattle.mp_text.specs.TextCodes.{number_of, name_of};
 
-    /// The number by which programs know the fault, from 1 to 10.
+    /// The number of the code, from 1 to 10.
     pub fn number(self) -> u32
         ensures { result ≡ number_of self }
     {
@@ -49,7 +49,7 @@ impl TextCode {
         }
     }
 
-    /// The fault's name. A refused edit's own name is that of its `EditError`.
+    /// The name of the code. A refused edit has a name of its own in its `EditError`.
     pub fn name(self) -> &'static str
         ensures { result.now ≡ name_of self }
     {

@@ -1,17 +1,17 @@
-//! Forms of a netlist's text.
+//! The formats of a netlist's text.
 ghost use Rattle.std.specs.Prelude.{◌≡◌};
 ghost use Rattle.mp_text.specs.Clauses.{format_of, max_horizon_of, netlist_format};
 
 use crate::text_code::TextCode;
 use mp_netlist::Format;
 
-/// The longest horizon of a text of the first form.
+/// The longest horizon of a text of format 1.
 pub const MAX_FIRST_HORIZON: u64 = 65_536;
 
-/// The form of a text: how long a horizon it may state, and how large its netlist may get.
+/// The format of a text: how long its horizon may be, and how large its netlist may get.
 #[derive(Clone, Copy)]
 pub enum TextFormat {
-    /// `format 1`, and a text that states none: at most 65,536 units.
+    /// `format 1`, or a text that states no format: at most 65,536 units.
     First,
     /// `format 2`: at most 1,048,576 units.
     Second,
@@ -20,7 +20,7 @@ pub enum TextFormat {
 }
 
 impl TextFormat {
-    /// The form of this number, and `BadFormat` where there is none.
+    /// The format of this number. `BadFormat` comes if there is none.
     pub fn of(number: u64) -> Result<TextFormat, TextCode>
         ensures { result ≡ format_of number }
     {

@@ -1,17 +1,17 @@
-//! How long a text may be.
+//! The greatest length of a text.
 ghost use Rattle.std.specs.Prelude.{◌≡◌, ◌≤◌, ◌+◌};
 ghost use Rattle.mp_text.specs.Clauses.{take, lines_of, words_of, max_text, max_short_text, first_words, states_fourth, text_limit};
 
 use crate::lexing::{first_line, number_word, word_at, word_count};
 
-/// How many bytes a text of format 1 or 2 may have.
+/// The greatest length of a text of format 1 or 2, in bytes.
 pub const MAX_SHORT_TEXT: usize = 4_194_304;
 
-/// How many bytes a text of format 4 may have.
+/// The greatest length of a text of format 4, in bytes.
 const MAX_TEXT: usize = 1_073_741_824;
 
-/// How many bytes a text may have: those of format 4 where its first line with words states that, and begins among the bytes that another
-/// text may have and one more.
+/// The greatest length of this text, in bytes. It is that of format 4 if its first line with words states that format and begins within the greatest
+/// length of another text, or one byte after it.
 #[tactic(auto, unfolding(crate::specs::Sizes::text_limit))]
 pub fn text_limit(text: &[u8]) -> usize
     ensures value { result ≡ text_limit text.now }
@@ -24,7 +24,7 @@ pub fn text_limit(text: &[u8]) -> usize
     }
 }
 
-/// As many bytes of a text as one of format 1 or 2 may have, and one more, or all.
+/// The first bytes of a text: one more than a text of format 1 or 2 may have, or all.
 #[tactic(auto, using(std::proofs::lemmas::List::take_min))]
 fn front_of(text: &[u8]) -> &[u8]
     ensures { result.now ≡ take (max_short_text + 1) text.now }
@@ -32,7 +32,7 @@ fn front_of(text: &[u8]) -> &[u8]
     &text[..(MAX_SHORT_TEXT + 1).min(text.len())]
 }
 
-/// Whether the first line with words says that a text has the form 4.
+/// Whether the first line with words states `format 4`.
 #[tactic(auto, using(crate::proofs::TextLemmas::first_worded, crate::proofs::TextLemmas::first_blank, crate::proofs::TextLemmas::no_words))]
 fn begins_fourth(text: &[u8]) -> bool
     ensures { result ≡ states_fourth (first_words (lines_of text.now)) }
@@ -48,7 +48,7 @@ fn begins_fourth(text: &[u8]) -> bool
     false
 }
 
-/// Whether the words of a line say that a text has the form 4.
+/// Whether a line states `format 4`.
 #[tactic(auto, using(crate::proofs::TextLemmas::fourth_steps))]
 fn states_fourth(line: &[u8]) -> bool
     ensures { result ≡ states_fourth (words_of line.now) }

@@ -1,15 +1,15 @@
-//! How far a text was read.
+//! The state of reading a text.
 use crate::text_code::TextCode;
 use crate::text_error::TextError;
 use crate::text_format::TextFormat;
 use mp_netlist::Netlist;
 
-/// What the lines of a text so far have stated.
+/// What the lines read so far have stated.
 #[derive(Drop)]
 pub enum TextState {
-    /// No line had words.
+    /// No line has had words.
     Fresh,
-    /// The text has this form, and no horizon so far.
+    /// The text has this format, and no horizon so far.
     Formatted(TextFormat),
     /// The netlist of the horizon and of the edits so far.
     Open(Netlist),
@@ -19,7 +19,7 @@ impl TextState {
     ghost use Rattle.std.specs.Prelude.{◌≡◌};
     ghost use Rattle.mp_text.specs.Clauses.{finished};
 
-    /// The netlist of a text that ends here, after so many lines, and `NoHorizon` where it has none.
+    /// The netlist of a text that ends here, after this number of lines. `NoHorizon` comes if there is none.
     pub fn finished(self, lines: u32) -> Result<Netlist, TextError>
         ensures { result ≡ finished lines self }
     {

@@ -8,10 +8,10 @@ use mp_netlist::{Format, Netlist};
 use mp_streams::{Failed, Out, Sink, Text, WriteSink};
 use std::alloc::{AllocError, Global};
 
-/// The text of a netlist: `format 4` where that is its format, or `format 2` where its horizon is over 65,536, its horizon, then its wires, modules, stimuli (by wire) and bundles, each
-/// by number and only those that stand, with single spaces, and a line feed after each line. Numbers
-/// have no leading zeros, and every output has its delay. Where the text is not longer than its format allows,
-/// it is read as a netlist with the same records, if perhaps under other numbers.
+/// The text of a netlist: `format 4` if that is its format, or `format 2` if its horizon is over 65,536, its horizon, then its wires, modules,
+/// stimuli (by wire) and bundles, each ordered by number and only those that exist, with single spaces, and a line feed after each line. Numbers have
+/// no leading zeros, and every output has its delay. If the text is not longer than its format allows, it is read as a netlist with the same records,
+/// though perhaps under other numbers.
 #[tactic(auto, using(crate::proofs::RoundTripLemmas::written_is_read))]
 pub fn write_netlist(alloc: Global, netlist: &Netlist) -> Result<Vec<u8>, AllocError>
     ensures text { IfOk result (λ text. text.items ≡ written netlist.now) }
@@ -33,8 +33,7 @@ fn put_whole<S: Sink>(out: &mut Out<S>, netlist: &Netlist) -> Result<(), Failed>
     out.flush()
 }
 
-/// Writes the text of a netlist, which is that of `write_netlist`, as it is made. It takes no memory.
-/// `Failed` is as that of `Out::put_bytes`.
+/// Writes the same text as `write_netlist`, piece by piece. It takes no memory. `Failed` comes as in `Out::put_bytes`.
 pub fn put_netlist<S: Sink>(out: &mut Out<S>, netlist: &Netlist) -> Result<(), Failed>
     ensures written { Writes result out.old out.new (written netlist.now) }
     ensures form { IsCircuit netlist.now }
@@ -53,7 +52,7 @@ pub fn put_netlist<S: Sink>(out: &mut Out<S>, netlist: &Netlist) -> Result<(), F
     (head, wires, modules, (stimuli, bundles)).put_to(out)
 }
 
-/// The line of the form, where a netlist of this format and horizon needs one.
+/// The line `format`, if a netlist of this format and horizon needs one.
 fn format_text(format: Format, horizon: u32) -> &'static str
     ensures { result.now ≡ format_line format horizon }
 {

@@ -40,7 +40,7 @@ pub fn put_module<S: Sink>(
     (start, (params, " :", inputs), (" >", outputs, "\n")).put_to(out)
 }
 
-/// Writes the line of a wire's stimulus, where it has one.
+/// Writes the line of a wire's stimulus, if it has one.
 #[tactic(auto, using(crate::proofs::WriteLemmas::stimulus_pieces))]
 pub fn put_stimulus<S: Sink>(out: &mut Out<S>, wire: &WireRecord) -> Result<(), Failed>
     ensures { Writes result out.old out.new (stimulus_line (Some wire.now)) }

@@ -38,7 +38,7 @@ fn put_batch<S: Sink>(out: &mut Out<S>, edits: &[SingleEdit]) -> Result<(), Fail
     }
 }
 
-/// The edits of a batch behind its first one, each behind a `;`.
+/// The edits of a batch after its first one, each after a `;`.
 #[derive(Clone, Copy)]
 struct Others<'a> {
     edits: &'a [SingleEdit],

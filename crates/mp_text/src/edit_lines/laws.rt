@@ -1,14 +1,14 @@
-//! What the lines of edits say.
+//! Laws of the lines of edits.
 ghost use Rattle.mp_text.specs.edit_lines.ReadBack.{IsReadAsWritten, AreReadAsWritten, AcceptedAreRead, AreLinesOfEdits};
 
 use mp_netlist::laws::edits_keep_netlists;
 
-/// The line of an edit of one thing is read as that edit, if its names are names and its numbers are below 2^64.
+/// The line of an edit of one thing is read as that edit, if its names are valid and its numbers are below 2^64.
 pub fn single_edits_are_read()
     ensures { IsReadAsWritten }
 {}
 
-/// So is the line of a batch, if it has an edit and all its edits are such.
+/// The line of a batch of such edits, at least one, is read as that batch.
 pub fn edits_are_read()
     ensures { AreReadAsWritten }
 {}
@@ -20,7 +20,7 @@ pub fn accepted_edits_are_read()
     edits_keep_netlists();
 }
 
-/// The lines of edits that are accepted one after the other are read as just these edits, in their order.
+/// The lines of edits that are accepted one after the other are read as exactly these edits, in order.
 pub fn lines_say_accepted_edits()
     ensures { AreLinesOfEdits }
 {

@@ -7,7 +7,7 @@ ghost use Rattle.mp_text.specs.edit_lines.EditLines.{input_text, output_text, wi
 use mp_records::{InputName, Name, OutputName};
 use mp_streams::{Failed, Out, Sink, Text};
 
-/// Inputs that are to be, each behind a space.
+/// Inputs of a new module, each after a space.
 #[derive(Clone, Copy)]
 pub(crate) struct NewInputs<'a> {
     pub inputs: &'a [InputName],
@@ -35,7 +35,7 @@ fn put_input<S: Sink>(out: &mut Out<S>, input: &InputName) -> Result<(), Failed>
     (" ", name, "/", input.delay).put_to(out)
 }
 
-/// Outputs that are to be, each behind a space.
+/// Outputs of a new module, each after a space.
 #[derive(Clone, Copy)]
 pub(crate) struct NewOutputs<'a> {
     pub outputs: &'a [OutputName],
@@ -53,7 +53,7 @@ impl<'a> Text for NewOutputs<'a> {
     }
 }
 
-/// The name of a wire, `-` where there is none.
+/// The name of a wire, `-` if there is none.
 fn word_of(wire: &Option<Name>) -> &str
     ensures { result.now ≡ wire_word wire.now }
 {

@@ -1,10 +1,10 @@
-//! The times and values of a stimulus that is to be set.
+//! The times and values of a new stimulus.
 ghost use Rattle.std.specs.List.{flat_map};
 ghost use Rattle.mp_text.specs.lexing.WaveLines.{change_text};
 
 use mp_streams::{Failed, Out, Sink, Text};
 
-/// Times with the value from then on, each pair behind a space.
+/// Times with the value from then on, each pair after a space.
 #[derive(Clone, Copy)]
 pub(crate) struct Pairs<'a> {
     pub pairs: &'a [(u64, u64)],

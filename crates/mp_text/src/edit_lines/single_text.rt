@@ -1,4 +1,4 @@
-//! What makes an edit of one thing.
+//! Edits of one thing as texts.
 ghost use Rattle.std.specs.Prelude.{◌≡◌};
 ghost use Rattle.mp_streams.specs.Outgoing.{Writes};
 ghost use Rattle.mp_text.specs.edit_lines.EditLines.{single_text, wire_word, module_text, stimulus_text};
@@ -9,7 +9,7 @@ use crate::edit_lines::pairs::Pairs;
 use mp_records::{Boxed, Name, NewModule, SingleEdit};
 use mp_streams::{Failed, Out, Sink, Text};
 
-/// An edit of one thing, as a line of a script has it.
+/// An edit of one thing, as in a line of a script.
 #[derive(Clone, Copy)]
 pub(crate) struct SingleText<'a> {
     pub edit: &'a SingleEdit,
@@ -71,7 +71,7 @@ impl<'a> Text for SingleText<'a> {
     }
 }
 
-/// Writes what adds a module.
+/// Writes the edit that adds a module.
 fn put_module<S: Sink>(out: &mut Out<S>, new: &NewModule) -> Result<(), Failed>
     ensures { Writes result out.old out.new (module_text new.now) }
 {
@@ -88,14 +88,14 @@ fn put_module<S: Sink>(out: &mut Out<S>, new: &NewModule) -> Result<(), Failed>
     (start, (params, " :", inputs), (" >", outputs)).put_to(out)
 }
 
-/// Writes what sets a wire.
+/// Writes the edit that sets a stimulus.
 fn put_stimulus<S: Sink>(out: &mut Out<S>, wire: &Name, pairs: &[(u64, u64)]) -> Result<(), Failed>
     ensures { Writes result out.old out.new (stimulus_text wire.now pairs.now) }
 {
     ("stim ", wire.as_str(), Pairs { pairs }).put_to(out)
 }
 
-/// The name of a wire, `-` where there is none.
+/// The name of a wire, `-` if there is none.
 fn word_of(wire: &Option<Boxed<Name>>) -> &str
     ensures { result.now ≡ wire_word wire.now }
 {

@@ -1,4 +1,4 @@
-//! A change of a wave, which writes itself.
+//! Changes of waves as texts.
 ghost use Rattle.std.specs.Prelude.{◌≡◌, ◌+◌, ◌≤◌};
 ghost use Rattle.mp_text.specs.lexing.Clauses.{length, decimal, IsPlaced, change_text};
 
@@ -25,7 +25,8 @@ impl Piece for ChangeText {
     }
 }
 
-/// Writes the number from a place on, in decimal digits, and returns where they end. Of most times and levels it is known how many they are.
+/// Writes the number in decimal digits into the room from `at` on, and returns the index after them. For most times and levels the number of digits
+/// is known.
 #[inline(always)]
 #[tactic(auto, using(crate::proofs::lemmas::lexing::DecimalLemmas::few_digits))]
 pub(crate) fn write_number(number: u64, room: &mut [u8], at: usize) -> usize
@@ -41,7 +42,7 @@ pub(crate) fn write_number(number: u64, room: &mut [u8], at: usize) -> usize
     }
 }
 
-/// Writes a number whose digits have to be counted first, from a place on, and returns where they end.
+/// Writes a number whose digits have to be counted first into the room from `at` on, and returns the index after them.
 fn write_any(number: u64, room: &mut [u8], at: usize) -> usize
     requires { at + 20 ≤ length room.old }
     ensures placed { IsPlaced room.old room.new at (decimal number) result }
@@ -50,7 +51,7 @@ fn write_any(number: u64, room: &mut [u8], at: usize) -> usize
     write_counted(number, digit_count(number), room, at)
 }
 
-/// Writes the number, which has so many decimal digits, from a place on, and returns where they end.
+/// Writes a number with this number of decimal digits into the room from `at` on, and returns the index after them.
 #[inline(always)]
 fn write_counted(number: u64, digits: usize, room: &mut [u8], at: usize) -> usize
     requires count { digits ≡ length (decimal number) }
@@ -62,8 +63,7 @@ fn write_counted(number: u64, digits: usize, room: &mut [u8], at: usize) -> usiz
     end
 }
 
-/// How many decimal digits the number has. Those of times and of most values are few, and as many as
-/// those of the number before.
+/// The number of decimal digits. Times and most values have few, and as many as the number before.
 #[inline]
 #[tactic(auto, using(std::proofs::lemmas::Fmt::decimal_digit, crate::proofs::lemmas::lexing::DecimalLemmas::few_digits, crate::proofs::lemmas::lexing::DecimalLemmas::digits_of_power))]
 fn digit_count(number: u64) -> usize

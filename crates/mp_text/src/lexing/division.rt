@@ -1,4 +1,4 @@
-//! Inputs of several parts, which lines `---` divide.
+//! Inputs whose parts are divided by lines `---`.
 ghost use Rattle.std.specs.Prelude.{◌≡◌, ◌<◌, ◌≤◌};
 ghost use Rattle.mp_text.specs.lexing.Clauses.{length, vec_len, nat_lt, IfOk, lines_of, texts, is_division, are_division, first_part, later_parts, are_divided, parts_of, lines_of_each};
 
@@ -6,8 +6,8 @@ use crate::lexing::line::first_line;
 use crate::lexing::word::words;
 use std::alloc::{AllocError, Global};
 
-/// The part of an input before the first line whose one word is `---`, and what is behind that
-/// line: all and nothing where there is no such line.
+/// The part of an input before the first line whose only word is `---`, and the part after that line. If there is no such line, these are the whole
+/// input and nothing.
 #[tactic(auto, using(crate::proofs::lemmas::lexing::DivisionLemmas::division_steps))]
 pub fn divided(alloc: Global, input: &[u8]) -> Result<(&[u8], &[u8]), AllocError>
     ensures short { IfOk result (λ parts. length parts.0.now ≤ length input.now) }
@@ -27,7 +27,7 @@ pub fn divided(alloc: Global, input: &[u8]) -> Result<(&[u8], &[u8]), AllocError
     Ok((input, &[]))
 }
 
-/// The parts of an input between the lines whose one word is `---`, of which there is one more than there are such lines.
+/// The parts of an input between the lines whose only word is `---`: one more than there are such lines.
 #[tactic(auto, using(crate::proofs::lemmas::lexing::DivisionLemmas::part_steps))]
 pub fn parts(alloc: Global, input: &[u8]) -> Result<Vec<&[u8]>, AllocError>
     ensures some { IfOk result (λ parts. 0 < vec_len parts) }

@@ -5,7 +5,7 @@ ghost use Rattle.mp_text.specs.lexing.Clauses.{length, OnOk, IsAscii, IsTrue, be
 use crate::lexing::line_error::LineError;
 use crate::lexing::word::{place_of, read_words};
 
-/// The first line of the text, and what is behind its line feed.
+/// The first line of the text, and the text after its line feed.
 #[tactic(auto, using(crate::proofs::lemmas::lexing::LineLemmas::line_steps))]
 pub fn first_line(text: &[u8]) -> (&[u8], &[u8])
     ensures line { result.0.now ≡ before_first is_line_feed text.now }
@@ -19,10 +19,10 @@ pub fn first_line(text: &[u8]) -> (&[u8], &[u8])
     }
 }
 
-/// Reads the words of a line before its comment, in order, in place of those that were read before.
+/// Reads the words of a line before its comment, in order, in place of the words in the list.
 ///
-/// `NotAscii` comes where a byte of the line, in a comment too, is none that may stand in a line: a
-/// tab, a carriage return, or 32 to 126. `OutOfMemory` says that memory was wanting.
+/// `NotAscii` comes if a byte of the line, even in its comment, isn't allowed: a tab, a carriage return and 32 to 126 are. `OutOfMemory` comes if
+/// memory runs out.
 pub fn read_line_words<'a>(words: &mut Vec<&'a [u8]>, line: &'a [u8]) -> Result<(), LineError>
     ensures words { Gives OutOfMemory (λ _. texts words.new.items) result (line_words line.now) }
     ensures ascii { OnOk result (AreAscii words.new.items) }
@@ -33,14 +33,14 @@ pub fn read_line_words<'a>(words: &mut Vec<&'a [u8]>, line: &'a [u8]) -> Result<
     Ok(read_words(words, line)?)
 }
 
-/// Whether each byte may stand in a line, in a comment too.
+/// Whether each byte is allowed in a line, comments included.
 pub fn is_plain(line: &[u8]) -> bool
     ensures value { result ≡ list_all is_allowed line.now }
     ensures ascii { IsTrue result → IsAscii line.now }
 {
     let mut plain = true;
     for byte in line {
-        // each byte is looked at, so that many are at once
+        // no early end, so that many bytes are looked at in one step
         plain &= is_allowed(*byte);
     }
     plain

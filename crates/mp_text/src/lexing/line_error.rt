@@ -5,7 +5,7 @@ ghost use Rattle.mp_text.specs.lexing.Clauses.{OutOfMemory};
 use std::alloc::{AllocError, AllocFailed};
 use thiserror::Error;
 
-/// Why a line is not read.
+/// The reason why a line can't be read.
 #[derive(Clone, Copy, Debug, PartialEq, Eq, Error)]
 pub enum LineError {
     #[error("a byte that is not allowed")]
@@ -39,7 +39,7 @@ impl<T: Drop> From<AllocFailed<T>> for LineError {
 impl LineError {
     ghost use Rattle.mp_text.specs.lexing.LineErrors.{line_number_of, line_name_of};
 
-    /// The number by which programs know the fault: 1 to 4, or 9.
+    /// The number of the code: 1 to 4, or 9.
     pub fn number(self) -> u32
         ensures { result ≡ line_number_of self }
     {
@@ -52,7 +52,7 @@ impl LineError {
         }
     }
 
-    /// The fault's name, which is that of its variant.
+    /// The name of the code, which is that of the variant.
     pub fn name(self) -> &'static str
         ensures { result.now ≡ line_name_of self }
     {

@@ -1,4 +1,4 @@
-//! Decimal numbers, and pairs that hold them.
+//! Decimal numbers, and pairs with them.
 #![tactic(auto, unfolding(crate::specs::lexing::Numbers::spelled_number, crate::specs::lexing::Numbers::time_and_value, crate::specs::lexing::Numbers::parts_at_equals, crate::specs::lexing::Numbers::name_and_number, crate::specs::lexing::Numbers::parts_at_slash))]
 
 ghost use Rattle.std.specs.Prelude.{◌≡◌, ◌+◌};
@@ -6,10 +6,10 @@ ghost use Rattle.mp_text.specs.lexing.Clauses.{not, length, option_map, IfSome, 
 
 use crate::lexing::word::place_of;
 
-/// How many digits a number may have.
+/// The greatest number of digits.
 const MAX_DIGITS: usize = 20;
 
-/// The number that 1 to 20 decimal digits spell, where it is below 2^64.
+/// The number that a word of 1 to 20 decimal digits spells, if it is below 2^64.
 pub fn number(word: &[u8]) -> Option<u64>
     ensures { result ≡ spelled_number word.now }
 {
@@ -44,7 +44,7 @@ pub fn time_and_value(word: &[u8]) -> Option<(u64, u64)>
     Some((time, value))
 }
 
-/// What stands before and behind the first `=`.
+/// The bytes before and after the first `=`.
 fn at_equals(word: &[u8]) -> Option<(&[u8], &[u8])>
     ensures { option_map (λ parts. (parts.0.now, parts.1.now)) result ≡ parts_at_equals word.now }
 {
@@ -62,7 +62,7 @@ pub fn name_and_number(word: &[u8]) -> Option<(&[u8], u64)>
     Some((name, number))
 }
 
-/// What stands before and behind the last `/`, where there is something before it.
+/// The bytes before and after the last `/`, if there are bytes before it.
 fn at_slash(word: &[u8]) -> Option<(&[u8], &[u8])>
     ensures parts { option_map (λ parts. (parts.0.now, parts.1.now)) result ≡ parts_at_slash word.now }
     ensures ascii { IsAscii word.now → IfSome result (λ parts. IsAscii parts.0.now) }
@@ -74,7 +74,7 @@ fn at_slash(word: &[u8]) -> Option<(&[u8], &[u8])>
     Some((&word[..from - 1], &word[from..]))
 }
 
-/// Where the bytes behind the last `/` begin: 0 where there is no `/`.
+/// The index after the last `/`, 0 if there is no `/`.
 fn behind_slash(word: &[u8]) -> usize
     ensures { result + suffix_len (λ byte. not (is_slash byte)) word.now ≡ length word.now }
 {

@@ -1,4 +1,4 @@
-//! Changes of a level that toggles, which write themselves.
+//! Changes of a level that toggles, as texts.
 ghost use Rattle.std.specs.Prelude.{◌≡◌, ◌+◌, ◌-◌, ◌≤◌, ◌∷◌};
 ghost use Rattle.mp_text.specs.lexing.Clauses.{[], drop, length, decimal, Writes, IsPlaced, toggle_changes, change_text, changes_text};
 
@@ -82,7 +82,7 @@ impl Piece for FourToggles {
     }
 }
 
-/// Writes a change to a level of 0 or 1 from a place on, and returns where it ends.
+/// Writes a change to a level of 0 or 1 into the room from `at` on, and returns the index after it.
 #[inline(always)]
 fn write_toggle(time: u32, level: u64, room: &mut [u8], at: usize) -> usize
     requires low { level ≤ 1 }
@@ -97,7 +97,7 @@ fn write_toggle(time: u32, level: u64, room: &mut [u8], at: usize) -> usize
     sign + 2
 }
 
-/// Writes a time from a place on, in decimal digits, and returns where they end.
+/// Writes a time in decimal digits into the room from `at` on, and returns the index after them.
 #[inline(always)]
 #[tactic(auto, using(crate::proofs::lemmas::lexing::DecimalLemmas::few_digits))]
 fn write_time(time: u32, room: &mut [u8], at: usize) -> usize

@@ -18,7 +18,7 @@ pub fn words<'a>(alloc: Global, line: &'a [u8]) -> Result<Vec<&'a [u8]>, AllocEr
     Ok(words)
 }
 
-/// Reads the words before a comment, in place of those that were read before.
+/// Reads the words before a comment, in place of the words in the list.
 pub fn read_words<'a>(words: &mut Vec<&'a [u8]>, line: &'a [u8]) -> Result<(), AllocError>
     ensures words { OnOk result (texts words.new.items ≡ words_of line.now) }
     ensures ascii { IsAscii line.now → OnOk result (AreAscii words.new.items) }
@@ -31,14 +31,14 @@ pub fn read_words<'a>(words: &mut Vec<&'a [u8]>, line: &'a [u8]) -> Result<(), A
     )
 }
 
-/// The first word before a comment, where there is one. It takes no memory.
+/// The first word before a comment, if there is one. It takes no memory.
 pub fn first_word(line: &[u8]) -> Option<&[u8]>
     ensures { option_copied result ≡ slice_get (words_of line.now) 0 }
 {
     word_at(line, 0)
 }
 
-/// The word at a place, where there is one. It takes no memory.
+/// The word at a place, if there is one. It takes no memory.
 pub fn word_at(line: &[u8], place: usize) -> Option<&[u8]>
     ensures { option_copied result ≡ slice_get (words_of line.now) place }
 {
@@ -48,7 +48,7 @@ pub fn word_at(line: &[u8], place: usize) -> Option<&[u8]>
         .nth(place)
 }
 
-/// How many words stand before a comment. It takes no memory.
+/// The number of words before a comment. It takes no memory.
 pub fn word_count(line: &[u8]) -> usize
     ensures { result ≡ length (words_of line.now) }
 {
@@ -73,7 +73,7 @@ fn before_comment(line: &[u8]) -> &[u8]
     }
 }
 
-/// The first place at which the byte stands.
+/// The index of the first such byte.
 #[tactic(auto, using(crate::proofs::lemmas::lexing::WordLemmas::first_place))]
 pub fn place_of(byte: u8, bytes: &[u8]) -> Option<usize>
     ensures place { result ≡ position (λ b. b == byte) bytes.now }
@@ -82,13 +82,13 @@ pub fn place_of(byte: u8, bytes: &[u8]) -> Option<usize>
     memchr(byte, bytes)
 }
 
-/// A word of ASCII bytes as a name. The error comes where memory is wanting.
+/// A word of ASCII bytes as a name. `AllocError` comes if memory runs out.
 #[tactic(auto, using(crate::proofs::lemmas::lexing::WordLemmas::name_steps))]
 pub fn name_of(alloc: Global, word: &[u8]) -> Result<Name, AllocError>
     requires { IsAscii word.now }
     ensures { IfOk result (λ name. name ≡ word.now) }
 {
-    // ASCII is UTF-8, so nobody has to look at the bytes once more
+    // ASCII is UTF-8, so the bytes needn't be checked again
     let text = unsafe { str::from_utf8_unchecked(word) };
     Name::new(alloc, text)
 }

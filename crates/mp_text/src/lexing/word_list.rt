@@ -1,4 +1,4 @@
-//! What each of several words says.
+//! The meanings of words, one by one.
 #![tactic(auto, unfolding(crate::specs::lexing::WordLists::input_word, crate::specs::lexing::WordLists::output_word))]
 
 ghost use Rattle.std.specs.Prelude.{◌≡◌};
@@ -10,22 +10,22 @@ use crate::lexing::word::name_of;
 use mp_records::{InputName, Name, OutputName};
 use std::alloc::{AllocError, Global};
 
-/// The number below 2^64 that a word of 1 to 20 digits spells, and `BadNumber` for any other word.
+/// The number below 2^64 that a word of 1 to 20 digits spells. `BadNumber` comes for any other word.
 pub fn number_word(word: &[u8]) -> Result<u64, LineError>
     ensures { result ≡ number_word word.now }
 {
     number(word).ok_or(LineError::BadNumber)
 }
 
-/// What one word says.
+/// A value that one word states.
 pub trait Worded: Drop {
-    /// Of which words it may be read: of all, where an impl doesn't say otherwise.
+    /// The words that it may be read from: all, unless an impl says otherwise.
     ghost may_read: { List ℕ → Type 0 } = { λ _. Unit {0} };
 
-    /// What a word says, or why it says nothing.
+    /// The value that a word states, or the reason why it states none.
     ghost read: { List ℕ → Result Self LineError };
 
-    /// What the word says. `OutOfMemory` comes where memory is wanting.
+    /// The value that the word states. `OutOfMemory` comes if memory runs out.
     fn from_word(alloc: Global, word: &[u8]) -> Result<Self, LineError>
         requires { may_read word.now }
         ensures { Gives OutOfMemory (λ item. item) result (read word.now) };
@@ -76,7 +76,7 @@ fn has_slash(word: &[u8]) -> bool
     word.iter().any(|byte| *byte == b'/')
 }
 
-/// The wire that is named, where `-` names none. The error comes where memory is wanting.
+/// The name of a wire; `None` for `-`. `AllocError` comes if memory runs out.
 pub fn wire_or_none(alloc: Global, name: &[u8]) -> Result<Option<Name>, AllocError>
     requires { IsAscii name.now }
     ensures { IfOk result (λ wire. wire ≡ wire_or_none name.now) }
@@ -108,7 +108,7 @@ impl Worded for OutputName {
     }
 }
 
-/// What each of the words says, in order; or why the first that says nothing doesn't. `OutOfMemory` comes where memory is wanting.
+/// The values that the words state, in order, or the error of the first word that states none. `OutOfMemory` comes if memory runs out.
 #[tactic(auto, using(crate::proofs::lemmas::lexing::WordListLemmas::each_steps))]
 pub fn each_word<W: Worded>(alloc: Global, words: &[&[u8]]) -> Result<Vec<W>, LineError>
     requires { All (λ word. W.may_read word.now) words.now }

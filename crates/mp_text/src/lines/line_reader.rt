@@ -13,8 +13,8 @@ use std::alloc::{AllocError, Global};
 use std::marker::Model;
 use std::sync::Wait;
 
-/// A source that is read line by line. It takes its memory when it is made, and no more. The source is asked for bytes only while no whole
-/// line is held, so that a line can be answered before the next one is written.
+/// A source that is read line by line. It takes its memory when it is made, and no more. It asks the source for bytes only while it holds no whole
+/// line, so that a line can be answered before the next one is written.
 #[derive(Drop)]
 pub struct LineReader<S: Source> {
     source: S,
@@ -35,7 +35,7 @@ impl<S: Source> Model for LineReader<S> {
 }
 
 impl<S: Source> LineReader<S> {
-    /// The source, of which nothing was read, with an empty line. The error comes where memory is wanting.
+    /// A reader of this source, with nothing read so far and an empty line. `AllocError` comes if memory runs out.
     pub fn new(alloc: Global, source: S) -> Result<LineReader<S>, AllocError>
     where
         S: Drop,
@@ -54,10 +54,9 @@ impl<S: Source> LineReader<S> {
         })
     }
 
-    /// Reads the next line, and returns whether there is one. A line ends at a line feed, which isn't part of it, and the last one may end
-    /// without. A line of more than 65,536 bytes is passed over to its end. `Failed` comes with a fault of the source: then what was taken of
-    /// the line is lost, and nothing is held. It waits for as long as the source gives no line feed and no end. Once the source told its end,
-    /// it isn't asked again.
+    /// Reads the next line, and returns whether there is one. A line ends at a line feed, which isn't part of it, and the last one may end without. A
+    /// line of more than 65,536 bytes is skipped to its end. `Failed` comes if the source fails; then the line so far is lost, and nothing is held.
+    /// The call waits until the source gives a line feed or its end. After its end the source isn't asked again.
     pub fn read<R: Wait>(&mut self, rt: &R) -> Result<bool, Failed>
         ensures read { ReadsLine result self.old self.new }
         ensures held_first { StaysIfHeld self.old self.new }
@@ -67,7 +66,7 @@ impl<S: Source> LineReader<S> {
         read_on(rt, &mut self.source, &mut self.chunk, &mut self.line)
     }
 
-    /// The line that was read last. `TooLong` comes where it has more than 65,536 bytes.
+    /// The line that was read last. `TooLong` comes if it has more than 65,536 bytes.
     pub fn line(&self) -> Result<&[u8], TooLong>
         ensures { MatchResult result (λ line. self.now.line ≡ Some line.now) (λ _. self.now.line ≡ None) }
     {

@@ -1,4 +1,4 @@
-//! The room of one line.
+//! A buffer for one line.
 ghost use Rattle.std.specs.Prelude.{◌≡◌, ◌+◌, ◌≤◌, [], Some, None, IfOk, MatchResult, IsTrue, ◌↔◌, length};
 ghost use Rattle.mp_streams.specs.Places.{IsPlaced};
 ghost use Rattle.mp_text.specs.lines.Given.{with_more};
@@ -7,7 +7,7 @@ use crate::lines::too_long::{LINE_BYTES, TooLong};
 use std::alloc::{AllocError, Global};
 use std::marker::Model;
 
-/// The bytes of a line so far, `None` where they are more than a line may have.
+/// The bytes of a line so far; `None` if they are more than a line may have.
 #[derive(Drop)]
 pub(crate) struct LineRoom {
     room: Vec<u8>,
@@ -47,14 +47,14 @@ impl LineRoom {
         self.is_long = false;
     }
 
-    /// Whether no byte was put.
+    /// Whether the line has no byte.
     pub(crate) fn is_empty(&self) -> bool
         ensures { IsTrue result ↔ (self.now ≡ Some []) }
     {
         self.end == 0 && !self.is_long
     }
 
-    /// Puts the bytes behind those so far.
+    /// Appends the bytes.
     #[tactic(auto, using(crate::proofs::lemmas::lines::GivenLemmas::given_long, crate::proofs::lemmas::lines::GivenLemmas::given_short))]
     pub(crate) fn put(&mut self, bytes: &[u8])
         ensures { self.new ≡ with_more self.old bytes.now }
@@ -80,7 +80,7 @@ impl LineRoom {
     }
 }
 
-/// Writes the bytes from a place on, where there is room for them, and returns where they end.
+/// Writes the bytes into the room from `at` on, if there is room for them, and returns the index after them.
 fn place(room: &mut [u8], at: usize, bytes: &[u8]) -> usize
     requires { at + length bytes.now ≤ length room.old }
     ensures { IsPlaced room.old room.new at bytes.now result }

@@ -1,4 +1,4 @@
-//! Bytes that become a line.
+//! Divides bytes into lines.
 ghost use Rattle.std.specs.Prelude.{◌≡◌, true};
 ghost use Rattle.std.specs.Io.KnownBytes.{IsAtEnd};
 ghost use Rattle.std.specs.List.{before_first, after_first};
@@ -13,7 +13,7 @@ use crate::lines::source_chunk::SourceChunk;
 use mp_streams::{Failed, Source};
 use std::sync::Wait;
 
-/// Reads the next line, as `LineReader::read` says.
+/// Reads the next line, as `LineReader::read` does.
 pub(crate) fn read_on<R: Wait, S: Source>(
     rt: &R,
     source: &mut S,
@@ -39,8 +39,7 @@ pub(crate) fn read_on<R: Wait, S: Source>(
     unreachable!()
 }
 
-/// Moves the bytes before the first line feed to the line, with all bytes where there is none, and passes over the line feed. Returns whether
-/// there was one.
+/// Moves the bytes up to the first line feed to the line, or all bytes if there is none, and skips the line feed. Returns whether there was one.
 fn absorb(chunk: &mut SourceChunk, line: &mut LineRoom) -> bool
     ensures ends { result ≡ has_line_feed chunk.old.bytes }
     ensures line { line.new ≡ with_more line.old (before_first is_line_feed chunk.old.bytes) }

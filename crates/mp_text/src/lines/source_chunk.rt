@@ -1,4 +1,4 @@
-//! Bytes that a source gave at once.
+//! A chunk of bytes from a source.
 ghost use Rattle.std.specs.Prelude.{◌≡◌, [], true, false, drop, length, IfOk, OnOk, OnErr, ◌==◌};
 ghost use Rattle.std.specs.Io.KnownBytes.{Consumes, Keeps, IsAtEnd};
 ghost use Rattle.mp_streams.specs.StreamFaults.{counted};
@@ -7,10 +7,10 @@ use mp_streams::{Failed, Source};
 use std::alloc::{AllocError, Global};
 use std::marker::Model;
 
-/// How many bytes are asked for at once: so many that a read costs little beside what it gives.
+/// The size of a chunk: large enough that a read costs little in comparison with what it gives.
 const CHUNK_BYTES: usize = 65_536;
 
-/// Bytes that a source gave at once, without those from the front that were passed over, and whether the source told its end.
+/// A chunk of bytes from a source without those that were already taken from its front, and whether the source has ended.
 #[derive(Drop)]
 pub(crate) struct SourceChunk {
     room: Vec<u8>,
@@ -31,7 +31,7 @@ impl Model for SourceChunk {
 }
 
 impl SourceChunk {
-    /// No bytes, with the room for as many as are asked for at once.
+    /// An empty chunk, with room for a full one.
     pub(crate) fn new(alloc: Global) -> Result<SourceChunk, AllocError>
         ensures { IfOk result (λ chunk. chunk ≡ record { bytes = []; is_last = false }) }
     {
@@ -44,21 +44,21 @@ impl SourceChunk {
         })
     }
 
-    /// The bytes that were not passed over.
+    /// The bytes that are left.
     pub(crate) fn bytes(&self) -> &[u8]
         ensures { result.now ≡ self.now.bytes }
     {
         &self.room[self.from..self.end]
     }
 
-    /// Whether all bytes were passed over.
+    /// Whether no bytes are left.
     pub(crate) fn is_empty(&self) -> bool
         ensures { result ≡ (length self.now.bytes == 0) }
     {
         self.bytes().is_empty()
     }
 
-    /// Passes over so many bytes, and over all where there are no more.
+    /// Skips `count` bytes, or all if there are fewer.
     pub(crate) fn pass(&mut self, count: usize)
         ensures bytes { self.new.bytes ≡ drop count self.old.bytes }
         ensures same { self.new.is_last ≡ self.old.is_last }
@@ -66,8 +66,8 @@ impl SourceChunk {
         self.from += count.min(self.end - self.from);
     }
 
-    /// Takes the next bytes of the source. There are none only at its end, behind which it isn't asked again. `Failed` comes with a fault of
-    /// the source: then there are none.
+    /// Takes the next bytes of the source: none only at its end, after which it isn't asked again. `Failed` comes if the source fails; then there are
+    /// none.
     pub(crate) fn fill<S: Source>(&mut self, source: &mut S) -> Result<(), Failed>
         requires { self.old.is_last ≡ true → IsAtEnd (S.left source.old) }
         ensures taken { OnOk result (Consumes (S.left source.old) (S.left source.new) self.new.bytes) }

@@ -1,7 +1,7 @@
-//! How long a line may be.
+//! The greatest length of a line.
 use thiserror::Error;
 
-/// How many bytes a line may have, without its line feed.
+/// The greatest number of bytes of a line, without its line feed.
 pub const LINE_BYTES: usize = 65_536;
 
 /// The line has more bytes than a line may have.
