@@ -1,4 +1,4 @@
-//! Modules of width 1 as automata. An event of an input is an event whichever way its level changes, so an automaton knows no levels.
+//! Modules of width 1 as automata. An event is an event whether its wire rises or falls, so an automaton knows no levels.
 
 mod automaton;
 mod automaton_state;

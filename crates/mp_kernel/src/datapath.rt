@@ -1,4 +1,4 @@
-//! Modules with data, the levels of what they read, and those to come.
+//! Modules with data, the levels that they read, and the levels to come.
 
 mod data_module;
 mod data_part;

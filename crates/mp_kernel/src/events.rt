@@ -1,4 +1,4 @@
-//! Events of wires of width 1: the wheel that has those to come, who reads them, and the loops of a unit.
+//! Events of wires of width 1: the event wheel, the fanout, and the loops of a unit.
 
 mod adding;
 mod batches;

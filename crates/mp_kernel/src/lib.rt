@@ -1,8 +1,8 @@
-//! The parts that a simulation is made of: the event wheel, the fanout of wires, and modules that fire.
+//! The parts of a simulation: the event wheel, the fanout of wires, and modules that fire.
 //!
-//! `automata` has modules of width 1 as automata, which answer all events of a unit from one table. `events` has the event wheel, who reads each
-//! wire, and the loops of a unit. `datapath` has the same for modules with data, and `timers` the numbers that come up in the next units. Begin
-//! with `automata/automaton.rt` and `events/event_wheel.rt`.
+//! `automata` has modules of width 1 as automata, which answer all events of a unit from one table. `events` has the event wheel, the fanout, and the
+//! loops of a unit. `datapath` has the same for modules with data, and `timers` a timer wheel of numbers. Begin with `automata/automaton.rt` and
+//! `events/event_wheel.rt`.
 #![tactic(auto)]
 
 pub mod automata;

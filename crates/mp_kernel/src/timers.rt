@@ -1,4 +1,4 @@
-//! A timer wheel: which numbers come up in the next units.
+//! A timer wheel of numbers.
 
 pub mod laws;
 mod timer_wheel;

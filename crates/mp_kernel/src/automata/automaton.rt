@@ -1,4 +1,4 @@
-//! How modules of width 1 answer events.
+//! Automata: how modules of width 1 answer events.
 ghost use Rattle.std.specs.Prelude.{◌≡◌};
 ghost use Rattle.mp_kernel.specs.automata.Automata.{core_automaton, computed_automaton, automaton_of};
 
@@ -9,15 +9,15 @@ use crate::automata::reaction::Reaction;
 use crate::automata::rules::{alternate, choose, differ, hold, join};
 use mp_modules::{AnyModule, Computed, CoreModule};
 
-/// How many automata there are.
+/// The number of automata.
 pub(crate) const AUTOMATA: u16 = 9;
 
-/// How a module of width 1 answers events. Kinds that answer alike are one automaton.
+/// The way in which a module of width 1 answers events. Kinds that answer alike share one automaton.
 #[derive(Clone, Copy, Debug, PartialEq, Eq)]
 pub enum Automaton {
-    /// Each event of the one input is one of the output: BUF and NOT, and ADDC, XORC and BIT at width 1.
+    /// Each event of the input is an event of the output: BUF and NOT, and ADDC, XORC and BIT at width 1.
     Follow,
-    /// An event of one of two inputs alone is one of the output: XOR, and SUM at width 1.
+    /// An event of exactly one of the two inputs is an event of the output: XOR, and SUM at width 1.
     Merge,
     /// C.
     Join,
@@ -73,7 +73,7 @@ impl Automaton {
         }
     }
 
-    /// Whom a module serves in a phase, and who waits: nobody, if it serves no clients.
+    /// The client that a module serves in a phase, and those that wait; nobody if the module serves no clients.
     pub(crate) fn clients(self, phase: Phase) -> Phase
         ensures { result ≡ clients_in self phase }
     {
@@ -83,7 +83,7 @@ impl Automaton {
         }
     }
 
-    /// The automaton's number, from 0.
+    /// The number of the automaton, from 0.
     pub(crate) fn code(self) -> u16
         ensures value { result ≡ automaton_code self }
         ensures low { result < 9 }
@@ -101,7 +101,7 @@ impl Automaton {
         }
     }
 
-    /// The automaton of a number.
+    /// The automaton with this number.
     pub(crate) fn from_code(code: u16) -> Automaton
         ensures { (a : AnyAutomaton) → code ≡ automaton_code a → result ≡ a }
     {

@@ -6,8 +6,8 @@ use crate::automata::phase::{PHASES, Phase};
 use crate::automata::port_levels::PortLevels;
 use mp_modules::Memory;
 
-/// The state of a module of width 1 within a unit: its automaton, its phase before the unit, and which inputs have had an event in it so
-/// far. It is the place of what comes of them in a `TransitionTable`.
+/// The state of a module of width 1 within a unit: its automaton, its phase before the unit, and which inputs have had an event in it so far. It is
+/// the index of their transition in a `TransitionTable`.
 #[derive(Clone, Copy, Debug, PartialEq, Eq)]
 pub struct AutomatonState(pub u16);
 
@@ -28,8 +28,8 @@ impl AutomatonState {
         AutomatonState((automaton.code() * PHASES + phase.code()) * EVENT_SETS)
     }
 
-    /// Adds the event of an input that has had none in this unit, by its bit (`event_bit`). It returns whether the event is the first one of
-    /// the module in this unit.
+    /// Adds the event of an input that has had none in this unit, by its bit (`event_bit`). Returns whether it is the module's first event in this
+    /// unit.
     #[inline(always)]
     pub fn add_event(&mut self, event: u16) -> bool
         requires { self.old.0 + event < 2 ^ 16 }
@@ -41,7 +41,7 @@ impl AutomatonState {
         is_first
     }
 
-    /// The module's state where it has had no event in this unit and its ports have these levels.
+    /// The module's state before any event of this unit, if its ports have these levels.
     pub fn memory(self, levels: PortLevels) -> Memory
         ensures { (part : AnyModule) (m : AnyMemory) → IsBitState part m → self.0 ≡ state_code (automaton_of part) (phase_of part m) no_events → levels.0 ≡ levels_code m →
             result ≡ m }

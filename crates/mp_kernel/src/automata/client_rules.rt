@@ -7,7 +7,7 @@ use crate::automata::phase::Phase;
 use crate::automata::reaction::Reaction;
 use mp_modules::Client;
 
-/// What a CALL does: it ends a call, and then takes a request, the first client's before the second's.
+/// A unit of a CALL: it ends a call, and then takes a request, that of the first client before that of the second.
 pub(crate) fn serve(events: Events, reaction: Reaction) -> Reaction
     ensures { result ≡ serve events reaction }
 {
@@ -16,8 +16,8 @@ pub(crate) fn serve(events: Events, reaction: Reaction) -> Reaction
     request_call(Client::Second, events.second, first)
 }
 
-/// What an ARBITER does: its owner releases it, one that waits becomes the owner, and then it takes requests, the first client's before
-/// the second's.
+/// A unit of an ARBITER: its owner releases it, a client that waits becomes the owner, and then it takes requests, that of the first client before
+/// that of the second.
 pub(crate) fn grant(events: Events, reaction: Reaction) -> Reaction
     ensures { result ≡ grant events reaction }
 {
@@ -32,7 +32,7 @@ fn is_free(client: Client) -> bool
     matches!(client, Client::Nobody)
 }
 
-/// A done event returns to the client that is served, if any.
+/// Passes a done event to the client that is served, if any.
 fn end_call(event: bool, reaction: Reaction) -> Reaction
     ensures { result ≡ end_call event reaction }
 {
@@ -46,7 +46,7 @@ fn end_call(event: bool, reaction: Reaction) -> Reaction
     }
 }
 
-/// A request event is served while nobody is.
+/// Serves a request event if nobody is served.
 fn request_call(client: Client, event: bool, reaction: Reaction) -> Reaction
     ensures { result ≡ request_call client event reaction }
 {
@@ -57,7 +57,7 @@ fn request_call(client: Client, event: bool, reaction: Reaction) -> Reaction
     }
 }
 
-/// The owner's done event ends its ownership.
+/// Ends the ownership if the owner has a done event.
 fn release(first: bool, second: bool, reaction: Reaction) -> Reaction
     ensures { result ≡ release first second reaction }
 {
@@ -73,7 +73,7 @@ fn release(first: bool, second: bool, reaction: Reaction) -> Reaction
     }
 }
 
-/// The client's grant output toggles. It owns, and waits no longer.
+/// Toggles the grant output of the client, which then owns and no longer waits.
 fn grant_to(client: Client, reaction: Reaction) -> Reaction
     ensures { result ≡ grant_to client reaction }
 {
@@ -90,7 +90,7 @@ fn grant_to(client: Client, reaction: Reaction) -> Reaction
     }
 }
 
-/// Where nobody owns, a client that waits is granted.
+/// Grants a client that waits, if nobody owns.
 fn promote(reaction: Reaction) -> Reaction
     ensures { result ≡ promote reaction }
 {
@@ -117,7 +117,7 @@ fn is_engaged(client: Client, phase: Phase) -> bool
     }
 }
 
-/// A request event of a client that neither owns nor waits: it owns from now on where nobody does, and else waits.
+/// Takes a request event of a client that neither owns nor waits: it owns from now on if nobody else does, and otherwise waits.
 fn request_grant(client: Client, event: bool, reaction: Reaction) -> Reaction
     ensures { result ≡ request_grant client event reaction }
 {

@@ -1,7 +1,7 @@
 //! The events of a module's inputs in a unit.
 ghost use Rattle.std.specs.Prelude.{◌≡◌, ◌<◌, ◌^◌};
 
-/// In how many ways the inputs of a module can have events.
+/// The number of sets of inputs that can have events in a unit.
 pub(crate) const EVENT_SETS: u16 = 16;
 
 /// Which input ports have an event in a unit.
@@ -18,7 +18,7 @@ impl Events {
     ghost use Rattle.mp_kernel.specs.declared.automata.events.Events.{Events as AnyEvents};
     ghost use Rattle.mp_kernel.specs.automata.Codes.{events_code};
 
-    /// Their number: 1 for the first input, 2 for the second, 4 for the third and 8 for the fourth.
+    /// The sum of their bits: 1 for the first input, 2 for the second, 4 for the third and 8 for the fourth.
     pub(crate) fn code(self) -> u8
         ensures value { result ≡ events_code self }
         ensures low { result < 16 }
@@ -29,7 +29,7 @@ impl Events {
             + u8::from(self.fourth) * 8
     }
 
-    /// The events whose bits make up a number.
+    /// The events with this sum of bits.
     pub(crate) fn from_code(code: u16) -> Events
         ensures { (e : AnyEvents) → code ≡ events_code e → result ≡ e }
     {
@@ -42,7 +42,7 @@ impl Events {
     }
 }
 
-/// The bit of an event at an input port: 1 for the port 0, and twice as much for each next one.
+/// The bit of an event at an input port: 1 for port 0, and twice as much for each further port.
 pub fn event_bit(port: usize) -> u16
     requires { port < 4 }
     ensures { result ≡ 2 ^ port }

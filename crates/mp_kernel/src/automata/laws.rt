@@ -1,8 +1,8 @@
-//! What holds of the automata.
+//! Laws of the automata.
 
 ghost use Rattle.mp_kernel.specs.automata.AutomatonLaws.{ReactsAsModule, LevelsFollow};
 
-/// A module of width 1 goes on as its automaton does: so toggle its outputs, and so goes its phase.
+/// A module of width 1 steps as its automaton does: its outputs toggle alike, and its phase follows.
 pub fn reacts_as_module()
     ensures { ReactsAsModule }
 {}

@@ -1,4 +1,4 @@
-//! What a module of width 1 keeps from unit to unit.
+//! Phases: what modules of width 1 keep from unit to unit.
 ghost use Rattle.std.specs.Prelude.{◌≡◌, ◌<◌};
 ghost use Rattle.mp_modules.specs.declared.memory.Client.{Client as AnyClient};
 ghost use Rattle.mp_kernel.specs.automata.Phases.{core_phase, waits_at};
@@ -6,13 +6,12 @@ ghost use Rattle.mp_kernel.specs.automata.Codes.{client_code};
 
 use mp_modules::{AnyModule, Client, CoreModule, Memory, Waiting};
 
-/// How many phases there are: three for who is served, each with four for who waits.
+/// The number of phases: three for who is served, times four for who waits.
 pub(crate) const PHASES: u16 = 12;
 
-/// What a module of width 1 keeps from unit to unit, so far as its answers depend on it. CALL and ARBITER serve clients, who may wait. In a
-/// C an input waits that, behind its bubble, differs from the output. In a TOGGLE the first waits where the next event goes to the second
-/// output; in a SELECT where the second input is 1. In a REG the first waits where the data are held, and the second where they differ
-/// from what is held.
+/// What a module of width 1 keeps from unit to unit, as far as its answers depend on it. CALL and ARBITER serve clients, who may wait. In a C an
+/// input "waits" if it differs, behind its bubble, from the output. In a TOGGLE the first "waits" if the next event goes to the second output, and in
+/// a SELECT if the second input is 1. In a REG the first "waits" if the data are held, and the second if the data differ from what is held.
 #[derive(Clone, Copy, Debug, PartialEq, Eq)]
 pub struct Phase {
     pub served: Client,
@@ -25,7 +24,7 @@ impl Phase {
     ghost use Rattle.mp_kernel.specs.automata.Phases.{unserved, phase_of};
     ghost use Rattle.mp_kernel.specs.automata.Codes.{phase_code};
 
-    /// Nobody is served, and these wait.
+    /// The phase in which nobody is served and these wait.
     pub fn unserved(first: bool, second: bool) -> Phase
         ensures { result ≡ unserved first second }
     {
@@ -49,7 +48,7 @@ impl Phase {
         }
     }
 
-    /// The phase's number, from 0.
+    /// The number of the phase, from 0.
     pub(crate) fn code(self) -> u16
         ensures value { result ≡ phase_code self }
         ensures low { result < 12 }
@@ -59,7 +58,7 @@ impl Phase {
             + u16::from(self.waiting.second)
     }
 
-    /// The phase of a number.
+    /// The phase with this number.
     pub(crate) fn from_code(code: u16) -> Phase
         ensures { (k : AnyPhase) → code ≡ phase_code k → result ≡ k }
     {

@@ -2,8 +2,7 @@
 
 use mp_modules::{MOST_INPUTS, MOST_OUTPUTS, Memory};
 
-/// The levels at the ports of a module of width 1, a bit each: the bit p has the level of the input p, and the bit 4 + p that of the output p
-/// before its delay.
+/// The levels at the ports of a module of width 1, a bit each: bit p has the level of input p, and bit 4 + p that of output p before its delay.
 #[derive(Clone, Copy, Debug, PartialEq, Eq)]
 pub struct PortLevels(pub u8);
 
@@ -28,7 +27,7 @@ impl PortLevels {
         )
     }
 
-    /// The levels at the ports of these bits change.
+    /// Changes the levels at the ports of these bits.
     #[inline(always)]
     pub fn flip(&mut self, ports: u8)
         ensures { self.new.0 ≡ bit_xor self.old.0 ports }

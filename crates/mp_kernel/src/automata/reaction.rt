@@ -1,4 +1,4 @@
-//! What an automaton does in a unit.
+//! The reaction of an automaton to the events of a unit.
 
 use crate::automata::phase::Phase;
 use crate::automata::toggles::Toggles;
@@ -15,7 +15,7 @@ impl Reaction {
     ghost use Rattle.std.specs.Prelude.{◌≡◌};
     ghost use Rattle.mp_kernel.specs.automata.Reactions.{quiet, toggle_first, toggle_second, toggle_third, toggle_first_if, toggle_second_if, toggle_third_if, with_served, with_waiting};
 
-    /// Nothing toggles.
+    /// A reaction in which nothing toggles.
     pub(crate) fn quiet(phase: Phase) -> Reaction
         ensures { result ≡ quiet phase }
     {
@@ -29,7 +29,7 @@ impl Reaction {
         }
     }
 
-    /// The first output toggles once more.
+    /// The reaction with one more toggle of the first output.
     pub(crate) fn toggle_first(mut self) -> Reaction
         ensures { result ≡ toggle_first self }
     {
@@ -37,7 +37,7 @@ impl Reaction {
         self
     }
 
-    /// The second output toggles once more.
+    /// The reaction with one more toggle of the second output.
     pub(crate) fn toggle_second(mut self) -> Reaction
         ensures { result ≡ toggle_second self }
     {
@@ -45,7 +45,7 @@ impl Reaction {
         self
     }
 
-    /// The third output toggles once more.
+    /// The reaction with one more toggle of the third output.
     pub(crate) fn toggle_third(mut self) -> Reaction
         ensures { result ≡ toggle_third self }
     {
@@ -71,7 +71,7 @@ impl Reaction {
         if toggles { self.toggle_third() } else { self }
     }
 
-    /// This client is served from now on.
+    /// The reaction after which this client is served.
     pub(crate) fn with_served(mut self, client: Client) -> Reaction
         ensures { result ≡ with_served client self }
     {
@@ -79,7 +79,7 @@ impl Reaction {
         self
     }
 
-    /// Whether this client waits from now on.
+    /// The reaction after which this client waits or not.
     pub(crate) fn with_waiting(mut self, client: Client, waits: bool) -> Reaction
         ensures { result ≡ with_waiting client waits self }
     {

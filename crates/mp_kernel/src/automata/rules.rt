@@ -6,14 +6,14 @@ use crate::automata::events::Events;
 use crate::automata::phase::Phase;
 use crate::automata::reaction::Reaction;
 
-/// Whether one of the two holds, and the other doesn't.
+/// Whether exactly one of the two is true.
 pub(crate) fn differ(one: bool, other: bool) -> bool
     ensures { result ≡ differ one other }
 {
     if one { !other } else { other }
 }
 
-/// The output of a C toggles where both inputs wait then.
+/// A unit of a C: the output toggles if both inputs then wait.
 pub(crate) fn join(phase: Phase, events: Events) -> Reaction
     ensures { result ≡ join phase events }
 {
@@ -26,7 +26,7 @@ pub(crate) fn join(phase: Phase, events: Events) -> Reaction
     }
 }
 
-/// An event of a TOGGLE goes to its two outputs in turn.
+/// A unit of a TOGGLE: an event goes to the two outputs in turn.
 pub(crate) fn alternate(is_second_next: bool, event: bool) -> Reaction
     ensures { result ≡ alternate is_second_next event }
 {
@@ -40,7 +40,7 @@ pub(crate) fn alternate(is_second_next: bool, event: bool) -> Reaction
     }
 }
 
-/// An event of a SELECT goes to its first output where the second input is 1, and else to its second.
+/// A unit of a SELECT: an event goes to the first output if the second input is 1, and otherwise to the second output.
 pub(crate) fn choose(is_first_chosen: bool, event: bool) -> Reaction
     ensures { result ≡ choose is_first_chosen event }
 {
@@ -54,7 +54,7 @@ pub(crate) fn choose(is_first_chosen: bool, event: bool) -> Reaction
     }
 }
 
-/// A REG that doesn't hold its data then passes on those that differ from what it held. Its two controls come out after it.
+/// A unit of a REG: if it is open then, data that differ from what it held pass. Its two controls pass through.
 pub(crate) fn hold(phase: Phase, events: Events) -> Reaction
     ensures { result ≡ hold phase events }
 {

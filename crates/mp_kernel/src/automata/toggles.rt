@@ -12,7 +12,7 @@ impl Toggles {
     ghost use Rattle.std.specs.Prelude.{◌≡◌, ◌<◌};
     ghost use Rattle.mp_kernel.specs.automata.Codes.{toggles_code};
 
-    /// Their number: 1 for the first output, 2 for the second and 4 for the third.
+    /// The sum of their bits: 1 for the first output, 2 for the second and 4 for the third.
     pub(crate) fn code(self) -> u8
         ensures value { result ≡ toggles_code self }
         ensures low { result < 8 }

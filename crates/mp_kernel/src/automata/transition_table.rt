@@ -14,7 +14,7 @@ use crate::automata::transition::Transition;
 use std::alloc::{AllocError, Global};
 use std::marker::Model;
 
-/// How many states there are.
+/// The number of states.
 const STATES: u16 = AUTOMATA * PHASES * EVENT_SETS;
 
 /// The transition of each state.
@@ -43,13 +43,13 @@ impl TransitionTable {
     ghost use Rattle.mp_kernel.specs.automata.Codes.{state_code};
     ghost use Rattle.mp_kernel.specs.automata.Transitions.{IsTable, transition_of};
 
-    /// The table, from what each automaton does in each phase with each set of events.
+    /// Makes the table from the reaction of each automaton in each phase to each set of events.
     pub fn new(alloc: Global) -> Result<TransitionTable, AllocError> {
         let list = all_transitions(alloc)?;
         Ok(TransitionTable { list })
     }
 
-    /// What comes of a state.
+    /// The transition from a state.
     #[inline(always)]
     pub fn of(&self, state: AutomatonState) -> Transition
         requires { state.0 < 1728 }

@@ -7,8 +7,8 @@ use crate::datapath::data_ports::DataPorts;
 use crate::datapath::output_levels::OutputLevels;
 use mp_modules::{Computed, MOST_INPUTS, Memory};
 
-/// A module with data: what it does, the levels of its outputs, the numbers that its inputs read, and what it drives. The rest of its state
-/// is the levels of those numbers.
+/// A module with data: its part, the levels of its outputs, the numbers that its inputs read, and what it drives. The rest of its state is the levels
+/// of those numbers.
 #[derive(Clone, Copy, Debug)]
 pub struct DataModule {
     pub part: DataPart,
@@ -22,7 +22,7 @@ impl DataModule {
     ghost use Rattle.mp_kernel.specs.datapath.Levels.{level_at};
     ghost use Rattle.mp_kernel.specs.datapath.DataModules.{ReadsBelow, input_of, stepped, memory_of};
 
-    /// Goes on to the next unit, in which numbers have these levels. It reads the inputs that a module of its kind has, and writes the outputs.
+    /// Steps to the next unit, in which numbers have these levels. It reads the inputs of its kind and writes the outputs.
     #[inline(always)]
     pub(crate) fn step(&mut self, levels: &[u64])
         requires { ReadsBelow (length levels.now) self.old }
@@ -54,7 +54,7 @@ impl DataModule {
         }
     }
 
-    /// The module's state, where numbers have these levels.
+    /// The module's state, if numbers have these levels.
     pub fn memory(&self, levels: &[u64]) -> Memory
         requires { ReadsBelow (length levels.now) self.now }
         ensures { result ≡ memory_of levels.now self.now }
@@ -73,7 +73,7 @@ impl DataModule {
         Memory::with_outputs(&inputs, [first, second, third])
     }
 
-    /// The level at an input, 0 where it reads no number.
+    /// The level at an input, 0 if the input reads no number.
     #[inline(always)]
     fn input_level(&self, levels: &[u64], port: usize) -> u64
         requires port { port < 4 }
@@ -84,7 +84,7 @@ impl DataModule {
     }
 }
 
-/// The level of a number, 0 where there is none.
+/// The level of a number, 0 if there is none.
 #[inline(always)]
 fn level_of(levels: &[u64], number: Option<u32>) -> u64
     requires { (x : ℕ) → number ≡ Some x → x < length levels.now }
@@ -98,7 +98,7 @@ fn level_of(levels: &[u64], number: Option<u32>) -> u64
 
 ghost use Rattle.mp_modules.specs.storage.Reg.{latched};
 
-/// What a register gives that held a level, by the levels of its data, its capture and its pass.
+/// The output of a register that held this level, from the levels of its data, its capture and its pass.
 #[inline(always)]
 fn latched(held: u64, levels: [u64; 3]) -> u64
     ensures { result ≡ latched held levels }

@@ -1,10 +1,10 @@
-//! What a module with data does.
+//! The parts of modules with data.
 ghost use Rattle.std.specs.Prelude.{◌≡◌};
 ghost use Rattle.mp_kernel.specs.datapath.DataParts.{computed_part};
 
 use mp_modules::{AnyModule, Computed};
 
-/// What a module with data does. It takes less room than an `AnyModule`, which may have no data.
+/// What a module with data does. It is smaller than an `AnyModule`, which may also have no data.
 #[derive(Clone, Copy, Debug)]
 pub enum DataPart {
     Buf,
@@ -19,7 +19,7 @@ impl DataPart {
     ghost use Rattle.std.specs.Prelude.{◌≡◌};
     ghost use Rattle.mp_kernel.specs.datapath.DataParts.{data_part};
 
-    /// What a module does that has data.
+    /// The part of a module with data.
     pub fn of(part: &AnyModule) -> DataPart
         ensures { result ≡ data_part part.now }
     {

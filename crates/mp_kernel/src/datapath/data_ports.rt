@@ -2,7 +2,7 @@
 
 use crate::events::{OutputPort, OutputPorts};
 
-/// The outputs of a module with data: the one for data, and those of width 1. Where an output isn't of that sort, the port drives no wire.
+/// The outputs of a module with data: the one for data, and those of width 1. A port that the module doesn't have drives no wire.
 #[derive(Clone, Copy, Debug)]
 pub struct DataPorts {
     pub level: OutputPort,

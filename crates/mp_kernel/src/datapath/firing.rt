@@ -1,4 +1,4 @@
-//! Modules with data fire.
+//! Fires modules with data.
 ghost use Rattle.std.specs.Prelude.{◌≡◌, ℕ, ◌<◌, ◌≤◌, Some, OnOk, All, length};
 ghost use Rattle.mp_kernel.specs.events.Adding.{listed};
 ghost use Rattle.mp_kernel.specs.events.Firing.{scheduled};
@@ -12,7 +12,7 @@ use crate::datapath::level_wheel::LevelWheel;
 use crate::events::{EventWheel, schedule_if};
 use std::alloc::AllocError;
 
-/// A module goes on to the unit in which numbers have these levels.
+/// Steps a module to the unit in which numbers have these levels, and schedules its outputs.
 #[inline(always)]
 fn fire_data_module(
     state: &mut DataModule,
@@ -47,7 +47,7 @@ fn fire_data_module(
     Ok(())
 }
 
-/// The module of a number, if there is one, goes on to the unit in which numbers have these levels.
+/// Fires the module with this number, if there is one, in the unit in which numbers have these levels.
 #[inline(always)]
 fn fire_number(
     number: Option<u32>,
@@ -70,8 +70,8 @@ fn fire_number(
     }
 }
 
-/// The modules with data at these places, each listed once, go on to the unit in which numbers have these levels. Each place has the number of
-/// its module among those with data, where one stands there.
+/// Fires the modules with data at these places, each listed once, in the unit in which numbers have these levels. Each place has the number of its
+/// module among those with data, if it has one.
 pub fn fire_data_modules(
     places: &[Option<u32>],
     modules: &mut Vec<DataModule>,

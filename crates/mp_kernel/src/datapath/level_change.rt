@@ -1,6 +1,6 @@
 //! A change of level.
 
-/// A wire with data, or a delayed copy of one, by its number, and its level from a unit on.
+/// The number of a wire with data or of a delayed copy of one, and its level from a unit on.
 #[derive(Clone, Copy, Debug)]
 pub struct LevelChange {
     pub number: u32,

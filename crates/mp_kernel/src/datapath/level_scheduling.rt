@@ -1,4 +1,4 @@
-//! Levels are scheduled.
+//! Schedules levels.
 ghost use Rattle.std.specs.Prelude.{◌≡◌, ◌<◌, OnOk, All, length};
 ghost use Rattle.mp_kernel.specs.events.Firing.{HasSlot};
 ghost use Rattle.mp_kernel.specs.datapath.LevelWheels.{scheduled, entry_if, copied_from};
@@ -8,7 +8,7 @@ use crate::datapath::level_wheel::LevelWheel;
 use crate::events::OutputPort;
 use std::alloc::AllocError;
 
-/// Where an output for data changes, its wire has the level after the delay.
+/// If an output for data changes, schedules the level of its wire after the delay.
 #[inline(always)]
 pub fn schedule_level_if(
     changes: bool,
@@ -32,7 +32,7 @@ pub fn schedule_level_if(
     }
 }
 
-/// After these numbers have changed: the next delayed copy of each, if any, has the level the delay later.
+/// Schedules the levels of delayed copies after these numbers have changed: the next copy of each, if there is one, gets the level after its delay.
 pub fn schedule_level_copies(
     copies: &[OutputPort],
     wheel: &mut LevelWheel,

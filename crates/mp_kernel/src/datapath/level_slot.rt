@@ -1,4 +1,4 @@
-//! The levels of one unit.
+//! A slot of the level wheel.
 
 use crate::datapath::level_change::LevelChange;
 use std::alloc::{AllocError, Global};
@@ -47,7 +47,7 @@ impl LevelSlot {
         self.changes.is_empty()
     }
 
-    /// One wire more changes.
+    /// Adds a change.
     #[inline(always)]
     pub fn push(&mut self, change: LevelChange) -> Result<(), AllocError>
         ensures { OnOk result (self.new ≡ self.old ++ change ∷ []) }
@@ -56,7 +56,7 @@ impl LevelSlot {
         Ok(())
     }
 
-    /// These wires change too.
+    /// Adds these changes.
     #[inline(always)]
     pub fn extend_from_slice(&mut self, changes: &[LevelChange]) -> Result<(), AllocError>
         ensures { OnOk result (self.new ≡ self.old ++ changes.now) }

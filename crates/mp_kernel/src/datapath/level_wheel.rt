@@ -10,8 +10,8 @@ use std::alloc::{AllocError, Global};
 use std::marker::Model;
 use std::mem::swap;
 
-/// A level wheel: a slot for each of the next units, the next first, with the levels that wires with data get in it so far as this is known. The slots lie in
-/// a circle, and `next` is the place of the next unit's.
+/// A level wheel: a slot for each of the next units, the next first, with the levels that wires with data get in it, as far as is known. The slots
+/// form a circle, and `next` is the place of the slot of the next unit.
 #[derive(Drop)]
 pub struct LevelWheel {
     slots: Vec<LevelSlot>,
@@ -35,7 +35,7 @@ impl LevelWheel {
     ghost use Rattle.mp_kernel.specs.events.EventWheels.{AreEmpty};
     ghost use Rattle.mp_kernel.specs.datapath.LevelWheels.{with_entry};
 
-    /// A wheel of so many units, in which nothing changes.
+    /// A wheel of this number of units, in which nothing changes.
     pub fn new(alloc: Global, units: usize) -> Result<LevelWheel, AllocError>
         ensures places { IfOk result (λ wheel. length wheel ≡ units) }
         ensures empty { IfOk result (λ wheel. (k : ℕ) → slice_index_or wheel k [] ≡ []) }
@@ -47,7 +47,7 @@ impl LevelWheel {
         Ok(LevelWheel { slots, next: 0 })
     }
 
-    /// Whether nothing changes in the next unit, so far as this is known.
+    /// Whether nothing changes in the next unit, as far as is known.
     #[inline(always)]
     pub fn is_quiet(&self) -> bool
         requires { 0 < length self.now }
@@ -56,14 +56,14 @@ impl LevelWheel {
         self.slots[self.next].is_empty()
     }
 
-    /// Whether nothing changes in any unit to come, so far as this is known.
+    /// Whether nothing changes in any unit to come, as far as is known.
     pub fn is_idle(&self) -> bool
         ensures { IsTrue result ↔ AreEmpty self.now }
     {
         are_empty(self.slots.as_slice())
     }
 
-    /// The changes that come so many units after the next one, so far as this is known.
+    /// The changes `units` after the next unit, as far as is known.
     pub fn slot(&self, units: usize) -> &[LevelChange]
         ensures { result.now ≡ slice_index_or self.now units [] }
     {
@@ -74,7 +74,7 @@ impl LevelWheel {
         self.slots[place].as_slice()
     }
 
-    /// The slot of so many units after the next one changes places with another.
+    /// Swaps the slot `units` after the next one with another slot.
     pub fn swap_slot(&mut self, units: usize, other: &mut LevelSlot)
         requires { units < length self.old }
         ensures wheel { self.new ≡ slice_set self.old units other.old }
@@ -84,7 +84,7 @@ impl LevelWheel {
         swap(&mut self.slots[place], other);
     }
 
-    /// The next unit begins: its slot becomes the present one, and the one that was present before is emptied and becomes that of the last unit.
+    /// Begins the next unit: its slot becomes the present one, and the former present slot is emptied and becomes that of the last unit.
     #[inline(always)]
     pub fn turn(&mut self, present: &mut LevelSlot)
         requires { 0 < length self.old }
@@ -100,7 +100,7 @@ impl LevelWheel {
         self.next = place_after(self.next, 1, self.slots.len());
     }
 
-    /// The next unit begins, in which nothing changes.
+    /// Begins the next unit, in which nothing changes.
     #[inline(always)]
     pub fn skip(&mut self)
         requires some { 0 < length self.old }
@@ -110,7 +110,7 @@ impl LevelWheel {
         self.next = place_after(self.next, 1, self.slots.len());
     }
 
-    /// The change comes the delay, in units, after the present unit.
+    /// Schedules the change `delay` units after the present one.
     #[inline(always)]
     pub fn schedule(&mut self, delay: usize, change: LevelChange) -> Result<(), AllocError>
         requires some { 0 < delay }
@@ -130,7 +130,7 @@ fn are_empty(slots: &[LevelSlot]) -> bool
     slots.iter().all(|slot| slot.as_slice().is_empty())
 }
 
-/// The place so many after another, in a circle of so many places.
+/// The place `steps` after another, in a circle of `places`.
 #[inline(always)]
 fn place_after(place: usize, steps: usize, places: usize) -> usize
     requires place { place < places }

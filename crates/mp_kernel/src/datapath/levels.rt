@@ -4,7 +4,7 @@ ghost use Rattle.mp_kernel.specs.datapath.Levels.{toggled, changed};
 
 use crate::datapath::level_change::LevelChange;
 
-/// These numbers of width 1 toggle.
+/// Toggles the levels of these numbers of width 1.
 pub fn toggle_levels(levels: &mut Vec<u64>, numbers: &[u32])
     requires { All (λ x. x < length levels.old.items) numbers.now }
     ensures { levels.new.items ≡ toggled levels.old.items numbers.now }
@@ -15,7 +15,7 @@ pub fn toggle_levels(levels: &mut Vec<u64>, numbers: &[u32])
     }
 }
 
-/// These numbers have other levels.
+/// Sets the levels of these numbers.
 pub fn set_levels(levels: &mut Vec<u64>, changes: &[LevelChange])
     requires { All (λ c. c.number < length levels.old.items) changes.now }
     ensures { levels.new.items ≡ changed levels.old.items changes.now }

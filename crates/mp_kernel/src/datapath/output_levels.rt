@@ -2,7 +2,7 @@
 
 use mp_modules::Memory;
 
-/// The levels of a module's outputs before their delays. Where it has fewer outputs, the others are 0.
+/// The levels of a module's outputs before their delays. Those of missing outputs are 0.
 #[derive(Clone, Copy, Debug)]
 pub struct OutputLevels {
     pub first: u64,
@@ -14,7 +14,7 @@ impl OutputLevels {
     ghost use Rattle.std.specs.Prelude.{◌≡◌};
     ghost use Rattle.mp_kernel.specs.datapath.DataParts.{outputs_in};
 
-    /// Those in a state.
+    /// The levels in a state.
     pub fn of(memory: &Memory) -> OutputLevels
         ensures { result ≡ outputs_in memory.now }
     {

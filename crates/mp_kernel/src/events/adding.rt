@@ -1,4 +1,4 @@
-//! Events are added to the states of modules of width 1.
+//! Adds events to the states of modules of width 1.
 ghost use Rattle.std.specs.Prelude.{◌≡◌, ◌<◌, ◌∷◌, [], OnOk, All, length};
 ghost use Rattle.mp_kernel.specs.events.Adding.{IsAdding, AreAdded};
 ghost use Rattle.mp_kernel.specs.events.Toggling.{entries_from};
@@ -9,7 +9,7 @@ use crate::events::fanout::Fanout;
 use crate::events::fanout_entry::FanoutEntry;
 use std::alloc::AllocError;
 
-/// Adds an event of an input that has had none in this unit. With its first event a module is due.
+/// Adds an event of an input that has had none in this unit. With its first event a module becomes due.
 #[inline(always)]
 pub fn add_event(
     states: &mut Vec<AutomatonState>,

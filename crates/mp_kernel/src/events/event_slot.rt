@@ -1,4 +1,4 @@
-//! The events of one unit.
+//! A slot of the event wheel.
 
 use std::alloc::{AllocError, Global};
 use std::marker::Model;
@@ -45,7 +45,7 @@ impl EventSlot {
         self.wires.is_empty()
     }
 
-    /// One wire more toggles.
+    /// Adds a wire that toggles.
     #[inline(always)]
     pub fn push(&mut self, wire: u32) -> Result<(), AllocError>
         ensures { OnOk result (self.new ≡ self.old ++ wire ∷ []) }
@@ -54,7 +54,7 @@ impl EventSlot {
         Ok(())
     }
 
-    /// These wires toggle too.
+    /// Adds these wires, which toggle.
     #[inline(always)]
     pub fn extend_from_slice(&mut self, wires: &[u32]) -> Result<(), AllocError>
         ensures { OnOk result (self.new ≡ self.old ++ wires.now) }

@@ -9,8 +9,8 @@ use std::alloc::{AllocError, Global};
 use std::marker::Model;
 use std::mem::swap;
 
-/// An event wheel: a slot for each of the next units, the next first, with the wires that toggle in it so far as this is known. The slots lie in
-/// a circle, and `next` is the place of the next unit's.
+/// An event wheel: a slot for each of the next units, the next first, with the wires that toggle in it, as far as is known. The slots form a circle,
+/// and `next` is the place of the slot of the next unit.
 #[derive(Drop)]
 pub struct EventWheel {
     slots: Vec<EventSlot>,
@@ -32,7 +32,7 @@ impl EventWheel {
     ghost use Rattle.std.specs.Prelude.{◌≡◌, ◌↔◌, ℕ, ◌-◌, ◌<◌, ◌≤◌, ◌++◌, ◌∷◌, [], drop, length, IsTrue, IfOk, OnOk, slice_index_or, slice_set};
     ghost use Rattle.mp_kernel.specs.events.EventWheels.{with_entry, AreEmpty};
 
-    /// A wheel of so many units, in which nothing toggles.
+    /// A wheel of this number of units, in which nothing toggles.
     pub fn new(alloc: Global, units: usize) -> Result<EventWheel, AllocError>
         ensures places { IfOk result (λ wheel. length wheel ≡ units) }
         ensures empty { IfOk result (λ wheel. (k : ℕ) → slice_index_or wheel k [] ≡ []) }
@@ -44,7 +44,7 @@ impl EventWheel {
         Ok(EventWheel { slots, next: 0 })
     }
 
-    /// Whether nothing toggles in the next unit, so far as this is known.
+    /// Whether nothing toggles in the next unit, as far as is known.
     #[inline(always)]
     pub fn is_quiet(&self) -> bool
         requires { 0 < length self.now }
@@ -53,14 +53,14 @@ impl EventWheel {
         self.slots[self.next].is_empty()
     }
 
-    /// Whether nothing toggles in any unit to come, so far as this is known.
+    /// Whether nothing toggles in any unit to come, as far as is known.
     pub fn is_idle(&self) -> bool
         ensures { IsTrue result ↔ AreEmpty self.now }
     {
         are_empty(self.slots.as_slice())
     }
 
-    /// The wires that toggle so many units after the next one, so far as this is known.
+    /// The wires that toggle `units` after the next unit, as far as is known.
     pub fn slot(&self, units: usize) -> &[u32]
         ensures { result.now ≡ slice_index_or self.now units [] }
     {
@@ -71,7 +71,7 @@ impl EventWheel {
         self.slots[place].as_slice()
     }
 
-    /// The slot of so many units after the next one changes places with another.
+    /// Swaps the slot `units` after the next one with another slot.
     pub fn swap_slot(&mut self, units: usize, other: &mut EventSlot)
         requires { units < length self.old }
         ensures wheel { self.new ≡ slice_set self.old units other.old }
@@ -81,7 +81,7 @@ impl EventWheel {
         swap(&mut self.slots[place], other);
     }
 
-    /// The next unit begins: its slot becomes the present one, and the one that was present before is emptied and becomes that of the last unit.
+    /// Begins the next unit: its slot becomes the present one, and the former present slot is emptied and becomes that of the last unit.
     #[inline(always)]
     pub fn turn(&mut self, present: &mut EventSlot)
         requires { 0 < length self.old }
@@ -97,7 +97,7 @@ impl EventWheel {
         self.next = place_after(self.next, 1, self.slots.len());
     }
 
-    /// The next unit begins, in which nothing toggles.
+    /// Begins the next unit, in which nothing toggles.
     #[inline(always)]
     pub fn skip(&mut self)
         requires some { 0 < length self.old }
@@ -107,7 +107,7 @@ impl EventWheel {
         self.next = place_after(self.next, 1, self.slots.len());
     }
 
-    /// The wire toggles the delay, in units, after the present unit.
+    /// Schedules a toggle of the wire `delay` units after the present one.
     #[inline(always)]
     pub fn schedule(&mut self, delay: usize, wire: u32) -> Result<(), AllocError>
         requires some { 0 < delay }
@@ -127,7 +127,7 @@ fn are_empty(slots: &[EventSlot]) -> bool
     slots.iter().all(|slot| slot.as_slice().is_empty())
 }
 
-/// The place so many after another, in a circle of so many places.
+/// The place `steps` after another, in a circle of `places`.
 #[inline(always)]
 fn place_after(place: usize, steps: usize, places: usize) -> usize
     requires place { place < places }

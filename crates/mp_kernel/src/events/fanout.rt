@@ -1,4 +1,4 @@
-//! Who reads each wire.
+//! The fanout of wires.
 ghost use Rattle.std.specs.Prelude.{◌≡◌, ◌-◌, ◌≤◌, take, drop, length};
 ghost use Rattle.mp_kernel.specs.events.Fanouts.{head_of, listed_of};
 
@@ -7,9 +7,9 @@ use crate::events::fanout_row::FanoutRow;
 use std::alloc::{AllocError, Global};
 use std::marker::Model;
 
-/// For each wire the inputs of modules of width 1 that read it. Most wires have one reader, which stands in `heads`. The others' readers stand
-/// in one list, one wire's after the other's: the places tell where each wire's begin, and where the last ones end. Such a wire's head has no
-/// event.
+/// For each wire the inputs of modules of width 1 that read it. Most wires have one reader, which is in `heads`. The readers of all other wires are
+/// in one list, wire after wire; `places` has the beginning of each wire's readers there, and the end of the last ones. The head of such a wire has
+/// no event.
 #[derive(Drop)]
 pub struct Fanout {
     heads: Vec<FanoutEntry>,
@@ -33,7 +33,7 @@ impl Fanout {
     ghost use Rattle.std.specs.Prelude.{◌≡◌, ◌<◌, length, IfOk};
     ghost use Rattle.mp_kernel.specs.events.Toggling.{row_at};
 
-    /// The fanout whose rows these are, by the numbers of the wires.
+    /// The fanout with these rows, by wire number.
     pub fn from_rows(alloc: Global, rows: &[FanoutRow]) -> Result<Fanout, AllocError>
         ensures { IfOk result (λ fanout. fanout ≡ rows.now) }
     {
@@ -53,7 +53,7 @@ impl Fanout {
         })
     }
 
-    /// How many of these wires have one reader. All their heads are in a cache after that.
+    /// Counts the wires with one reader, which brings the heads of all these wires into a cache.
     #[inline(always)]
     pub(crate) fn count_read_once(&self, wires: &[u32]) -> usize {
         let mut count = 0usize;
@@ -92,7 +92,7 @@ fn part(list: &[FanoutEntry], from: usize, to: usize) -> &[FanoutEntry]
     &list[from..to]
 }
 
-/// The only input of a row, and else one without an event.
+/// The only input of a row; if there isn't exactly one, an entry without an event.
 fn head_of(row: &[FanoutEntry]) -> FanoutEntry
     ensures { result ≡ head_of row.now }
 {
@@ -105,7 +105,7 @@ fn head_of(row: &[FanoutEntry]) -> FanoutEntry
     }
 }
 
-/// What of a row has to be listed: nothing where its head tells of it.
+/// The inputs of a row that go into the list: none if its head has the only one.
 fn listed_of(row: &[FanoutEntry]) -> &[FanoutEntry]
     ensures { result.now ≡ listed_of row.now }
 {

@@ -5,7 +5,7 @@ use smallvec::SmallVec;
 use std::alloc::{AllocError, Global};
 use std::marker::Model;
 
-/// How many inputs stand in place. Most wires have no more readers.
+/// This number of inputs is kept in place. Most wires have no more readers.
 const IN_PLACE: usize = 2;
 
 /// The inputs of modules of width 1 that read one wire.
@@ -42,7 +42,7 @@ impl FanoutRow {
         self.entries.as_slice()
     }
 
-    /// One input more reads the wire.
+    /// Adds an input that reads the wire.
     pub fn push(&mut self, entry: FanoutEntry) -> Result<(), AllocError>
         ensures { OnOk result (self.new ≡ self.old ++ entry ∷ []) }
     {

@@ -1,4 +1,4 @@
-//! Modules of width 1 fire.
+//! Fires modules of width 1.
 ghost use Rattle.std.specs.Prelude.{◌≡◌, ℕ, ◌<◌, ◌≤◌, OnOk, All, length, slice_set};
 ghost use Rattle.mp_kernel.specs.declared.automata.toggles.Toggles.{Toggles as AnyToggles};
 ghost use Rattle.mp_kernel.specs.automata.Codes.{toggles_code};
@@ -13,7 +13,7 @@ use crate::events::output_port::OutputPort;
 use crate::events::output_table::OutputTable;
 use std::alloc::AllocError;
 
-/// Where an output toggles, its wire does so after the delay.
+/// If an output toggles, schedules the toggle of its wire after the delay.
 #[inline(always)]
 pub fn schedule_if(
     toggles: bool,
@@ -30,7 +30,7 @@ pub fn schedule_if(
     }
 }
 
-/// The outputs of the module at a place toggle, if they are among these bits.
+/// Schedules the toggles of the outputs with these bits, of the module at a place.
 #[inline(always)]
 fn schedule_toggles(
     ports: &OutputTable,
@@ -54,7 +54,7 @@ fn schedule_toggles(
     schedule_if(toggles / 4 % 2 == 1, ports.third(place), wheel)
 }
 
-/// How many of the modules at these places have a delay at their first output: all. Their outputs are in a cache after that.
+/// Counts the modules at these places that have a delay at their first output, which all have. This brings their outputs into a cache.
 #[inline(always)]
 fn count_delayed(ports: &OutputTable, due: &[u32]) -> usize
     requires places { All (λ m. m < length ports.now) due.now }
@@ -70,7 +70,7 @@ fn count_delayed(ports: &OutputTable, due: &[u32]) -> usize
     count
 }
 
-/// Where the batch of modules ends that begins at a place. In a large netlist their outputs are read ahead.
+/// The end of the batch of modules that begins at a place. In a large netlist their outputs are read ahead.
 #[inline(always)]
 fn batch_of_modules(ports: &OutputTable, due: &[u32], from: usize) -> usize
     requires some { from < length due.now }
@@ -88,7 +88,7 @@ fn batch_of_modules(ports: &OutputTable, due: &[u32], from: usize) -> usize
     }
 }
 
-/// A module goes on from the events of a unit.
+/// Fires a module after the events of a unit.
 #[inline(always)]
 fn fire_module(
     table: &TransitionTable,
@@ -117,8 +117,8 @@ fn fire_module(
     schedule_toggles(ports, m, transition.flips / 16, wheel)
 }
 
-/// The modules at these places, each listed once, go on from the events of a unit: their states become those before the next unit, the levels
-/// at their ports change by their events and toggles, and the wires of the outputs that toggle are scheduled. Other states and levels stay.
+/// Fires the modules at these places, each listed once, after the events of a unit: their states become those before the next unit, the levels at
+/// their ports change by their events and toggles, and the wires of the outputs that toggle are scheduled. Other states and levels stay.
 pub fn fire_modules(
     table: &TransitionTable,
     ports: &OutputTable,
@@ -151,7 +151,7 @@ pub fn fire_modules(
     Ok(())
 }
 
-/// After these wires, or delayed copies of wires, have toggled: the next delayed copy of each, if any, toggles the delay later.
+/// Schedules the toggles of delayed copies after these wires or copies have toggled: the next copy of each, if there is one, toggles after its delay.
 #[inline(always)]
 pub fn schedule_copies(
     copies: &[OutputPort],

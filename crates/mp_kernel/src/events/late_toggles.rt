@@ -7,7 +7,7 @@ use mp_wave::ToggleWave;
 use std::alloc::{AllocError, Global};
 use std::marker::Model;
 
-/// So many toggles of a share of wires wait at most: where all toggle as often, four of each wire.
+/// The greatest number of toggles of a share that wait: four for each wire, if all toggle equally often.
 const MOST: usize = 65_536;
 
 /// A toggle of a wire at a time.
@@ -38,7 +38,7 @@ impl LateToggles {
     ghost use Rattle.mp_kernel.specs.events.Toggling.{wave_at};
     ghost use Rattle.mp_kernel.specs.events.WaveTables.{AreLate, CanWait, late_times, whole_wave};
 
-    /// None. It takes no memory.
+    /// No toggles. It takes no memory.
     pub(crate) fn new(alloc: Global) -> LateToggles
         ensures { result ≡ [] }
     {
@@ -47,15 +47,15 @@ impl LateToggles {
         }
     }
 
-    /// How many there are.
+    /// The number of toggles.
     pub(crate) fn len(&self) -> usize
         ensures { result ≡ length self.now }
     {
         self.toggles.len()
     }
 
-    /// One toggle more waits, later than those of its wire. Where as many wait as may, they are put into their waves first. Where memory runs out,
-    /// some may be lost, but waves of other shares stay.
+    /// Adds a toggle later than those of its wire. If the list is full, its toggles are put into their waves first. If memory runs out, some may be
+    /// lost, but waves of other shares stay.
     #[inline(always)]
     pub(crate) fn push(
         &mut self,
@@ -74,7 +74,7 @@ impl LateToggles {
         Ok(())
     }
 
-    /// Where as many wait as may, they are put into their waves. Where memory runs out, some are lost, but waves of other shares stay.
+    /// Puts the toggles into their waves if the list is full. If memory runs out, some are lost, but waves of other shares stay.
     #[inline(always)]
     fn make_room(&mut self, waves: &mut Vec<ToggleWave>) -> Result<(), AllocError>
         requires { (share : ℕ) × AreLate waves.old.items share self.old }
@@ -90,7 +90,7 @@ impl LateToggles {
         Ok(())
     }
 
-    /// All that wait are put into their waves, and none waits then. Where memory runs out, some are lost, but waves of other wires stay.
+    /// Puts all toggles into their waves and empties the list. If memory runs out, some are lost, but waves of other wires stay.
     pub(crate) fn put_into(&mut self, waves: &mut Vec<ToggleWave>) -> Result<(), AllocError>
         requires { (share : ℕ) × AreLate waves.old.items share self.old }
         ensures none { self.new ≡ [] }
@@ -104,7 +104,7 @@ impl LateToggles {
     }
 }
 
-/// These toggles are put into their waves.
+/// Puts these toggles into their waves.
 fn put_all(waves: &mut Vec<ToggleWave>, toggles: &[LateToggle]) -> Result<(), AllocError>
     requires { (share : ℕ) × AreLate waves.old.items share toggles.now }
     ensures places { length waves.new.items ≡ length waves.old.items }

@@ -2,7 +2,7 @@
 
 use crate::events::output_port::OutputPort;
 
-/// The outputs of a module of width 1. Where it has fewer, the others drive no wire.
+/// The outputs of a module of width 1. Missing outputs drive no wire.
 #[derive(Clone, Copy, Debug)]
 pub struct OutputPorts {
     pub first: OutputPort,

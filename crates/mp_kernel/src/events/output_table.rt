@@ -13,8 +13,8 @@ pub(crate) struct OtherPorts {
     third: PackedPort,
 }
 
-/// The outputs of all modules of width 1, by their places. Contracts see a list. The first outputs stand apart: of most modules that fire no other
-/// output toggles, and in a large netlist few of them are to be fetched from memory then.
+/// The outputs of all modules of width 1, by their places. Contracts see a list. The first outputs are kept apart: most modules that fire toggle no
+/// other output, so in a large netlist less has to be fetched from memory.
 #[derive(Drop)]
 pub struct OutputTable {
     firsts: Vec<PackedPort>,
@@ -53,7 +53,7 @@ impl OutputTable {
         Ok(OutputTable { firsts, others })
     }
 
-    /// How many modules have outputs in it.
+    /// The number of modules.
     #[inline(always)]
     pub(crate) fn len(&self) -> usize
         ensures { result ≡ length self.now }

@@ -3,7 +3,7 @@
 use crate::events::output_port::OutputPort;
 use std::marker::Model;
 
-/// An output as `OutputPort` tells it, in eight bytes in place of twelve. Contracts see what it tells. Where it drives no wire, `wire` is 0.
+/// An `OutputPort` in eight bytes in place of twelve. Contracts see the `OutputPort`. If it drives no wire, `wire` is 0.
 #[derive(Drop)]
 pub(crate) struct PackedPort {
     wire: u32,
@@ -23,7 +23,7 @@ impl Model for PackedPort {
 impl PackedPort {
     ghost use Rattle.std.specs.Prelude.{◌≡◌};
 
-    /// The output of which a port tells.
+    /// Packs a port.
     pub(crate) fn of(port: OutputPort) -> PackedPort
         ensures { result ≡ port }
     {
@@ -41,7 +41,7 @@ impl PackedPort {
         }
     }
 
-    /// The port that tells of it.
+    /// Unpacks the port.
     #[inline(always)]
     pub(crate) fn port(&self) -> OutputPort
         ensures { result ≡ self.now }

@@ -1,4 +1,4 @@
-//! Wires of width 1 toggle.
+//! Toggles wires of width 1.
 ghost use Rattle.std.specs.Prelude.{◌≡◌, ◌<◌, [], OnOk, All, length};
 ghost use Rattle.mp_kernel.specs.events.Adding.{IsAdding, AreAdded};
 ghost use Rattle.mp_kernel.specs.events.Toggling.{row_at, entries_from, CanToggle, AreToggled};
@@ -9,7 +9,7 @@ use crate::events::fanout::Fanout;
 use crate::events::wave_table::WaveTable;
 use std::alloc::AllocError;
 
-/// These wires toggle at a time, each once, and the inputs that read them have an event. A module with an event is due.
+/// Toggles these wires at a time, each once, and adds events to the inputs that read them. A module with an event becomes due.
 #[inline(always)]
 pub fn toggle_wires(
     rows: &Fanout,

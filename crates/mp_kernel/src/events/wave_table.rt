@@ -1,4 +1,4 @@
-//! The waves of wires of width 1 while a simulation goes on.
+//! The waves of wires of width 1 during a simulation.
 ghost use Rattle.std.specs.Prelude.{◌≡◌, ℕ, [], IfOk, OnOk, slice_index_or};
 ghost use Rattle.mp_kernel.specs.events.WaveTables.{AreAllLate, waves_by};
 
@@ -7,12 +7,11 @@ use mp_wave::ToggleWave;
 use std::alloc::{AllocError, Global};
 use std::marker::Model;
 
-/// A share of the wires has so many, whose numbers are next to each other. A cache has room for what is looked at of their waves.
+/// The number of wires of a share, whose numbers are consecutive. What is read of their waves fits into a cache.
 const SHARE: usize = 16_384;
 
-/// The waves of wires of width 1, by their numbers, while they grow. Contracts see the waves with all their toggles. Where wires are many, each
-/// toggle would take two looks at memory that no cache has. There toggles wait in the list of their wire's share, and those of a share are put
-/// into their waves together.
+/// The waves of wires of width 1, by their numbers, while they grow. Contracts see the waves with all their toggles. With many wires each toggle
+/// would cost two cache misses. So there toggles wait in the list of their wire's share, and those of a share are put into their waves together.
 #[derive(Drop)]
 pub struct WaveTable {
     waves: Vec<ToggleWave>,
@@ -44,7 +43,7 @@ impl WaveTable {
         Ok(WaveTable { waves, late })
     }
 
-    /// How many waves there are.
+    /// The number of waves.
     #[inline(always)]
     pub fn len(&self) -> usize
         ensures { result ≡ length self.now }
@@ -52,7 +51,7 @@ impl WaveTable {
         self.waves.len()
     }
 
-    /// How often they toggle so far.
+    /// The number of toggles so far.
     pub fn count_toggles(&self) -> usize {
         let mut count = 0usize;
         for wave in &self.waves {
@@ -64,7 +63,7 @@ impl WaveTable {
         count
     }
 
-    /// These wires toggle at a time, each once.
+    /// Adds a toggle of each of these wires at a time.
     #[inline(always)]
     pub fn toggle(&mut self, wires: &[u32], time: u32) -> Result<(), AllocError>
         requires waves { All (λ w. w < length self.old) wires.now }
@@ -77,7 +76,7 @@ impl WaveTable {
         Ok(())
     }
 
-    /// A wire toggles at a time.
+    /// Adds a toggle of a wire at a time.
     #[inline(always)]
     fn toggle_wire(&mut self, wire: u32, time: u32) -> Result<(), AllocError>
         requires wave { wire < length self.old }
@@ -92,7 +91,7 @@ impl WaveTable {
         Ok(())
     }
 
-    /// A wire has another wave.
+    /// Sets the wave of a wire.
     pub fn set(&mut self, wire: u32, wave: ToggleWave) -> Result<(), AllocError>
         requires { wire < length self.old }
         ensures { OnOk result (self.new ≡ slice_set self.old wire wave) }
@@ -115,7 +114,7 @@ impl WaveTable {
     }
 }
 
-/// A list for each share of so many wires, and where these are less than a share no list.
+/// An empty list for each share of this number of wires; no list if they are fewer than a share.
 fn empty_lists(alloc: Global, wires: usize) -> Result<Vec<LateToggles>, AllocError>
     ensures { IfOk result (λ late. (k : ℕ) → slice_index_or late.items k [] ≡ []) }
 {
@@ -129,7 +128,7 @@ fn empty_lists(alloc: Global, wires: usize) -> Result<Vec<LateToggles>, AllocErr
     Ok(late)
 }
 
-/// All toggles are put into their waves, and from then on none waits.
+/// Puts all toggles into their waves and drops the lists, so that from then on none waits.
 fn settle(waves: &mut Vec<ToggleWave>, late: &mut Vec<LateToggles>) -> Result<(), AllocError>
     requires { AreAllLate waves.old.items late.old.items }
     ensures none { late.new.items ≡ [] }
@@ -140,7 +139,7 @@ fn settle(waves: &mut Vec<ToggleWave>, late: &mut Vec<LateToggles>) -> Result<()
     put
 }
 
-/// The toggles of all shares are put into their waves.
+/// Puts the toggles of all shares into their waves.
 fn put_shares(waves: &mut Vec<ToggleWave>, late: &mut [LateToggles]) -> Result<(), AllocError>
     requires { AreAllLate waves.old.items late.old }
     ensures { OnOk result (waves.new.items ≡ waves_by late.old waves.old.items) }

@@ -1,13 +1,13 @@
-//! What a timer wheel has.
+//! Laws of timer wheels.
 
 ghost use Rattle.mp_kernel.specs.timers.TimerWheels.{ComesUp, ListedCome};
 
-/// A number comes up in the next unit, at the latest, where that is its time.
+/// A number whose time is the next unit comes up in it at the latest.
 pub fn comes_up()
     ensures { ComesUp }
 {}
 
-/// Numbers that come up are listed, and their times aren't over.
+/// Numbers that come up are armed, and their times aren't past.
 pub fn listed_come()
     ensures { ListedCome }
 {}

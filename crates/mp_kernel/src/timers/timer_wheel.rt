@@ -7,8 +7,8 @@ use std::alloc::{AllocError, Global};
 /// A time that never comes.
 pub const NEVER: u32 = u32::MAX;
 
-/// Of each number a time, or `NEVER`, where the number isn't listed. A number that is listed stands in one slot of the wheel: in that of its
-/// time, or in an earlier one. It comes up in that unit, and is put off where its time comes later.
+/// A time for each number, or `NEVER` if the number isn't armed. An armed number is in one slot of the wheel: that of its time, or an earlier one. It
+/// comes up in the unit of that slot, and is rearmed if its time is later.
 #[derive(Drop)]
 pub struct TimerWheel {
     times: Vec<u32>,
@@ -20,7 +20,7 @@ impl TimerWheel {
     ghost use Rattle.std.specs.Prelude.{◌≡◌, ◌≢◌, ◌↔◌, ◌≤◌, ℕ, ◌+◌, ◌-◌, ◌<◌, ◌^◌, ◌∷◌, [], List, IsTrue, IfOk, OnOk, length, slice_set};
     ghost use Rattle.mp_kernel.specs.timers.TimerWheels.{time_of, coming, never, IsTimerWheel, HasEntered};
 
-    /// So many numbers, none of which is listed, and a wheel of so many units.
+    /// A wheel of `span` units for this number of numbers, none of which is armed.
     pub fn new(alloc: Global, numbers: usize, span: usize) -> Result<TimerWheel, AllocError>
         requires { 0 < span }
         ensures numbers { IfOk result (λ timers. length timers.times.items ≡ numbers) }
@@ -51,7 +51,7 @@ impl TimerWheel {
         self.wheel.slot(0)
     }
 
-    /// Whether none does.
+    /// Whether no number comes up in the next unit.
     #[inline(always)]
     pub fn is_quiet(&self) -> bool
         requires { (t : ℕ) × (taken : List ℕ) × IsTimerWheel t taken self.now }
@@ -60,7 +60,7 @@ impl TimerWheel {
         self.wheel.is_quiet()
     }
 
-    /// Goes on by a unit in which no number comes up.
+    /// Steps over a unit in which no number comes up.
     #[inline(always)]
     pub fn skip(&mut self)
         requires is { (t : ℕ) × (taken : List ℕ) × IsTimerWheel t taken self.old }
@@ -71,7 +71,7 @@ impl TimerWheel {
         self.wheel.skip();
     }
 
-    /// Goes on by a unit. The numbers that come up in it are taken out: each is to be listed again, to be put off, or to be left out.
+    /// Steps to the next unit and takes out the numbers that come up in it. Each of them has to be armed, rearmed or cancelled.
     pub fn turn(&mut self, present: &mut EventSlot)
         requires { (t : ℕ) × (taken : List ℕ) × IsTimerWheel t taken self.old }
         ensures present { present.new ≡ coming self.old }
@@ -81,7 +81,7 @@ impl TimerWheel {
         self.wheel.turn(present);
     }
 
-    /// A number that isn't listed, or that was taken out, is listed for a time after the present one.
+    /// Arms a number that isn't armed, or that was taken out, for a time after the present one.
     #[inline(always)]
     pub fn arm(&mut self, number: u32, time: u32, now: u32) -> Result<(), AllocError>
         requires within { number < length self.old.times.items }
@@ -97,7 +97,7 @@ impl TimerWheel {
         Ok(())
     }
 
-    /// A number that was taken out before its time stands in the wheel again.
+    /// Puts a number that was taken out before its time back into the wheel.
     #[inline(always)]
     pub fn rearm(&mut self, number: u32, now: u32) -> Result<(), AllocError>
         requires within { number < length self.old.times.items }
@@ -111,7 +111,7 @@ impl TimerWheel {
         Ok(())
     }
 
-    /// A number that was taken out isn't listed any more.
+    /// Disarms a number that was taken out.
     #[inline(always)]
     pub fn cancel(&mut self, number: u32)
         requires { number < length self.old.times.items }
@@ -121,8 +121,8 @@ impl TimerWheel {
         self.times[number as usize] = NEVER;
     }
 
-    /// By how many units the timer wheel can be late before the unit of a time, at most so many: each number still comes up no later than at its
-    /// time.
+    /// The number of units, at most `most`, that the wheel can be behind before the unit of a time, with each number still coming up no later than at
+    /// its time.
     pub fn slack(&self, time: u32, most: u32) -> u32
         requires some { 0 < time }
         requires is { IsTimerWheel (time - 1) [] self.now }
@@ -139,7 +139,7 @@ impl TimerWheel {
         slack
     }
 
-    /// A number stands in the slot of a time, or in the last one where that comes before it.
+    /// Puts a number into the slot of a time, or into the last slot if that is earlier.
     #[inline(always)]
     fn enter(&mut self, number: u32, time: u32, now: u32) -> Result<(), AllocError>
         requires later { now < time }
