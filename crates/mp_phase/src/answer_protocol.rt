@@ -1,4 +1,4 @@
-//! One question at a time goes to a worker, and one answer to it comes back: the rule of its answer channel, and what each step tells.
+//! One question at a time goes to a worker, and one answer to it comes back: the rule of its answer channel, and what each step shows.
 
 ghost use Rattle.std.specs.Prelude.{◌≡◌, []};
 ghost use Rattle.crossbeam_channel.specs.Claims.{view, IsSeatAt};
@@ -26,7 +26,7 @@ impl<T: Work> Protocol<Answer<T::Done>, Side<T>> for AnswerProtocol<T> {
     ghost first = { Idle };
 }
 
-/// Names what is asked.
+/// Names the question.
 pub trait Asked<T> {
     ghost use Rattle.std.specs.Prelude.{List};
 
@@ -107,7 +107,7 @@ pub fn ask<T: Work>(to: &Replier<T>, token: &mut Token<T>, tasks: &[T]) -> Token
     ask_as::<T, Brand>(to, token, tasks)
 }
 
-/// Takes back what was asked.
+/// Takes the question back.
 pub fn take_back<T: Work>(to: &Replier<T>, token: &mut Token<T>, other: Token<T>, tasks: &[T])
     requires seat { IsSeatAt (sends_on to.now) token.old × IsSeatAt (sends_on to.now) other }
     requires asks { view token.old ≡ Asks tasks.now }

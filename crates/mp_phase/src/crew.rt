@@ -24,8 +24,8 @@ impl Crew {
     ghost use Rattle.mp_phase.specs.Allowed.{AreAllowed};
     ghost use Rattle.mp_phase.specs.Phase.{AreDone};
 
-    /// A crew of so many threads, which shares out tasks that weigh at least `least` together. `BadCount` where there isn't 1 to 16 of
-    /// the first, or 1 to 4,096 of the second.
+    /// A crew of `count` threads, which shares out tasks that weigh at least `least` together. `BadCount` comes if `count` isn't 1 to 16, or `least`
+    /// isn't 1 to 4,096.
     pub fn new(count: u32, least: u32) -> Result<Self, BadCount>
         ensures ok { IfOk result (λ crew. (crew.count ≡ count) × (crew.least ≡ least)) }
         ensures range { IfOk result (λ crew. (0 < count) × (count ≤ 16) × (0 < least) × (least ≤ 4096)) }
@@ -51,8 +51,8 @@ impl Crew {
         self.least
     }
 
-    /// Carries the plan out with workers that wait for tasks until it ends. Where memory is refused, the plan isn't begun. A worker
-    /// whose thread can't be started has its share done on the calling thread.
+    /// Runs the plan with workers that wait for tasks until it ends. If memory is refused, the plan isn't begun. A worker whose thread can't be
+    /// started has its share done on the calling thread.
     pub fn with_workers<R: Threads + Wait + Sync, G: Gate + Sync, P: Plan>(
         &self,
         rt: &R,
@@ -89,8 +89,8 @@ impl Crew {
         )
     }
 
-    /// Does the tasks, each worker and the calling thread a share of them, and gives what is made of each, in their order. The workers
-    /// are started for this alone.
+    /// Does the tasks, with a share for each worker and for the calling thread, and returns their results in order. The workers are started for this
+    /// call.
     pub fn run<R: Threads + Wait + Sync, G: Gate + Sync, T: Work + Send>(
         &self,
         rt: &R,

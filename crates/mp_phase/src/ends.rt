@@ -27,7 +27,7 @@ pub struct Ends<'a, T: Work, G: Gate> {
     pub ghost ends: { receives_on answers ≡ sends_on to },
 }
 
-/// Asks for the tasks. They come back where they can't be sent.
+/// Asks for the tasks. They come back if they can't be sent.
 pub fn send<'a, T: Work, R: Wait, G: Gate>(
     rt: &R,
     ends: &mut Ends<'a, T, G>,
@@ -85,7 +85,7 @@ fn wait<T: Work, R: Wait, G: Gate>(rt: &R, ends: &mut Ends<'_, T, G>) -> Answer<
     unreachable!()
 }
 
-/// The answer to what was asked.
+/// Waits for the answer.
 pub fn receive<T: Work, R: Wait, G: Gate>(rt: &R, ends: &mut Ends<'_, T, G>) -> Answer<T::Done>
     requires asks { (o : List T) × (view ends.old.token ≡ Asks o) }
     ensures { Taken T.gives (view ends.old.token) result (view ends.new.token) }

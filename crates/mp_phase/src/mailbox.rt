@@ -15,7 +15,7 @@ use std::marker::Model;
 use std::mem;
 use std::sync::Wait;
 
-/// A mailbox to a worker. Contracts see it as the tasks that it was asked for and didn't answer.
+/// A mailbox to a worker. Contracts see it as the tasks that it was given and hasn't answered.
 #[derive(Drop)]
 pub struct Mailbox<'a, T: Work, G: Gate> {
     ends: Ends<'a, T, G>,
@@ -64,7 +64,7 @@ impl<'a, T: Work, G: Gate> Mailbox<'a, T, G> {
         ))
     }
 
-    /// Asks for the tasks. Where they can't be sent, and where there are none, they are done with the answer.
+    /// Asks for the tasks. If they can't be sent, and if there are none, they are done with the answer.
     pub fn ask<R: Wait>(&mut self, rt: &R, leave: Leave<'a, T, G>)
         requires free { self.old ≡ None }
         ensures { self.new ≡ Some leave.entry.tasks.items }
@@ -79,7 +79,7 @@ impl<'a, T: Work, G: Gate> Mailbox<'a, T, G> {
         };
     }
 
-    /// What was made of what was asked. Tasks that couldn't be sent are begun here, but not where memory was refused before.
+    /// The results of the tasks. Tasks that couldn't be sent are done here, but not if memory was refused before.
     pub fn answer<R: Wait>(
         &mut self,
         rt: &R,

@@ -38,7 +38,7 @@ fn ask_all<'a, T: Work, R: Wait, G: Gate>(
     Ok(rest)
 }
 
-/// What was made of some tasks, and of those behind them.
+/// The results of some tasks and of those after them.
 fn join<T: Work>(all: Answer<T::Done>, more: Answer<T::Done>) -> Answer<T::Done>
     ensures { (xs ys : List T) → IsAnswerTo T.gives xs all → IsAnswerTo T.gives ys more → IsAnswerTo T.gives (xs ++ ys) result }
 {
@@ -48,7 +48,7 @@ fn join<T: Work>(all: Answer<T::Done>, more: Answer<T::Done>) -> Answer<T::Done>
     Ok(all)
 }
 
-/// What was made of the calling thread's share, and of all that the mailboxes were asked for. Each mailbox has answered then.
+/// The results of the calling thread's share and of all mailboxes. After the call each mailbox has answered.
 fn answer_all<T: Work, R: Wait, G: Gate>(
     rt: &R,
     alloc: Global,
@@ -66,8 +66,8 @@ fn answer_all<T: Work, R: Wait, G: Gate>(
     all
 }
 
-/// Does the tasks, each mailbox and the calling thread a share of them. After want of memory no further share is begun, and those that
-/// are out are waited for.
+/// Does the tasks, with a share for each mailbox and for the calling thread. If memory is refused, no further share is begun, and the call waits for
+/// those that are out.
 pub fn phase<'a, T: Work, R: Wait, G: Gate>(
     rt: &R,
     alloc: Global,

@@ -18,7 +18,7 @@ pub trait Plan: Drop {
     /// This may come of the plan.
     ghost ends_in: { Self → Self.Outcome → Type 0 };
 
-    /// The plan may be carried out where these may enter.
+    /// The plan may be carried out if these may enter.
     ghost needs: { Self → (ℕ → ℕ → ℕ → Bool) → Type 0 };
 
     /// Carries the plan out.

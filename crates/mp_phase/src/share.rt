@@ -9,8 +9,8 @@ use crate::work::Work;
 use std::alloc::{AllocError, Global};
 use std::sync::Wait;
 
-/// Does the tasks one after the other on the calling thread, and gives what is made of each, in their order. Where memory is refused,
-/// the tasks that are left aren't begun.
+/// Does the tasks one after the other on the calling thread, and returns their results in order. If memory is refused, the tasks that are left aren't
+/// begun.
 pub fn run_here<T: Work, R: Wait, G: Gate>(
     rt: &R,
     alloc: Global,

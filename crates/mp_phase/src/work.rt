@@ -25,7 +25,7 @@ pub trait Work: Drop {
         1
     }
 
-    /// Does the task. It is given up where memory is refused.
+    /// Does the task. It is given up if memory is refused.
     fn work<R: Wait, G: Gate>(
         self,
         rt: &R,

@@ -11,7 +11,7 @@ use std::alloc::Global;
 use std::sync::Wait;
 use std::thread;
 
-/// Does a job and answers it. False where nobody takes the answer.
+/// Does a job and answers it. False if nobody takes the answer.
 fn answer<T: Work, R: Wait, G: Gate>(rt: &R, alloc: Global, job: Job<'_, T, G>) -> bool {
     let Job {
         leave,
@@ -26,7 +26,7 @@ fn answer<T: Work, R: Wait, G: Gate>(rt: &R, alloc: Global, job: Job<'_, T, G>) 
 /// How often a thread looks for what comes before it sleeps. At each look others go first.
 pub const LOOKS: u32 = 500;
 
-/// The next job, and nothing where there are no more. It is looked for so often before the thread sleeps.
+/// The next job, and nothing if there are no more. It is looked for so often before the thread sleeps.
 fn next<'a, T: Work, R: Wait, G: Gate>(
     rt: &R,
     jobs: &Receiver<Job<'a, T, G>>,

@@ -48,9 +48,8 @@ impl<'a, T: Work, G: Gate> Workers<'a, T, G> {
         Ok(jobs)
     }
 
-    /// Does the tasks, each worker and the calling thread a share of them, and gives what is made of each, in their order. Tasks that
-    /// weigh less than the crew's `least` are all done on the calling thread. Where memory is refused, no share is begun that isn't
-    /// out yet, and those that are out are waited for.
+    /// Does the tasks, with a share for each worker and for the calling thread, and returns their results in order. Tasks that weigh less than the
+    /// crew's `least` are all done on the calling thread. If memory is refused, no further share is begun, and the call waits for those that are out.
     pub fn run<R: Wait>(&mut self, rt: &R, tasks: Vec<T>) -> Result<Vec<T::Done>, AllocError>
         requires allowed { AreAllowed T.enters (G.may self.old.gate.now) tasks.items }
         ensures done { IfOk result (λ dones. AreDone T.gives tasks.items dones.items) }
