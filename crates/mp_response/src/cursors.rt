@@ -4,7 +4,7 @@ use crate::cursor::Cursor;
 use crate::in_piece::InPiece;
 use mp_modules::MOST_INPUTS;
 
-/// A cursor for each port that a module can have; where it has fewer, the others read 0.
+/// A cursor for each port that a module can have; if it has fewer, the others read 0.
 #[derive(Clone, Copy)]
 pub(crate) struct Cursors<'a> {
     first: Cursor<'a>,

@@ -3,18 +3,18 @@
 ghost use Rattle.mp_response.specs.Delays.{EndsInState, FindsByStates, GivesLevels};
 ghost use Rattle.mp_response.specs.Joins.{JoinsSpans, DependsInside, IsOneSpan};
 
-/// A span and the one that goes on from its last state are together one span: the last state is that of the second, and the findings
-/// and the changes of each output are those of the first and then of the second.
+/// A span and the next one from its last state make up one span: the last state is that of the second, and the findings and the changes of each
+/// output are those of the first and then of the second.
 pub fn joined_spans()
     ensures { JoinsSpans }
 {}
 
-/// A span depends on the input levels inside it alone.
+/// A span depends only on the input levels inside it.
 pub fn inside_alone()
     ensures { DependsInside }
 {}
 
-/// There is one span alone from a state, with the same input levels.
+/// A state and input levels determine the span.
 pub fn one_span()
     ensures { IsOneSpan }
 {}
@@ -29,7 +29,7 @@ pub fn finds_by_states()
     ensures { FindsByStates }
 {}
 
-/// In a netlist, the changes of an output in a span, put off by the output's delay, are those of its wire.
+/// In a netlist, the changes of an output in a span are those of its wire, later by the output's delay.
 pub fn gives_levels()
     ensures { GivesLevels }
 {}

@@ -5,7 +5,7 @@ use mp_modules::{MOST_OUTPUTS, Memory};
 use std::alloc::{AllocError, Global};
 use std::marker::Model;
 
-/// The changes of each output, by port. They stand in places that need no memory of their own.
+/// The changes of each output, by port. They are kept in place, without a block of memory of their own.
 #[derive(Debug, Drop)]
 pub struct Outputs {
     count: usize,
@@ -27,7 +27,7 @@ impl Outputs {
     ghost use Rattle.mp_modules.specs.Memories.{output_of};
     ghost use Rattle.mp_response.specs.Span.{extended};
 
-    /// So many outputs without changes. It takes no memory.
+    /// This number of outputs without changes. It takes no memory.
     pub fn none(alloc: Global, count: usize) -> Self
         requires { count ≤ MOST_OUTPUTS }
         ensures ports { length result ≡ count }

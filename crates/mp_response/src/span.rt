@@ -29,7 +29,7 @@ pub fn cut(alloc: Global, wave: &Wave, from: u32, to: u32) -> Result<InPiece, Al
     })
 }
 
-/// A wire's wave as an input with a delay sees it, from one time to before another: the wave so many units later. No later wave is made.
+/// The part of a wire's wave from one time to before another, as an input with a delay sees it: later by the delay. No delayed wave is made.
 pub fn cut_delayed(
     alloc: Global,
     wave: &Wave,
@@ -51,7 +51,7 @@ pub fn cut_delayed(
     })
 }
 
-/// The changes, each so many units later.
+/// The changes, each later by the delay.
 fn put_off(
     alloc: Global,
     changes: WaveChanges<'_>,
@@ -67,9 +67,9 @@ fn put_off(
     Ok(late)
 }
 
-/// What a module does from one time to before another, from its state before the first, where the input ports have these pieces. At
-/// time 0 the module settles, at each other time it makes a step. Units in which no input changes are passed over, so that it takes as
-/// long as there are changes, whatever the span's length.
+/// Runs a module from one time to before another, from its state before the first and with these pieces of waves at its input ports. At time 0 the
+/// module settles, and at each later time it steps. Units in which no input changes are skipped, so the call costs time for each change, not for each
+/// unit.
 pub fn respond(
     alloc: Global,
     part: &AnyModule,
