@@ -32,7 +32,7 @@ pub trait EditSession: Drop {
         ensures { arc_value result.now ≡ story_after (step prepared.now) };
 
     /// Judges the edit after those that were accepted, and makes all that its commit needs. It is refused for the first check that it fails;
-    /// else as `HistoryFull` after `MAX_EDITS` edits; else for want of memory, which for a batch of 1 to 256 edits may come in place of the
+    /// otherwise as `HistoryFull` after `MAX_EDITS` edits; otherwise for lack of memory, which for a batch of 1 to 256 edits may come in place of the
     /// others. It may wait, as an evaluation may. The clause `shared` says what the bound `Sync` says: in a trait the prover asks for both.
     fn prepare<R: Threads + Wait + Sync>(
         &self,

@@ -10,8 +10,8 @@ use std::sync::Arc;
 /// How many edits a session may accept.
 pub const MAX_EDITS: u32 = 4096;
 
-/// How many edits a full chunk has. A longer history copies as many handles at most of each sort: those of its chunks, and those of
-/// the edits behind them.
+/// The number of edits of a full chunk. To add an edit a history copies at most this many handles of each sort: those of its chunks, and those of the
+/// edits after them.
 const CHUNK_EDITS: usize = 64;
 
 /// Some edits in order.

@@ -1,5 +1,5 @@
-//! Versions of a netlist that is edited, and what edits it: a story, which is the netlist of the beginning and the accepted edits in order, and
-//! the trait of what is told by such a story.
+//! Versions of a netlist that is edited, and the trait of sessions that edit it. Contracts speak of a story: the first netlist and the accepted edits
+//! in order.
 #![tactic(auto)]
 
 mod edit_session;

@@ -1,4 +1,4 @@
-//! Whether two things are the same. What is compared here stands in types of other crates, which don't compare themselves.
+//! Comparisons of values of other crates' types, which have no comparison of their own.
 ghost use Rattle.std.specs.Prelude.{◌≡◌, IsTrue, ◌↔◌};
 ghost use Rattle.std.specs.Option.{option_copied};
 

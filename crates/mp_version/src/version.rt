@@ -109,7 +109,7 @@ impl Version {
         self.edits.len()
     }
 
-    /// The wave of a wire that stands in the netlist after the edits.
+    /// The wave of a wire that exists in the netlist after the edits.
     pub fn wave(&self, wire: WireId) -> Option<&Wave>
         ensures { option_copied result ≡ slot_wave (present self.now) wire.0 (wire_at (present self.now) wire.0) }
     {
