@@ -12,7 +12,7 @@ use std::alloc::{AllocError, Global};
 pub fn drivers_of(alloc: Global, netlist: &Netlist) -> Result<Vec<Driver>, AllocError>
     ensures { IfOk result (λ drivers. AreDrivers netlist.now drivers.items) }
 {
-    // Its contract tells that the netlist is well formed.
+    // Its contract says that the netlist is well formed.
     let _horizon = netlist.horizon();
     let mut drivers = portless_drivers(alloc, netlist)?;
     for m in 0..netlist.module_slots() {

@@ -5,12 +5,12 @@ ghost use Rattle.mp_depend.specs.SetAlike.{IsSetAlike};
 
 use mp_netlist::{Driver, Netlist, Stimulus, WireId};
 
-/// Whether a wire stands in both netlists, and the same is set on it, where no port drives it. The driver in the old one is known.
+/// Whether a wire exists in both netlists and has the same stimulus, if no port drives it. `was` is its driver in the old netlist.
 pub fn is_set_alike(old: &Netlist, new: &Netlist, wire: WireId, was: Driver) -> bool
     requires { was ≡ driver old.now wire.0 }
     ensures { IsTrue result ↔ IsSetAlike old.now new.now wire.0 }
 {
-    // Its contract tells that the netlist is well formed.
+    // Its contract says that the netlist is well formed.
     let _horizon = old.horizon();
     if let Driver::Port(..) = was {
         return false;

@@ -11,7 +11,7 @@ use mp_modules::Kind;
 use mp_netlist::{Input, ModuleId, ModuleRecord, Netlist, Output};
 use std::alloc::{AllocError, Global};
 
-/// The modules of the new netlist whose record isn't the same in the old one, by number. The others stand in both with one record.
+/// The modules of the new netlist whose record differs from the one in the old netlist, by number. All others exist in both with the same record.
 pub fn touched(alloc: Global, old: &Netlist, new: &Netlist) -> Result<Vec<ModuleId>, AllocError>
     ensures order { IfOk result (λ ids. IsStrictlyIncreasing (map (λ (id : ModuleId). id.0) ids.items)) }
     ensures touched { IfOk result (λ ids. (m : ℕ) → Contains ids.items (record { 0 = m }) ↔ IsTouched old.now new.now m) }
@@ -26,7 +26,7 @@ pub fn touched(alloc: Global, old: &Netlist, new: &Netlist) -> Result<Vec<Module
     Ok(found)
 }
 
-/// Whether a module stands in the new netlist, and its record isn't the same in the old one.
+/// Whether a module exists in the new netlist and its record differs from the one in the old netlist.
 pub fn is_touched(old: &Netlist, new: &Netlist, id: ModuleId) -> bool
     ensures touched { IsTrue result ↔ IsTouched old.now new.now id.0 }
     ensures same { result ≡ false → IsSameStanding old.now new.now id.0 }
@@ -37,7 +37,7 @@ pub fn is_touched(old: &Netlist, new: &Netlist, id: ModuleId) -> bool
     }
 }
 
-/// Whether a module of this number stands in a netlist with this record.
+/// Whether the netlist has a module with this number and record.
 fn has_part(netlist: &Netlist, id: ModuleId, part: &ModuleRecord) -> bool
     ensures { IsTrue result ↔ (module_at netlist.now id.0 ≡ Some part.now) }
 {

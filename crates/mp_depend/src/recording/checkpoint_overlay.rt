@@ -5,8 +5,7 @@ use mp_partition::{Checkpoints, Run};
 use std::alloc::{AllocError, Global};
 use std::sync::Arc;
 
-/// What a module's kept states are taken from: from those of the old run alone, or from a list of its own up to a time, in units, and
-/// from the old run's from then on.
+/// The source of a module's kept states: only the old run; or a list of its own up to a time, in units, and the old run from then on.
 #[derive(Drop)]
 pub(crate) enum CheckpointOverlay {
     Old,
@@ -49,8 +48,8 @@ impl CheckpointOverlay {
         }
     }
 
-    /// Takes over: for times below this one the states stay, from then on up to an end they are its own and can be kept. Where memory
-    /// runs out, what is kept is lost.
+    /// Begins states of its own: those for times below `time` stay, and from then on up to the end its own states can be kept. If memory runs out,
+    /// the kept states are lost.
     pub(crate) fn take_over(
         &mut self,
         alloc: Global,
@@ -95,7 +94,7 @@ impl CheckpointOverlay {
         }
     }
 
-    /// The states before the units of the times below an end, those of the old run shared where they are these.
+    /// The states before the units of the times below an end, those of the old run shared if they are these.
     pub(crate) fn into_shared(
         self,
         alloc: Global,
@@ -166,7 +165,7 @@ fn run_after(
     Ok(kept)
 }
 
-/// The states that a run kept, shared and not copied, and none where it kept none.
+/// The states that a run kept, shared and not copied, and none if it kept none.
 fn shared(alloc: Global, run: &Run, id: ModuleId) -> Result<Arc<Checkpoints, Global>, AllocError>
     ensures { IfOk result (λ found. (c : ℕ) → kept_at (arc_value found) c blank ≡ state_in (slot_at run.now.kept id.0) c) }
 {

@@ -21,7 +21,7 @@ pub struct Finished {
     pub work_spans: Vec<WorkSpan>,
 }
 
-/// The states that are kept of all modules, by number, those of the old run shared where they are these.
+/// The states that are kept of all modules, by number, those of the old run shared if they are these.
 pub(crate) fn finished_overlays(
     alloc: Global,
     run: &Run,
@@ -40,7 +40,7 @@ pub(crate) fn finished_overlays(
     Ok(found)
 }
 
-/// The states that are kept of a module that stands.
+/// The kept states of a module that exists.
 fn finished_overlay(
     alloc: Global,
     run: &Run,

@@ -8,8 +8,8 @@ use mp_netlist::{ModuleId, Netlist};
 use mp_partition::Run;
 use std::alloc::{AllocError, Global};
 
-/// Of each module by number what its kept states are taken from, and the place of its open work span where it has one; the work spans in which
-/// modules have worked so far; and a list of the live modules, that is of those that are evaluated again.
+/// For each module, by number, the source of its kept states and the place of its open work span, if it has one; the work spans so far; and a list of
+/// the active modules, which are evaluated again.
 #[derive(Drop)]
 pub struct RerunRecorder {
     overlays: Vec<CheckpointOverlay>,
@@ -38,7 +38,7 @@ impl RerunRecorder {
         ensures { IfOk result (λ recorder. (old : Circuit) (run : Outcome) (live : ℕ → Bool) → ((m : ℕ) → live m ≡ is_marked touched.now m) → AreOldStates new.now run 0 live
             → IsRecorder old new.now run (λ m. 0) 0 live recorder) }
     {
-        // Its contract tells that the netlist is well formed.
+        // Its contract says that the netlist is well formed.
         let _horizon = new.horizon();
         let overlays = first_overlays(alloc, new, touched)?;
         let places = vec![in alloc; None; touched.len()]?;
@@ -59,9 +59,8 @@ impl RerunRecorder {
         self.live.as_slice()
     }
 
-    /// These modules, which stand, have become live in the window that ends at a time, in the block that begins at another. The work span of
-    /// each begins with the block, the states behind that begin are its own from now on, and it is listed as live. One that has a work span
-    /// already stays as it is.
+    /// Records that these modules have become active in the window with this end, in the block with this beginning. The work span of each begins with
+    /// the block, its states after that are its own from now on, and it is listed as active. A module that already has a work span stays as it is.
     pub fn open_joined(
         &mut self,
         run: &Run,
@@ -93,7 +92,7 @@ impl RerunRecorder {
         Ok(())
     }
 
-    /// A module is live no longer from a border on, up to which its states are kept: its work span ends there, and its states behind it are
+    /// Records that a module isn't active from a checkpoint on, up to which its states are kept: its work span ends there, and its later states are
     /// those of the old run.
     pub fn leave(&mut self, id: ModuleId, time: u32)
         requires { CanLeave self.old id.0 time }
@@ -118,7 +117,7 @@ impl RerunRecorder {
         self.live.retain(|id| has_place(places, *id));
     }
 
-    /// At the end: the states before the borders, those of the old run shared where they are these, and the work spans of work.
+    /// At the end: the states before the borders, those of the old run shared if they are these, and the work spans of work.
     pub fn finish(self, alloc: Global, run: &Run, new: &Netlist) -> Result<Finished, AllocError>
         requires { IsOver new.now run.now self }
         ensures kept { IfOk result (λ done. AreCheckpoints new.now (map (option_map arc_value) done.kept.items)) }
@@ -173,7 +172,7 @@ impl RerunRecorder {
         Ok(())
     }
 
-    /// Where a module has no work span yet, its work span begins, its states are its own behind the block's begin, and it is listed as live.
+    /// Opens the work span of a module that has none yet: its states after the beginning of the block are its own, and it is listed as active.
     fn open_one(
         &mut self,
         run: &Run,
@@ -225,7 +224,7 @@ fn has_place(places: &[Option<usize>], id: ModuleId) -> bool
     }
 }
 
-/// Whether a module stands and is marked as touched.
+/// Whether a module exists and is marked as touched.
 fn is_touched(netlist: &Netlist, touched: &[bool], id: ModuleId) -> bool
     ensures { IsTrue result ↔ (IsSome (module_at netlist.now id.0) × (is_marked touched.now id.0 ≡ true)) }
 {

@@ -11,7 +11,7 @@ use mp_modules::{EventModule, Memory};
 use mp_netlist::{ModuleId, Netlist};
 use mp_partition::Run;
 
-/// The state in which a module starts, or a blank one where none has the number.
+/// The state in which a module starts, or a blank one if none has the number.
 pub(crate) fn start_of(netlist: &Netlist, id: ModuleId) -> Memory
     requires { IsCircuit netlist.now }
     ensures { (r : Part) → module_at netlist.now id.0 ≡ Some r → result ≡ state_before netlist.now id.0 r 0 }

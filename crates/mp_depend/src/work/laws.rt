@@ -5,13 +5,13 @@ ghost use Rattle.mp_depend.specs.work.Stays.{StatesStay, UnreachedStates, Levels
 ghost use Rattle.mp_depend.specs.work.WorkSpans.{WorkSpansAreWork};
 ghost use Rattle.mp_depend.specs.work.Work.{IsOnlyWork, WindowsCover, WindowsApart, WorksOnlyReached, WorksWhileDifferent, WorksThroughout, WorksOnce, AgreesOutside, LevelsAgreeOutside};
 
-/// An edit that isn't refused keeps the horizon, the numbers, and the width and initial level of each wire that stands before and after.
+/// An accepted edit keeps the horizon, the numbers, and the width and initial level of each wire that exists before and after it.
 pub fn edits_revise()
     ensures { EditsRevise }
 {}
 
-/// Where a module's record is the same in both netlists and its states agree before a time, they agree from then on as long as its
-/// inputs do; and a wire that the same drives has the same level wherever the state agrees that it comes from.
+/// If a module's record is the same in both netlists and its states agree before a time, they agree from then on as long as its inputs do; and a wire
+/// that the same drives has the same level wherever the state agrees that it comes from.
 pub fn unreached()
     ensures states { StatesStay }
     ensures states_below { UnreachedStates }
@@ -19,7 +19,7 @@ pub fn unreached()
     ensures levels_below { UnreachedLevels }
 {}
 
-/// A module whose record is the same in both netlists is apart just where one of its inputs has another level.
+/// A module whose record is the same in both netlists is apart exactly if one of its inputs has another level.
 pub fn apart_by_inputs()
     ensures { ApartByInputs }
 {}
@@ -30,12 +30,12 @@ pub fn windows_tile()
     ensures apart { WindowsApart }
 {}
 
-/// The work is one list: no other has just its entries in their order.
+/// The work is the only list with its entries in their order.
 pub fn only_work()
     ensures { IsOnlyWork }
 {}
 
-/// Where work spans of time have all work in them, each part of it in just one, their entries are the work.
+/// If each part of the work is in exactly one of some work spans, the entries of these are the work.
 pub fn work_spans_are_work()
     ensures { WorkSpansAreWork }
 {}
@@ -51,13 +51,13 @@ pub fn only_reached()
     ensures { WorksOnlyReached }
 {}
 
-/// A module that isn't touched works on in a block of time only where its states differ before the block, or its inputs in it.
+/// A module that isn't touched works on in a block of time only if its states differ before the block, or its inputs in it.
 pub fn rejoins()
     ensures { WorksWhileDifferent }
 {}
 
-/// The states of a module that isn't touched and doesn't work in a window agree from the begin of the window's block to its end, and so
-/// do the levels of the wires that it drives, put off by the delays of its ports.
+/// The states of a module that isn't touched and doesn't work in a window agree from the begin of the window's block to its end, and so do the levels
+/// of the wires that it drives, later by the delays of its ports.
 pub fn agrees_outside()
     ensures states { AgreesOutside }
     ensures levels { LevelsAgreeOutside }

@@ -60,7 +60,7 @@ impl Work {
         }
     }
 
-    /// The work of which these are all work spans, in whatever order.
+    /// The work with these work spans, in any order.
     pub fn of_change(old: &Netlist, new: &Netlist, work_spans: Vec<WorkSpan>) -> Self
         requires { AreWorkSpans old.now new.now work_spans.items }
         ensures { IsWork old.now new.now result }

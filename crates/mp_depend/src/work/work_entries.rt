@@ -11,8 +11,8 @@ use std::alloc::{AllocError, Global};
 use std::collections::VecDeque;
 use std::marker::Model;
 
-/// An iterator over the entries of work, in order, seen as the list of those that are left. The work spans that have begun are a queue: the
-/// window that one goes on with ends after the windows of those that were entered before it.
+/// An iterator over the entries of work, in order. Contracts see the list of the entries that are left. The work spans that have begun are a queue,
+/// ordered by the ends of their next windows.
 #[derive(Drop)]
 pub struct WorkEntries {
     least: u32,
@@ -77,7 +77,7 @@ impl Iterator for WorkEntries {
     }
 }
 
-/// Enters what is left of a work span behind its first entry.
+/// Puts what is left of a work span after its first entry back into the queue.
 fn go_on(begun: &mut VecDeque<WorkSpan>, least: u32, horizon: u32, work_span: &WorkSpan)
     requires room { deque_len begun.old < deque_capacity begun.old }
     requires work_span { IsWorkSpan horizon work_span.now }
@@ -95,7 +95,7 @@ fn go_on(begun: &mut VecDeque<WorkSpan>, least: u32, horizon: u32, work_span: &W
     }
 }
 
-/// Where the window ends that begins at a time before the horizon.
+/// The end of the window that begins at a time before the horizon.
 pub fn window_end(least: u32, horizon: u32, from: u32) -> u32
     ensures { result ≡ end_of_window least horizon from }
 {
@@ -104,14 +104,14 @@ pub fn window_end(least: u32, horizon: u32, from: u32) -> u32
     (start + wide).min(block_end).min(u64::from(horizon)) as u32
 }
 
-/// Where the block of a time begins, in a run up to a horizon.
+/// The beginning of the block of a time, in a run up to a horizon.
 pub fn block_of(horizon: u32, time: u32) -> u32
     ensures { result ≡ block_of horizon time }
 {
     time - time % checkpoint_units(horizon)
 }
 
-/// Takes the work span whose first entry comes before that of the others: the first of those that have begun, or of those that wait.
+/// Takes the work span with the first entry: the first one that has begun, or the first one that waits.
 fn sooner(begun: &mut VecDeque<WorkSpan>, waiting: &mut VecDeque<WorkSpan>) -> Option<WorkSpan>
     ensures some { IfSome result (λ s. Takes begun.old.items waiting.old.items s begun.new.items waiting.new.items) }
     ensures none { IfNone result ((begun.new.items ≡ []) × (waiting.new.items ≡ []) × (begun.old.items ≡ []) × (waiting.old.items ≡ [])) }
