@@ -1,4 +1,4 @@
-//! Parts of a netlist, which read nothing from each other but on wires that they hear.
+//! Partitions of a netlist, which read each other only on inbound wires.
 
 mod crossing;
 mod division;

@@ -71,7 +71,7 @@ fn wave_list(
     Ok(waves)
 }
 
-/// The wave of a wire from the part whose modules drive it, or from the first, where no port does.
+/// The wave of a wire from the part whose modules drive it, or from the first, if no port does.
 fn wave_of(
     netlist: &Netlist,
     division: &Division,

@@ -6,8 +6,8 @@ use mp_modules::Memory;
 use std::alloc::Global;
 use std::sync::Arc;
 
-/// The wave of each wire of a part of a netlist up to the horizon, and of each of its modules the last state and those at checkpoints. Where
-/// no states are kept, none of these are there.
+/// The wave of each wire of a part of a netlist up to the horizon, and of each of its modules the last state and those at checkpoints. If no states
+/// are kept, none of these are there.
 #[derive(Drop)]
 pub struct PartRun {
     pub waves: Waves,

@@ -1,4 +1,4 @@
-//! How long what parts of a netlist hear of each other is on its way.
+//! The time that changes take from one partition to another.
 ghost use Rattle.std.specs.Prelude.{◌≡◌, ◌≤◌, ℕ, true, All, Some};
 ghost use Rattle.mp_records.specs.declared.ports.Output.{Output as Port};
 ghost use Rattle.mp_records.specs.Outputs.{delay_of};
@@ -9,7 +9,7 @@ ghost use Rattle.mp_partition.specs.regions.Divisions.{heard_by, IsCrossing, IsL
 use crate::regions::inbound_wires::{InboundWires, is_heard};
 use mp_netlist::{ModuleId, Netlist, Output, WireId};
 
-/// The shortest delay of a port that drives a wire which a part hears, and the horizon where that is less.
+/// The least delay of a port that drives an inbound wire of a partition; the horizon if that is less.
 pub fn crossing_delay(netlist: &Netlist, heards: &[InboundWires]) -> u32
     ensures { IsCrossing netlist.now heards.now result }
 {
@@ -40,7 +40,7 @@ fn shortest_delay(heards: &[InboundWires], outputs: &[Output]) -> u32
     delay
 }
 
-/// The delay of an output, if its wire is heard.
+/// The delay of an output if its wire is an inbound wire of a partition.
 fn heard_delay(heards: &[InboundWires], output: Output) -> u32
     ensures { IsLateFor heards.now output result }
 {

@@ -1,4 +1,4 @@
-//! A netlist in parts, which read nothing from each other but on wires that they hear.
+//! Divisions of a netlist into partitions, which read each other only on inbound wires.
 ghost use Rattle.std.specs.Prelude.{◌≡◌, ◌<◌, ◌≤◌, ◌⊎◌, ℕ, true, All, Some, IfOk, IfSome};
 ghost use Rattle.mp_records.specs.declared.ports.Input.{Input as Entry};
 ghost use Rattle.mp_records.specs.declared.ports.Output.{Output as Port};
@@ -12,8 +12,8 @@ use crate::regions::inbound_wires::{InboundWires, heard_by, is_heard};
 use mp_netlist::{Input, ModuleId, Netlist, Output, WireId};
 use std::alloc::{AllocError, Global};
 
-/// In which part each module is at home, and each wire that a port drives; what each part hears, with no lists where none hears of
-/// anything; a delay that no port has less of which drives a wire that is heard; and how many parts there are.
+/// The partition of each module and of each wire that a port drives; the inbound wires of each partition, with no lists if there are none; a lower
+/// bound of the delays of ports that drive inbound wires; and the number of partitions.
 #[derive(Drop)]
 pub struct Division {
     pub homes: Vec<u32>,
@@ -23,8 +23,8 @@ pub struct Division {
     pub parts: u32,
 }
 
-/// Divides a netlist among so many workers. There is nothing to divide where one is to do all, and where all modules are connected and don't
-/// fall apart at long delays. Less than so many modules, or units, don't regain what it costs.
+/// Divides a netlist among this number of workers. There is no division for one worker, nor if all modules are connected and don't fall apart at long
+/// delays. Below `least` modules or units a division isn't worth its cost.
 pub fn divide(
     alloc: Global,
     netlist: &Netlist,
@@ -70,7 +70,7 @@ fn count_of(homes: &[u32]) -> u32
     count
 }
 
-/// Where what drives each wire is at home.
+/// The partition of the driver of each wire.
 fn wire_homes(alloc: Global, netlist: &Netlist, homes: &[u32]) -> Result<Vec<u32>, AllocError> {
     let mut wires = Vec::new(alloc);
     for _w in 0..netlist.wire_slots() {
@@ -84,7 +84,7 @@ fn wire_homes(alloc: Global, netlist: &Netlist, homes: &[u32]) -> Result<Vec<u32
     Ok(wires)
 }
 
-/// What each part hears. There are no lists where none hears of anything.
+/// The inbound wires of each partition; no lists if there are none.
 fn heard_wires(
     alloc: Global,
     netlist: &Netlist,
@@ -179,7 +179,7 @@ fn is_at_home(netlist: &Netlist, division: &Division, id: ModuleId) -> bool
         && are_read_at(wires, heard, division.parts, home, found.inputs.as_slice())
 }
 
-/// Whether what parts hear stands, and is at home elsewhere.
+/// Whether the inbound wires of partitions exist and have their drivers elsewhere.
 fn are_heard_there(netlist: &Netlist, division: &Division) -> bool
     ensures { result ≡ true → (k w : ℕ) → is_marked (heard_by division.now.heard.items k) w ≡ true → IsHeardThere netlist.now division.now.wires.items k w }
 {

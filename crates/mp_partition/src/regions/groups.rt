@@ -8,8 +8,8 @@ use std::alloc::{AllocError, Global};
 /// A group that is too large is cut at wires of at least so long a delay, the first of these at which it falls into pieces that fit.
 const CUTS: [u32; 4] = [16, 8, 4, 2];
 
-/// For each module its part: at most so many parts, with about as many modules in each. Connected modules are together, but for groups that are
-/// larger than a part is to be: of these, modules are together that a walk along the wires meets one after the other.
+/// The partition of each module: at most `count` partitions, with about the same number of modules in each. Connected modules are together, except in
+/// groups that are larger than a partition: there modules are together that a walk along the wires meets one after the other.
 pub fn homes_of(alloc: Global, netlist: &Netlist, count: u32) -> Result<Vec<u32>, AllocError> {
     let drivers = Drivers::of(alloc, netlist)?;
     let modules = netlist.module_slots() as usize;
@@ -58,8 +58,8 @@ impl Drivers {
         Ok(drivers)
     }
 
-    /// For each module the first module of its group. Modules are in one group where a wire of a shorter delay than this connects them, and where one
-    /// that is given is that of both.
+    /// For each module the first module of its group. Modules are in one group if a wire of a shorter delay than this connects them, and if one that
+    /// is given is that of both.
     fn groups(
         &self,
         alloc: Global,
@@ -119,7 +119,7 @@ fn note_delays(delays: &mut Vec<u32>, outputs: &[Output]) {
     }
 }
 
-/// Joins the groups of two modules, where both are there.
+/// Joins the groups of two modules, if both are there.
 fn join(heads: &mut Vec<u32>, one: u32, other: u32) {
     if other == NOWHERE {
         return;
@@ -172,7 +172,7 @@ fn largest(sizes: &[u32]) -> usize {
     largest as usize
 }
 
-/// For each module the first of its group, where the group fits into a part, and else none.
+/// For each module the first of its group, if the group fits into a part, and otherwise none.
 fn groups_that_fit(
     alloc: Global,
     heads: &[u32],
@@ -196,7 +196,7 @@ fn by_number(alloc: Global, count: u32) -> Result<Vec<u32>, AllocError> {
     Ok(numbers)
 }
 
-/// At most so many parts, and how many modules each is to have.
+/// The greatest number of partitions, and the number of modules that each is to have.
 #[derive(Clone, Copy)]
 struct Share {
     parts: u32,
@@ -204,8 +204,8 @@ struct Share {
 }
 
 impl Share {
-    /// The parts of modules, group by group in the order in which the first of their modules come. The next part is begun where more than half of
-    /// a group is too much.
+    /// The partitions of modules, group by group in the order of their first modules. A new partition begins if more than half of a group doesn't
+    /// fit.
     fn homes_in(self, alloc: Global, heads: &[u32], order: &[u32]) -> Result<Vec<u32>, AllocError> {
         let sizes = sizes_of(alloc, heads)?;
         let mut parts = vec![in alloc; NOWHERE; heads.len()]?;

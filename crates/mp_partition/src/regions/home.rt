@@ -2,10 +2,10 @@
 ghost use Rattle.std.specs.Prelude.{◌≡◌};
 ghost use Rattle.mp_partition.specs.regions.Regions.{partition_of};
 
-/// Where what no port drives is at home.
+/// The partition of wires that no port drives.
 pub const NOWHERE: u32 = u32::MAX;
 
-/// The part in which a module, or what drives a wire, is at home: the first, where none is named.
+/// The partition of a module, or of the driver of a wire; the first one if none is given.
 pub fn partition_of(homes: &[u32], number: u32) -> u32
     ensures { result ≡ partition_of homes.now number }
 {

@@ -1,4 +1,4 @@
-//! The wires that a part of a netlist hears.
+//! The inbound wires of a partition.
 ghost use Rattle.std.specs.Prelude.{◌≡◌};
 ghost use Rattle.mp_partition.specs.regions.Divisions.{heard_by};
 ghost use Rattle.mp_partition.specs.runs.Marks.{is_marked};
@@ -7,7 +7,7 @@ use mp_netlist::WireId;
 use std::alloc::{AllocError, Global};
 use std::marker::Model;
 
-/// A mark for each wire: those are heard that modules of other parts drive and that modules of this part read.
+/// A mark for each wire. The inbound wires are those that modules of other partitions drive and modules of this partition read.
 #[derive(Drop)]
 pub struct InboundWires {
     marks: Vec<bool>,
@@ -24,7 +24,7 @@ impl Model for InboundWires {
 impl InboundWires {
     ghost use Rattle.std.specs.Prelude.{◌≡◌};
 
-    /// None of so many wires.
+    /// No inbound wires among this number of wires.
     pub fn none(alloc: Global, count: u32) -> Result<Self, AllocError> {
         let mut marks = Vec::new(alloc);
         for _w in 0..count {
@@ -55,7 +55,7 @@ pub fn is_heard(heard: &[bool], wire: WireId) -> bool
     }
 }
 
-/// What a part hears: nothing, where no list is there.
+/// The inbound wires of a partition; none if there is no list.
 pub fn heard_by(heards: &[InboundWires], part: u32) -> &[bool]
     ensures { result.now ≡ heard_by heards.now part }
 {

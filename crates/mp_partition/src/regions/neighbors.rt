@@ -4,7 +4,7 @@ use crate::regions::home::{NOWHERE, partition_of};
 use mp_netlist::{Input, ModuleId, Netlist};
 use std::alloc::{AllocError, Global};
 
-/// For each module those that drive what it reads, and those that read what it drives: where its part of the list begins, and the list.
+/// For each module those that drive what it reads, and those that read what it drives: if its part of the list begins, and the list.
 #[derive(Drop)]
 pub struct Neighbors {
     starts: Vec<u32>,
@@ -35,8 +35,8 @@ impl Neighbors {
     }
 
     /// The modules in the order in which a walk takes them. It begins with the first of these starts, and again with the next one wherever it comes
-    /// to an end. Of the neighbors of those that it has taken, it takes next the one that has the fewest neighbors which aren't taken; so it leaves
-    /// little open behind it.
+    /// to an end. Among the neighbors of the modules taken so far, it takes next the one with the fewest neighbors that aren't taken, so it leaves
+    /// few of them open.
     pub fn walk(&self, alloc: Global, starts: &[u32]) -> Result<Vec<u32>, AllocError> {
         let mut walk = Walk::begin(alloc, self)?;
         for start in starts {
@@ -63,7 +63,7 @@ impl Neighbors {
     }
 }
 
-/// Modules with so many neighbors or more that aren't taken wait together.
+/// Modules with this number of open neighbors or more wait in one list.
 const MOST_OPEN: u32 = 16;
 
 /// A walk on its way: of each module how many neighbors aren't taken, and whether it is; the modules that wait, by how many of their neighbors
@@ -114,7 +114,7 @@ impl Walk {
         None
     }
 
-    /// Takes a module, if it isn't taken, and tells whether it wasn't.
+    /// Takes a module if it isn't taken yet, and returns whether it did.
     fn take(&mut self, m: u32) -> Result<bool, AllocError> {
         let Some(mark) = self.taken.get_mut(m as usize) else {
             return Ok(false);

@@ -8,8 +8,8 @@ use mp_modules::AnyModule;
 use mp_netlist::{ModuleId, ModuleRecord, Netlist, WireId};
 use std::marker::Model;
 
-/// The modules of a netlist that are at home in one part of it, with all its wires, and which of these it hears that modules elsewhere
-/// drive. Contracts see it as a netlist in which the levels of wires that are heard come from outside.
+/// The modules of one partition of a netlist, with all wires and the marks of the inbound ones. Contracts see it as a netlist in which the levels of
+/// inbound wires come from outside.
 #[derive(Drop)]
 pub struct Region<'a> {
     netlist: &'a Netlist,
@@ -88,7 +88,7 @@ impl<'a> Region<'a> {
         self.netlist.module_slots()
     }
 
-    /// The level of a wire at time 0, 0 where it doesn't stand.
+    /// The level of a wire at time 0, 0 if it doesn't exist.
     pub fn initial_level(&self, id: WireId) -> u64
         ensures { result ≡ initial_of (wire_at self.now id.0) }
     {
@@ -98,7 +98,7 @@ impl<'a> Region<'a> {
         }
     }
 
-    /// Whether a wire of this number stands.
+    /// Whether there is a wire of this number.
     pub fn has_wire(&self, id: WireId) -> bool
         ensures { result ≡ is_some (wire_at self.now id.0) }
     {
@@ -108,7 +108,7 @@ impl<'a> Region<'a> {
         }
     }
 
-    /// The width of the wire of this number, where it stands.
+    /// The width of the wire of this number, if it exists.
     pub fn wire_width(&self, id: WireId) -> Option<u32>
         ensures { result ≡ width_in (wire_at self.now id.0) }
     {
@@ -118,7 +118,7 @@ impl<'a> Region<'a> {
         }
     }
 
-    /// The module of this number, where it stands and is at home here.
+    /// The module of this number, if it exists and is at home here.
     pub fn module(&self, id: ModuleId) -> Option<&ModuleRecord>
         ensures value { option_copied result ≡ module_at self.now id.0 }
         ensures form { IfSome result (λ found. IsModule self.now found.now) }

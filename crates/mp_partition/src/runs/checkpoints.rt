@@ -39,7 +39,7 @@ impl Checkpoints {
         }
     }
 
-    /// The state in which a module starts, before time 0, alone.
+    /// Only the state before time 0, in which a module starts.
     pub fn of_start(alloc: Global, memory: Memory) -> Result<Self, AllocError>
         ensures { IfOk result (λ kept. kept ≡ record { time = 0; memory = memory } ∷ []) }
     {
@@ -88,8 +88,7 @@ impl Checkpoints {
         self.add_before(&other.list, later, to)
     }
 
-    /// Adds those states of a list that stand from a place on and are kept for times before an end. None of them is of an earlier time than
-    /// those that are kept.
+    /// Adds the states of a list from a place on that are for times before an end. None of them is for an earlier time than the states so far.
     fn add_before(&mut self, list: &StateList, from: usize, end: u32) -> Result<(), AllocError>
         requires over { All (λ (later : Kept). All (λ (kept : Kept). kept.time ≤ later.time) self.old) (drop from (states_of list.now)) }
         requires rising { IsRising (states_of list.now) }
@@ -112,9 +111,8 @@ impl Checkpoints {
         split(&self.list, time).0
     }
 
-    /// The last state that is kept for a time not after this one, or a blank one, and how many are kept for such times. If these are as many as
-    /// `before`, or one more, nothing is searched: so many
-    /// are kept for the times of one border after the other.
+    /// The last state kept for a time up to this one, or a blank one, and the number of states kept for such times. If that is `before` or one more,
+    /// as at successive checkpoints, there is no search.
     pub fn kept_near(&self, time: u32, before: usize) -> (Memory, usize)
         ensures { result.0 ≡ kept_at self.now time blank }
     {
@@ -127,7 +125,7 @@ ghost use Rattle.std.specs.Prelude.{◌↔◌, ℕ, IsTrue, length, take};
 ghost use Rattle.mp_partition.specs.runs.Checkpoints.{kept_at, last_kept};
 ghost use Rattle.mp_modules.specs.Memories.{blank};
 
-/// Whether this state is the last that is kept, where a blank one is while there is none.
+/// Whether this state is the last that is kept, if a blank one is while there is none.
 fn is_last(list: &StateList, memory: Memory) -> bool
     ensures { IsTrue result → last_kept (states_of list.now) blank ≡ memory }
 {

@@ -53,21 +53,21 @@ impl Run {
         }
     }
 
-    /// The wave of a wire that stands.
+    /// The wave of a wire that exists.
     pub fn wave(&self, wire: WireId) -> Option<&Wave>
         ensures { option_copied result ≡ wave_of self.now wire.0 }
     {
         self.waves.of(wire)
     }
 
-    /// The wave of each wire that stands.
+    /// The wave of each wire that exists.
     pub fn waves(&self) -> &Waves
         ensures { result.now ≡ self.now.waves }
     {
         &self.waves
     }
 
-    /// The state of a module that stands, after the last unit.
+    /// The state of a module that exists, after the last unit.
     pub fn end_memory(&self, id: ModuleId) -> Option<Memory>
         ensures { result ≡ end_of self.now id.0 }
     {
@@ -100,8 +100,8 @@ impl Run {
         }
     }
 
-    /// The state of a module that stands, before the unit of a checkpoint: a multiple of `checkpoint_units` below the horizon. The state
-    /// before time 0 is that in which the module starts. Nothing for any other time.
+    /// The state of a module that exists before the unit of a checkpoint, which is a multiple of `checkpoint_units` below the horizon. The state
+    /// before time 0 is the one in which the module starts. `None` for any other time.
     pub fn checkpoint(&self, id: ModuleId, time: u32) -> Option<Memory>
         ensures { result ≡ checkpoint_of self.now id.0 time }
     {

@@ -13,7 +13,7 @@ pub(crate) struct BitCheckpoint {
     bits: BitMemory,
 }
 
-/// States of a module in a list. Where the levels of all are 0 or 1, as in a module of width 1, each takes eight bytes in place of 72.
+/// States of a module in a list. If the levels of all are 0 or 1, as in a module of width 1, each takes eight bytes in place of 72.
 #[derive(Drop)]
 pub(crate) enum StateList {
     Bits(Vec<BitCheckpoint>),
