@@ -1,4 +1,4 @@
-//! A whole run of a netlist: what it begins with, and the waves that come of it.
+//! A whole run of a netlist: its beginning, its units, and its waves.
 
 mod beginning;
 mod delays;

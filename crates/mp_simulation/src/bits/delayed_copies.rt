@@ -32,8 +32,8 @@ impl DelayedCopies {
         self.wheel.turn(&mut self.present);
     }
 
-    /// In the present unit the present copies have toggled, and these wires. What stands next after them toggles later. The numbers of copies are
-    /// behind those of so many wires, and where there are no more numbers, nothing is to be done.
+    /// Schedules the next copies after the present copies and these wires, all of which have toggled in the present unit. The numbers of copies are
+    /// behind those of so many wires, and if there are no more numbers, nothing is to be done.
     pub fn advance(&mut self, wires: &[u32], count: usize) -> Result<(), AllocError>
         requires present { All (λ x. x < length self.old.next.items) self.old.present }
         requires wires { All (λ w. w < length self.old.next.items) wires.now }

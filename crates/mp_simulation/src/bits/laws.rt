@@ -10,21 +10,20 @@ ghost use Rattle.mp_simulation.specs.bits.WholeRuns.{SlotsHaveAll};
 ghost use Rattle.mp_simulation.specs.bits.Simulations.{CanGoOn, StaysIdle};
 ghost use Rattle.mp_simulation.specs.bits.Beginnings.{FirstAreKnown, NoCopiesAtFirst};
 
-/// A wire that a port drives changes where the module's output did, the port's delay before: first where the settled level isn't the
-/// initial one, and never before its delay is over.
+/// A wire that a port drives changes if the module's output did, the port's delay before: first if the settled level isn't the initial one, and never
+/// before its delay is over.
 pub fn ports_change()
     ensures later { PortsChange }
     ensures first { PortsBegin }
     ensures before { PortsWait }
 {}
 
-/// An input has an event where its wire changed, the input's delay before.
+/// An input has an event if its wire changed, the input's delay before.
 pub fn inputs_change()
     ensures { InputsChange }
 {}
 
-/// The ports of a module have its events where each wire that it reads, or the delayed copy of one, is listed once if it changes, and else
-/// not.
+/// The ports of a module have its events if each wire that it reads, or the delayed copy of one, is listed once if it changes, and otherwise not.
 pub fn ports_have_events()
     ensures { PortsHaveEvents }
 {}
@@ -39,20 +38,20 @@ pub fn states_stay()
     ensures { StatesStay }
 {}
 
-/// A module of width 1 that has had its events goes on to its next phase, and just those outputs toggle that differ.
+/// A module of width 1 that has had its events steps to its next phase, and exactly those outputs toggle that differ.
 pub fn states_advance()
     ensures { StatesAdvance }
 {}
 
-/// The wave of a wire of width 1 up to the next unit is one toggle more where the wire changes there, and else the same; and so is what is
-/// kept of the changes of any wire.
+/// The wave of a wire of width 1 up to the next unit is one toggle more if the wire changes there, and otherwise the same; and so is what is kept of
+/// the changes of any wire.
 pub fn waves_grow()
     ensures waves { WavesGrow }
     ensures traces { TracesGrow }
 {}
 
-/// When modules fire, a wire that an active one drives comes once more into the slot of the change that this decides, where it has that
-/// change, and no other wire comes into any slot.
+/// When modules fire, a wire that an active one drives comes once more into the slot of the change that this decides, if it has that change, and no
+/// other wire comes into any slot.
 pub fn firing_schedules()
     ensures driven { FiringSchedules }
     ensures others { FiringLeavesOthers }
@@ -63,7 +62,7 @@ pub fn modules_have_bits()
     ensures { HaveBits }
 {}
 
-/// A simulator that stands before a unit of a netlist can apply what changes in it.
+/// A simulator before a unit of a netlist can apply the changes of that unit.
 pub fn applies_what_is_due()
     ensures { CanApplyWhenDue }
 {}
@@ -79,13 +78,13 @@ pub fn can_go_on()
     ensures { CanGoOn }
 {}
 
-/// Where nothing is known to change, a unit in which nothing is set is over without a step.
+/// If nothing is known to change, a unit in which nothing is set is over without a step.
 pub fn stays_idle()
     ensures { StaysIdle }
 {}
 
-/// Before the unit 1 the wheel has what is known where each wire is in the slot of its first change, if its settled level isn't the initial
-/// one; and no delayed copy has a change to come.
+/// Before unit 1 the wheel has the known changes if each wire whose settled level isn't its initial one is in the slot of its first change; and no
+/// delayed copy has a change to come.
 pub fn begins_with_first_changes()
     ensures events { FirstAreKnown }
     ensures copies { NoCopiesAtFirst }

@@ -8,10 +8,9 @@ use mp_kernel::{
 use mp_modules::Memory;
 use std::alloc::AllocError;
 
-/// The modules of width 1 of a netlist, so far as they stand in one: each has a place, with its state, the levels at its ports, and its outputs. The
-/// fanout tells of each number which inputs read it: the numbers of wires, and behind them those of their delayed copies. Modules that have had an event in
-/// this unit are due. Each wire of width 1 has a wave, and the wheel has the events to come. The wires that toggled in the present unit are kept
-/// until others do.
+/// The modules of width 1 of a netlist: each has a place, with its state, the levels at its ports, and its outputs. The fanout has the inputs that
+/// read each number: the numbers of wires, and after them those of their delayed copies. Modules that have had an event in this unit are due. Each
+/// wire of width 1 has a wave, and the wheel has the events to come. The wires that toggled in the present unit are kept until others do.
 #[derive(Drop)]
 pub struct Simulator {
     pub table: TransitionTable,

@@ -12,7 +12,7 @@ use mp_partition::Region;
 use mp_wave::{ToggleWave, Wave, WaveBuilder};
 use std::alloc::{AllocError, Global};
 
-/// The wave of each wire of a netlist, of which all units are over: one place per wire number, and none where no wire stands.
+/// The wave of each wire of a netlist after the last unit, by wire number; `None` if there is no wire.
 pub fn found_waves(
     alloc: Global,
     netlist: &Region<'_>,
@@ -37,7 +37,7 @@ pub fn found_waves(
     Ok(found)
 }
 
-/// The wave of a wire: by its toggles, if it has width 1, and else the one that was built.
+/// The wave of a wire: by its toggles, if it has width 1, and otherwise the one that was built.
 fn wave_of(
     netlist: &Region<'_>,
     wire: WireId,

@@ -9,7 +9,7 @@ use mp_partition::Region;
 use mp_wave::{ToggleWave, WaveBuilder};
 use std::alloc::{AllocError, Global};
 
-/// 1 where a level is 1, and else 0.
+/// 1 if a level is 1, and otherwise 0.
 fn bit_of(level: u64) -> u64
     ensures value { result ≡ (if level == 1 then 1 else 0) }
     ensures low { result ≤ 1 }
@@ -17,7 +17,7 @@ fn bit_of(level: u64) -> u64
     if level == 1 { 1 } else { 0 }
 }
 
-/// For each number of a wire the wave with its initial level, of which no change is known. Where the wire has data, it is a wave that nobody reads.
+/// For each wire number a wave with the initial level, without changes so far. If the wire has data, it is a wave that nobody reads.
 pub(crate) fn first_waves(
     alloc: Global,
     netlist: &Region<'_>,

@@ -18,7 +18,7 @@ pub fn is_narrow(netlist: &Netlist) -> bool
     true
 }
 
-/// Whether the wire of this number has width 1, or doesn't stand.
+/// Whether the wire of this number has width 1 or doesn't exist.
 fn has_one_bit(netlist: &Netlist, wire: WireId) -> bool
     ensures { result ≡ has_one_bit (wire_at netlist.now wire.0) }
 {

@@ -49,7 +49,7 @@ pub(crate) fn data_copies(
     Ok(copies)
 }
 
-/// The port, if it is kept, and else one that drives no wire.
+/// The port, if it is kept, and otherwise one that drives no wire.
 fn kept_if(is_kept: bool, port: OutputPort) -> OutputPort
     ensures { result ≡ (if is_kept then port else no_port) }
 {

@@ -27,8 +27,8 @@ pub(crate) struct Seating {
     pub wheel: LevelWheel,
 }
 
-/// Settles all modules with data, whose inputs read these numbers. An output whose wire has data, and whose level isn't the initial one, changes
-/// that after its delay. The wheel has so many units.
+/// Settles all modules with data, whose inputs read these numbers. If the level of an output isn't the initial one of its wire, and the wire has
+/// data, the wire changes after the output's delay. The wheel has `units` units.
 pub(crate) fn seat_all(
     alloc: Global,
     netlist: &Region<'_>,
@@ -139,7 +139,7 @@ pub fn data_module(
     }
 }
 
-/// The outputs of a module with data, told apart by whether their wires have data.
+/// The outputs of a module with data, divided into those whose wires have data and the others.
 fn data_ports(netlist: &Region<'_>, outputs: &[Output]) -> DataPorts
     requires { All IsShort outputs.now }
     ensures level { result.level ≡ level_output_of netlist.now (output_in outputs.now 0) }

@@ -21,7 +21,7 @@ use mp_netlist::{Input, ModuleId, ModuleRecord, Output, WireId};
 use mp_partition::Region;
 use std::alloc::{AllocError, Global};
 
-/// The outputs of each module, by its number: ports that drive no wire where none stands.
+/// The outputs of each module, by number; ports that drive no wire if there is no module.
 pub fn all_outputs(alloc: Global, netlist: &Region<'_>) -> Result<Vec<OutputPorts>, AllocError>
     requires { IsCircuit netlist.now }
     ensures { IfOk result (λ ports. ports.items ≡ map ports_of netlist.now.modules) }
@@ -80,15 +80,15 @@ pub(crate) struct Settling {
     pub wheel: EventWheel,
 }
 
-/// A module that is settled: its state, and the levels at its ports. Where it has data, or none stands, the state is asleep.
+/// A settled module: its state, and the levels at its ports. A module with data, or one that doesn't exist, is asleep.
 #[derive(Clone, Copy)]
 pub(crate) struct SettledModule {
     pub state: AutomatonState,
     pub levels: PortLevels,
 }
 
-/// Settles all modules. An output whose wire has width 1, and whose level isn't the initial one, changes that after its delay. Modules with data
-/// sleep. The wheel has so many units.
+/// Settles all modules. If the level of an output isn't the initial one of its wire, and the wire has width 1, the wire changes after the output's
+/// delay. Modules with data are asleep. The wheel has `units` units.
 pub(crate) fn settle_all(
     alloc: Global,
     netlist: &Region<'_>,
@@ -119,7 +119,7 @@ pub(crate) fn settle_all(
     })
 }
 
-/// Settles a module. Where none stands, the place sleeps.
+/// Settles a module. If there is none, the place is asleep.
 fn settle_module(
     netlist: &Region<'_>,
     id: ModuleId,

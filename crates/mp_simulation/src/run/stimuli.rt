@@ -9,7 +9,7 @@ use mp_kernel::LevelChange;
 use mp_netlist::{Netlist, WireId};
 use std::alloc::{AllocError, Global};
 
-/// A wire is set to another level at a time. It is told whether the wire has data.
+/// A time at which a wire is set to another level, and whether the wire has data.
 #[derive(Clone, Copy)]
 pub struct StimulusChange {
     pub time: u32,
@@ -40,7 +40,7 @@ impl HeardChanges {
     ghost use Rattle.std.specs.List.Sorted.{IsPermutation};
     ghost use Rattle.mp_simulation.specs.run.Stimuli.{left_of, AreInOrder};
 
-    /// These changes, of which all are to come.
+    /// These changes, all of which are still to come.
     pub fn of(list: Vec<StimulusChange>) -> HeardChanges
         ensures all { IsPermutation list.items (left_of result) }
         ensures order { AreInOrder (left_of result) }
@@ -56,7 +56,7 @@ impl Stimuli {
     ghost use Rattle.mp_netlist.specs.Circuit.{Circuit, IsCircuit};
     ghost use Rattle.mp_simulation.specs.run.Stimuli.{rest_of, left_of, bits_at, levels_at, changes_after, AreFrom, AreAhead, Advances};
 
-    /// What all stimuli change, where all is to come.
+    /// What all stimuli change, if all is to come.
     pub fn of(alloc: Global, netlist: &Netlist) -> Result<Stimuli, AllocError>
         requires { IsCircuit netlist.now }
         ensures { IfOk result (λ stimuli. AreAhead netlist.now 0 (rest_of stimuli)) }
@@ -90,7 +90,7 @@ impl Stimuli {
         self.levels.as_slice()
     }
 
-    /// The unit to go through after this one, or the horizon: the next unit, or where all else rests that of the next change.
+    /// The unit to run after this one, or the horizon: the next unit, or that of the next change if everything else rests.
     #[inline(always)]
     pub(crate) fn unit_after(&self, time: u32, rests: bool, horizon: u32) -> u32
         requires time { time < horizon }
@@ -129,7 +129,7 @@ impl Stimuli {
         Ok(())
     }
 
-    /// What is heard at a time changes in the present unit too.
+    /// Adds the changes of inbound wires at a time to those of the present unit.
     #[inline(always)]
     pub fn hear(&mut self, heard: &mut HeardChanges, time: u32) -> Result<(), AllocError>
         ensures bits { OnOk result (self.new.bits.items ≡ self.old.bits.items ++ bits_at time (left_of heard.old)) }
@@ -148,7 +148,7 @@ impl Stimuli {
     }
 }
 
-/// Lists what changes at a time, from a place on, and gives the place behind.
+/// Lists the changes at a time, from a place on, and returns the place after them.
 #[inline(always)]
 fn put_present(
     list: &[StimulusChange],

@@ -21,17 +21,18 @@ use mp_partition::Region;
 use mp_wave::{ToggleWave, Wave, WaveBuilder};
 use std::alloc::{AllocError, Global};
 
-/// Once in so many units it is looked whether only stimuli change what comes: a look goes over as many slots as the longest delay has units.
+/// Every so often, after this number of units, the run checks whether only stimuli will change anything. A check looks at as many slots as the
+/// longest delay has units.
 const LOOK_UNITS: u32 = 65_536;
 
-/// The run of a netlist of which only the waves are wanted, unit by unit.
+/// A run of a netlist, unit by unit, that keeps only the waves.
 #[derive(Drop)]
 pub struct WavesRun {
     simulation: AnySimulation,
     stimuli: Stimuli,
 }
 
-/// Where each wire has width 1, a simulation that takes less.
+/// A simulation that costs less, for a netlist whose wires all have width 1.
 #[derive(Drop)]
 enum AnySimulation {
     Narrow(Simulation),
@@ -83,7 +84,7 @@ impl WavesRun {
         }
     }
 
-    /// The wave of each wire, where all units are over: one place per wire number, and none where no wire stands.
+    /// The wave of each wire, if all units are over: one place per wire number, and none if there is no wire.
     pub fn finish(self, alloc: Global, netlist: &Netlist) -> Result<Vec<Option<Wave>>, AllocError>
         requires { IsWavesRun netlist.now netlist.now.horizon self }
         ensures { IfOk result (λ waves. AreWavesOf netlist.now waves.items) }
@@ -147,7 +148,7 @@ fn is_seen_at_rest(simulation: &NetlistSimulation, time: u32) -> bool
     time.is_multiple_of(LOOK_UNITS) && simulation.is_at_rest()
 }
 
-/// Runs the units from a time to before another, where all wires have width 1.
+/// Runs the units from a time to before another, if all wires have width 1.
 fn run_bits(
     netlist: &Netlist,
     simulation: &mut Simulation,
@@ -192,7 +193,7 @@ fn count_levels(waves: &[WaveBuilder]) -> usize {
     count
 }
 
-/// The waves of a simulation that has come to the horizon, where all wires have width 1.
+/// The waves of a simulation that has come to the horizon, if all wires have width 1.
 fn bit_waves(
     alloc: Global,
     netlist: &Netlist,
@@ -211,7 +212,7 @@ fn bit_waves(
     Ok(found)
 }
 
-/// The waves of a simulation, of which nothing else is kept.
+/// The waves of a simulation, which is dropped.
 fn waves_in(simulation: Simulation) -> Result<Vec<ToggleWave>, AllocError>
     ensures { IfOk result (λ waves. waves.items ≡ simulation.simulator.waves) }
 {
@@ -220,7 +221,7 @@ fn waves_in(simulation: Simulation) -> Result<Vec<ToggleWave>, AllocError>
     waves.into_waves()
 }
 
-/// The wave, where its wire stands.
+/// The wave, if its wire exists.
 fn wave_of(netlist: &Netlist, wire: WireId, wave: Option<ToggleWave>) -> Option<Wave>
     ensures { result ≡ wave_in (wire_at netlist.now wire.0) wave }
 {

@@ -6,7 +6,7 @@ ghost use Rattle.mp_simulation.specs.units.DataLevels.{is_data};
 use mp_netlist::{ModuleRecord, WireId};
 use mp_partition::Region;
 
-/// Whether a wire of this number stands that has data, which is another width than 1.
+/// Whether there is a wire of this number and it has data, that is, its width isn't 1.
 pub(crate) fn has_data(netlist: &Region<'_>, wire: WireId) -> bool
     ensures { result ≡ is_data netlist.now wire.0 }
 {

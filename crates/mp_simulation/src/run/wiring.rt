@@ -26,7 +26,7 @@ pub struct WiredInputs {
     pub inputs: Vec<[Option<u32>; MOST_INPUTS]>,
 }
 
-/// Where a wanted copy of a wire is or belongs: the latest number of the wire that isn't later than it, and how much later it is than that.
+/// The place of a wanted copy of a wire: the latest number of the wire that isn't later than it, and how much later it is than that.
 #[derive(Clone, Copy)]
 struct CopyPlace {
     number: u32,
@@ -46,7 +46,7 @@ pub(crate) fn wiring_of(alloc: Global, netlist: &Region<'_>) -> Result<WiredInpu
     Ok(WiredInputs { wiring, inputs })
 }
 
-/// Adds the inputs of the module of a number, if one stands, and gives the numbers that they read.
+/// Adds the inputs of the module of this number, if there is one, and returns the numbers that they read.
 fn add_slot(
     netlist: &Region<'_>,
     id: ModuleId,
@@ -145,7 +145,7 @@ impl Wiring {
         self.insert_copy(place)
     }
 
-    /// Adds a copy at a place where none is.
+    /// Adds a copy at a place that has none.
     fn insert_copy(&mut self, place: CopyPlace) -> Result<u32, AllocError>
         requires numbers { length self.old.next.items + 1 < 2 ^ 32 }
         requires within { place.number < length self.old.next.items }
@@ -187,7 +187,7 @@ fn note_wire(number: u32, wire: u32, wires: &mut Vec<u32>) -> Result<(), AllocEr
     Ok(())
 }
 
-/// Where the copy of a wire with a delay is or belongs.
+/// The place of the copy of a wire with this delay, whether it exists or not.
 fn place_of(next: &[OutputPort], wire: u32, delay: u16) -> CopyPlace
     requires within { wire < length next.now }
     requires links { AreLinks 65535 next.now }
@@ -210,14 +210,14 @@ fn port_at(next: &[OutputPort], number: u32) -> OutputPort
     next[number as usize]
 }
 
-/// The next copy, where it isn't later than so much.
+/// The next copy, if it isn't later than so much.
 fn copy_within(port: OutputPort, later: u16) -> Option<u32>
     ensures { result ≡ copy_within port later }
 {
     if port.delay <= later { port.wire } else { None }
 }
 
-/// What is next after a copy that is put before this one, so much earlier.
+/// The link from a new copy to this one, which is later by `later`.
 fn behind(port: OutputPort, later: u16) -> OutputPort
     requires { (x : ℕ) → port.wire ≡ Some x → later < port.delay }
     ensures { result ≡ behind port later }

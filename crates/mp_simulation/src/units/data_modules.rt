@@ -2,7 +2,7 @@
 
 use mp_kernel::DataModule;
 
-/// The modules with data. Each place of the simulator has the number of its module among them, where one stands there.
+/// The modules with data. Each place of the simulator has the number of its module among them, if there is one there.
 #[derive(Drop)]
 pub struct DataModules {
     pub places: Vec<Option<u32>>,

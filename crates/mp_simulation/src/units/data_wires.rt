@@ -10,9 +10,9 @@ use mp_kernel::{
 use mp_wave::WaveBuilder;
 use std::alloc::AllocError;
 
-/// The levels of all numbers: of wires, and behind them of their delayed copies. Of wires with data, and of their copies, it also has the next
-/// copy after each number, the changes to come, those of the present unit, and each wire's wave. The numbers that modules hear of in the
-/// present unit, beside the wires of width 1, are listed.
+/// The levels of all numbers: of wires, and after them of their delayed copies. For wires with data and their copies it also has the next copy after
+/// each number, the changes to come, those of the present unit, and each wire's wave. The numbers that modules hear of in the present unit, beside
+/// the wires of width 1, are listed.
 #[derive(Drop)]
 pub struct DataWires {
     pub levels: Vec<u64>,
@@ -32,8 +32,8 @@ impl DataWires {
     ghost use Rattle.mp_simulation.specs.units.DataWaves.{building_at, pushed};
     ghost use Rattle.mp_simulation.specs.units.DataWheels.{data_slot};
 
-    /// The next unit begins: what changes in it is what its slot has, and these changes that are set from outside. Modules hear of these, and
-    /// of the copies of wires of width 1 that toggle.
+    /// Begins the next unit with the changes of its slot and these changes from outside. Modules are notified of them, and of the copies of wires of
+    /// width 1 that toggle.
     pub fn begin_unit(&mut self, late: &[u32], set: &[LevelChange]) -> Result<(), AllocError>
         requires { 0 < length self.old.wheel }
         ensures present { OnOk result (self.new.present ≡ data_slot self.old.wheel 0 ++ set.now) }
@@ -50,7 +50,7 @@ impl DataWires {
         list_numbers(&mut self.heard, self.present.as_slice())
     }
 
-    /// The numbers get the levels that they have in the present unit, where these wires of width 1 and these copies of such toggle.
+    /// The numbers get the levels that they have in the present unit, if these wires of width 1 and these copies of such toggle.
     pub fn apply(&mut self, wires: &[u32], late: &[u32], time: u32) -> Result<(), AllocError>
         requires wires { All (λ x. x < length self.old.levels.items) wires.now }
         requires late { All (λ x. x < length self.old.levels.items) late.now }
@@ -70,7 +70,7 @@ impl DataWires {
         push_levels(&mut self.waves, self.present.as_slice(), time)
     }
 
-    /// What stands next after the numbers that change in the present unit has their levels later.
+    /// Schedules the levels of the next copies after the numbers that change in the present unit.
     pub fn advance(&mut self) -> Result<(), AllocError>
         requires present { All (λ c. c.number < length self.old.next.items) self.old.present }
         requires within { All (HasSlot (length self.old.wheel)) self.old.next.items }

@@ -2,8 +2,8 @@
 
 ghost use Rattle.mp_simulation.specs.units.Ahead.{TogglesAhead, LevelsAhead, LevelsAreRight};
 
-/// So many units after the next just those wires change by what a simulation knows that ports drive whose delays are longer, with the
-/// levels that they have then.
+/// As far as a simulation knows, exactly those wires change a number of units after the next one that ports with longer delays drive, and they get
+/// the levels that they have then.
 pub fn changes_ahead()
     ensures toggles { TogglesAhead }
     ensures changes { LevelsAhead }

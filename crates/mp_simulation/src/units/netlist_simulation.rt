@@ -7,8 +7,8 @@ use mp_kernel::{LevelChange, fire_data_modules};
 use mp_modules::Memory;
 use std::alloc::AllocError;
 
-/// A simulation of a netlist of any widths. A module with data has a place of the simulator of modules of width 1, where it sleeps: so its
-/// events are counted there, and it is due where it has one.
+/// A simulation of a netlist of any widths. A module with data has a place of the simulator of modules of width 1, if it sleeps: so its events are
+/// counted there, and it is due if it has one.
 #[derive(Drop)]
 pub struct NetlistSimulation {
     pub bits: Simulation,
@@ -90,14 +90,14 @@ impl NetlistSimulation {
         Ok(())
     }
 
-    /// The wires of width 1 that toggle so many units after the next one, so far as this is known.
+    /// The wires of width 1 that toggle `units` after the next unit, as far as is known.
     pub fn toggles_ahead(&self, units: usize) -> &[u32]
         ensures { result.now ≡ slot_at self.now.bits.simulator units }
     {
         self.bits.simulator.wheel.slot(units)
     }
 
-    /// What changes so many units after the next one of wires with data, so far as this is known.
+    /// The changes of wires with data `units` after the next unit, as far as is known.
     pub fn levels_ahead(&self, units: usize) -> &[LevelChange]
         ensures { result.now ≡ data_slot self.now.wires.wheel units }
     {
