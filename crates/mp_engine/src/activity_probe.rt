@@ -1,6 +1,6 @@
 //! How much happens in a netlist early on.
 
-/// How often something happens, on average, in so many units.
+/// A rate: an average number of firings in a number of units.
 #[derive(Clone, Copy)]
 pub struct Rate {
     pub count: usize,
@@ -15,8 +15,8 @@ impl Rate {
     }
 }
 
-/// When looks at a run are taken: the first when one part of so many of the time is over, each other after twice as many units. So many are
-/// taken in any case, and so many at most, where more and more happens.
+/// A plan of samples of a run: the first one after a fraction of the time, and each further one after twice as many units. A number of samples is
+/// taken in any case, and up to a greater number if the activity rises.
 #[derive(Clone, Copy)]
 pub struct LookPlan {
     pub first: u32,
@@ -38,7 +38,7 @@ pub struct ActivityProbe {
 impl ActivityProbe {
     ghost use Rattle.std.specs.Prelude.{◌≡◌, ◌≤◌, IfSome};
 
-    /// No looks so far, at a run of which time 0 is over.
+    /// A probe of a run after time 0, without samples so far.
     pub fn new(plan: LookPlan) -> ActivityProbe
         ensures { result.to ≡ 1 }
     {
@@ -51,7 +51,7 @@ impl ActivityProbe {
         }
     }
 
-    /// Before which time the units are to be over at the next look. Nothing where there is none, since as much happens as this, or too little.
+    /// Before which time the units are to be over at the next look. Nothing if there is none, since as much happens as this, or too little.
     pub fn next(&self, horizon: u32, pace: Rate) -> Option<u32>
         requires { self.now.to ≤ horizon }
         ensures later { IfSome result (λ to. self.now.to ≤ to) }
@@ -81,7 +81,7 @@ impl ActivityProbe {
         self.taken = self.taken.saturating_add(1);
     }
 
-    /// Whether as much happens as this: since the last look, or twice as much, where more looks than are sure have seen that more and more does.
+    /// Whether as much happens as this: since the last look, or twice as much, if more looks than are sure have seen that more and more does.
     pub fn see(&self, pace: Rate) -> bool {
         let Rate { count, units } = self.last;
         let expected = if self.taken > self.plan.sure && self.grows() {
@@ -96,7 +96,7 @@ impl ActivityProbe {
         .reaches(pace)
     }
 
-    /// Whether there is one more look: after those that are sure, where more and more happens.
+    /// Whether there is one more look: after those that are sure, if more and more happens.
     fn goes_on(&self) -> bool {
         self.taken < self.plan.sure || (self.grows() && self.taken < self.plan.most)
     }

@@ -10,7 +10,7 @@ use mp_phase::{Gate, Work};
 use std::alloc::{AllocError, Global};
 use std::sync::Wait;
 
-/// A part of a netlist that hears of nothing, to be run up to the horizon, how many modules are at home in it, and whether states are to be kept.
+/// A partition without inbound wires that is to be run up to the horizon, the number of its modules, and whether states are to be kept.
 #[derive(Drop)]
 pub(crate) struct LonePart<'a> {
     pub netlist: &'a Netlist,

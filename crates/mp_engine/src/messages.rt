@@ -1,4 +1,4 @@
-//! What parts of a netlist tell each other, and the lines by which they do.
+//! Messages between partitions of a netlist, and the lines that carry them.
 
 mod channels;
 mod given_up;

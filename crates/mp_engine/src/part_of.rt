@@ -1,4 +1,4 @@
-//! A netlist that is divided, and a part of it as a thread of its own runs it.
+//! A partition of a divided netlist, which a thread of its own runs.
 
 use crate::messages::{Channels, GivenUp, Subject, Window};
 use crate::region_runs::RegionRun;
@@ -38,7 +38,7 @@ impl<'a> PartOf<'a> {
     ghost use Rattle.mp_phase.specs.Allowed.{IsOpen};
     ghost use Rattle.mp_engine.specs.PartsOf.{IsMailOf, IsRunOf};
 
-    /// Its run up to the horizon, window by window. What it hears of others comes by its lines.
+    /// Runs it up to the horizon, window by window. The changes of its inbound wires come by its lines.
     pub(crate) fn run<J: Subject, R: Wait, G: Gate>(
         self,
         rt: &R,

@@ -20,8 +20,8 @@ const PLAN: LookPlan = LookPlan {
     most: 6,
 };
 
-/// What one thread makes of a netlist. Nothing, where at one of some early times at least so many modules fired a window since the
-/// time before: then it is given up.
+/// Runs a netlist on one thread. `None` comes if the run is given up, since at one of the early samples at least this number of modules had fired per
+/// window since the sample before.
 pub(crate) fn run_quiet<R: Wait, G: Gate>(
     rt: &R,
     alloc: Global,

@@ -15,7 +15,7 @@ use std::alloc::{AllocError, Global};
 use std::sync::Wait;
 use std::thread::Threads;
 
-/// The wave of each wire of a netlist that is divided, up to its horizon, made by the crew's threads, each for a part of the netlist. Nothing, where a
+/// The wave of each wire of a netlist that is divided, up to its horizon, made by the crew's threads, each for a part of the netlist. Nothing, if a
 /// thread can't be started, or a part gave up though memory was refused to none.
 pub fn share_waves<R: Threads + Wait + Sync>(
     rt: &R,
@@ -40,7 +40,7 @@ pub fn share_waves<R: Threads + Wait + Sync>(
     }
 }
 
-/// What the parts of a netlist give. Nothing, where a thread can't be started, or a part gave up though memory was refused to none.
+/// What the parts of a netlist give. Nothing, if a thread can't be started, or a part gave up though memory was refused to none.
 fn part_runs<R: Threads + Wait + Sync>(
     rt: &R,
     alloc: Global,

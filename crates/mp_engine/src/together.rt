@@ -1,4 +1,4 @@
-//! Parts of a netlist that hear of each other, each on a thread of its own.
+//! Runs partitions with inbound wires, each on a thread of its own.
 ghost use Rattle.std.specs.Prelude.{◌≡◌, ◌+◌, None, IfOk, IfSome, IsErr, length, map};
 ghost use Rattle.mp_partition.specs.regions.Divisions.{IsCrossing, IsDivision};
 ghost use Rattle.mp_engine.specs.declared.messages.given_up.GivenUp.TheVariants.{NoMemory};
@@ -15,7 +15,7 @@ use std::sync::Wait;
 use std::thread;
 use std::thread::{PromisedHandle, Scope, Threads};
 
-/// What the parts give, each run on a thread of its own. Nothing, where a thread can't be started, or a part gave up though memory was refused to none.
+/// What the parts give, each run on a thread of its own. Nothing, if a thread can't be started, or a part gave up though memory was refused to none.
 pub(crate) fn run_together<R: Threads + Wait + Sync, G: Gate + Sync>(
     rt: &R,
     alloc: Global,
@@ -84,7 +84,7 @@ fn run_apart<J: Subject + Send + Sync, R: Threads + Wait + Sync, G: Gate + Sync>
 /// The thread of a part.
 type Other<'a> = PromisedHandle<Result<PartRun, GivenUp>, PartOf<'a>>;
 
-/// Starts the threads of all parts but the first, from the last down. Nothing, where one can't be started.
+/// Starts the threads of all parts but the first, from the last down. Nothing, if one can't be started.
 fn start_others<
     's,
     E: 's,
@@ -127,8 +127,8 @@ fn start_others<
     Ok(Some(others))
 }
 
-/// The first part's run with those of the others, whose threads stand from the last part down. Nothing, where one of them gave up and memory was
-/// refused to none.
+/// The runs of all partitions; the threads of the others are listed from the last one down. `None` comes if one of them gave up though none ran out
+/// of memory.
 fn join_others<R: Threads>(
     rt: &R,
     alloc: Global,
@@ -149,7 +149,7 @@ fn join_others<R: Threads>(
     Ok(Some(runs))
 }
 
-/// What comes of it that a part gave up, once these others have ended: want of memory, where it was refused to one of them. Else nothing.
+/// The result when a partition has given up, once the others have ended: lack of memory if one of them ran out of it, and otherwise `None`.
 fn give_up<R: Threads>(
     rt: &R,
     cause: GivenUp,

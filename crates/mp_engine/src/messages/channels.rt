@@ -1,4 +1,4 @@
-//! The lines by which parts of a netlist tell each other of their wires.
+//! The lines of a partition.
 ghost use Rattle.mp_partition.specs.regions.Divisions.{heard_by};
 ghost use Rattle.mp_engine.specs.messages.Messages.{IsToldOnce};
 ghost use Rattle.mp_engine.specs.messages.Lines.{parts_of};
@@ -11,8 +11,8 @@ use mp_simulation::{NetlistSimulation, StimulusChange};
 use std::alloc::Global;
 use std::sync::Wait;
 
-/// The lines of a part: to each other that hears of it, and from each of which it hears; and how often it looks for a message before it sleeps. At
-/// each look others go first.
+/// The lines of a partition: to each partition that reads its wires, and from each partition whose wires it reads; and how often it looks for a
+/// message before it sleeps. At each look it lets other threads go first.
 #[derive(Drop)]
 pub struct Channels<J: Subject> {
     pub part: u32,
@@ -28,7 +28,7 @@ impl<J: Subject> Channels<J> {
     ghost use Rattle.mp_engine.specs.messages.Messages.{AreTold, KnowsAhead};
     ghost use Rattle.mp_engine.specs.messages.Lines.{parts_of, readers_of, AreSent};
 
-    /// Tells all others what they hear of this part in a window. Each was sent the message of the window once it is `Ok`.
+    /// Sends the changes of a window to all partitions that read them. After `Ok` each has been sent its message.
     pub fn send<R: Wait>(
         &mut self,
         rt: &R,
@@ -56,7 +56,7 @@ impl<J: Subject> Channels<J> {
         Ok(())
     }
 
-    /// What all others tell of a window.
+    /// Receives the messages of a window from all partitions whose wires this one reads.
     pub fn receive<R: Wait>(
         &mut self,
         rt: &R,

@@ -2,7 +2,7 @@
 
 use std::alloc::AllocError;
 
-/// Why a part of a netlist gives up: memory was refused to it, or a part that hears of it or of which it hears gave up before.
+/// The reason why a partition gives up: it ran out of memory, or a partition at the other end of one of its lines gave up before.
 #[derive(Clone, Copy, Debug, PartialEq, Eq)]
 pub enum GivenUp {
     NoMemory,

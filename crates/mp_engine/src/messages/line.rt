@@ -100,7 +100,7 @@ impl<J: Subject> LineFrom<J> {
         unreachable!()
     }
 
-    /// The next message. It is looked for so often before the thread sleeps. Where none comes any more, the other part gave up.
+    /// The next message. It is looked for so often before the thread sleeps. If none comes any more, the other part gave up.
     fn next<R: Wait>(&mut self, rt: &R, looks: u32) -> Result<Message<J>, GivenUp>
         ensures { self.new.by ≡ self.old.by }
     {

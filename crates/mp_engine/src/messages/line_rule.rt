@@ -1,4 +1,4 @@
-//! The rule of a line from a part to another, and what each step on it tells.
+//! The rule of a line from one partition to another, and what each step on it shows.
 ghost use Rattle.std.specs.Prelude.{◌≡◌, Some, None};
 ghost use Rattle.mp_engine.specs.declared.messages.line_rule.Known.TheVariants.{Whole, Sends, Takes};
 ghost use Rattle.mp_engine.specs.messages.LineRules.{Keeps};
@@ -7,14 +7,14 @@ use crate::messages::message::{Heading, Message, Subject};
 use crossbeam_channel::protocol::{Lesson, Outcome, Protocol, Split};
 use std::marker::PhantomData;
 
-/// What a pass of a line knows: the heading that was sent last, or the one that was taken last. No value of it is made.
+/// The knowledge of a pass of a line: the heading that was sent last, or the one that was taken last. It exists only in proofs.
 pub(crate) enum Known {
     Whole,
     Sends(Option<Heading>),
     Takes(Option<Heading>),
 }
 
-/// What was sent last stands last in the line, or was taken last.
+/// The rule that the message sent last is the last one in the line, or was taken last.
 pub(crate) struct LineRule<J: Subject> {
     of: PhantomData<J>,
 }

@@ -16,7 +16,7 @@ use mp_phase::LOOKS;
 use std::alloc::{AllocError, Global};
 use std::marker::Model;
 
-/// The lines of all parts that still have theirs here, the first part's first. What goes to others stands apart.
+/// The lines of all partitions that haven't taken theirs yet, in order. The sending ends are kept apart.
 #[derive(Drop)]
 pub struct Lines<J: Subject> {
     to: Vec<Vec<LineTo<J>>>,
@@ -38,7 +38,8 @@ impl<J: Subject> Lines<J> {
     ghost use Rattle.std.specs.Prelude.{◌≡◌, ℕ, ◌+◌, IfOk, IfSome, IfNone};
     ghost use Rattle.mp_partition.specs.regions.Divisions.{IsDivision};
 
-    /// A line between any two parts of which one hears of the other. So many parts look for messages before they sleep.
+    /// Makes a line between any two partitions of which one reads a wire of the other. The first partitions, as many as given, look for messages
+    /// before they sleep.
     pub fn between(
         alloc: Global,
         netlist: &Netlist,
@@ -101,7 +102,7 @@ fn take_lines<J: Subject>(
     }
 }
 
-/// A mark for each part at which a wire is at home that this part hears.
+/// A mark for each partition that drives an inbound wire of this one.
 fn told_by(
     alloc: Global,
     netlist: &Netlist,

@@ -1,4 +1,4 @@
-//! What parts of a netlist tell each other.
+//! Messages between partitions.
 ghost use Rattle.std.specs.Prelude.{◌≡◌, [], ◌∷◌, ◌++◌, OnOk};
 ghost use Rattle.mp_partition.specs.regions.Divisions.{heard_by};
 ghost use Rattle.mp_engine.specs.messages.Messages.{AreTold, toggles_told, levels_told};
@@ -10,7 +10,7 @@ use mp_simulation::{NetlistSimulation, StimulusChange};
 use std::alloc::{AllocError, Global};
 use std::marker::{Brand, PhantomData};
 
-/// Which netlist messages are about, where its wires are at home, and what each part hears.
+/// The subject of messages: a netlist, the partitions of its wires, and the inbound wires of each partition. It exists only in proofs.
 pub trait Subject {
     ghost use Rattle.std.specs.Prelude.{Bool, List, ℕ};
     ghost use Rattle.mp_netlist.specs.Circuit.{Circuit};
@@ -41,7 +41,7 @@ pub struct Window {
     pub until: u32,
 }
 
-/// From which part to which a message goes, and of which units it tells.
+/// The sender and the receiver of a message, and its units.
 #[derive(Clone, Copy, PartialEq, Eq)]
 pub(crate) struct Heading {
     pub by: u32,
@@ -49,7 +49,7 @@ pub(crate) struct Heading {
     pub window: Window,
 }
 
-/// All changes, in a window, of wires that one part drives and another hears.
+/// All changes, in a window, of wires that one partition drives and another one reads.
 #[derive(Drop)]
 pub(crate) struct Message<J: Subject> {
     pub heading: Heading,

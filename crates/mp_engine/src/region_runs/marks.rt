@@ -4,7 +4,7 @@ ghost use Rattle.mp_partition.specs.runs.Marks.{is_marked};
 
 use std::alloc::{AllocError, Global};
 
-/// So many places, of which none is marked.
+/// This number of places, none of which is marked.
 pub(crate) fn no_marks(alloc: Global, count: u32) -> Result<Vec<bool>, AllocError>
     ensures places { IfOk result (λ marks. length marks.items ≡ count) }
     ensures none { IfOk result (λ marks. (m : ℕ) → is_marked marks.items m ≡ false) }

@@ -20,8 +20,7 @@ use mp_simulation::{HeardChanges, NetlistSimulation, Stimuli, StimulusChange, be
 use std::alloc::{AllocError, Global};
 use std::sync::{Arc, Wait};
 
-/// The run of a part of a netlist, unit by unit: its simulation, what is set from outside later, and the states that are kept on the way, where
-/// any are.
+/// The run of a part of a netlist, unit by unit: its simulation, what is set from outside later, and the states that are kept on the way, if any are.
 #[derive(Drop)]
 pub struct RegionRun {
     pub simulation: NetlistSimulation,
@@ -41,7 +40,8 @@ impl RegionRun {
     ghost use Rattle.mp_phase.specs.Allowed.{IsOpen};
     ghost use Rattle.mp_engine.specs.region_runs.RegionRuns.{AreTidings, IsUnderWay, CanRun, AreUnset, IsBeforeAll};
 
-    /// The run after time 0, at which each module passes the gate. Nothing is heard yet. It is told whether states are to be kept.
+    /// Begins a run: the state after time 0, at which each module has passed the gate, with no changes of inbound wires so far. `keeps` says whether
+    /// states are to be kept.
     pub fn begin<R: Wait, G: Gate>(
         rt: &R,
         alloc: Global,
@@ -66,7 +66,7 @@ impl RegionRun {
         })
     }
 
-    /// All that is heard before a time, in place of what was heard before, which is over.
+    /// Takes all changes of inbound wires before the next time, in place of the earlier ones, which are past.
     pub fn receive(&mut self, changes: Vec<StimulusChange>)
         ensures { (n : Circuit) (keeps : Bool) (is_heard : ℕ → Bool) (t until : ℕ) → IsUnderWay n keeps is_heard t (t + 1) self.old → AreTidings n is_heard t until changes.items →
             IsUnderWay n keeps is_heard t until self.new }
@@ -74,7 +74,7 @@ impl RegionRun {
         self.heard = HeardChanges::of(changes);
     }
 
-    /// Runs the units from a time to before another, before which all is known that is heard, and gives how often modules fired.
+    /// Runs the units from a time to before another one, up to which all changes of inbound wires are known. Returns how often modules fired.
     pub fn run_units<R: Wait, G: Gate>(
         &mut self,
         rt: &R,
@@ -127,7 +127,7 @@ impl RegionRun {
         Ok(fired)
     }
 
-    /// What a run gives whose units are all over. Where no states were kept, none are among it.
+    /// What a run gives whose units are all over. If no states were kept, none are among it.
     pub fn finish(self, alloc: Global, region: &Region<'_>) -> Result<PartRun, AllocError>
         requires simulated { IsSimulated region.now (region.now.horizon - 1) self.simulation }
         requires kept { HasHistory region.now (region.now.horizon - 1 + 1) (region.now.horizon - 1) self.history }
@@ -154,7 +154,7 @@ impl RegionRun {
     }
 }
 
-/// What states are kept from time 0 on, where any are to be.
+/// What states are kept from time 0 on, if any are to be.
 fn first_history(
     alloc: Global,
     region: &Region<'_>,
@@ -170,7 +170,7 @@ fn first_history(
     }
 }
 
-/// Goes on to the unit of a time with the states that are kept, where any are.
+/// Goes on to the unit of a time with the states that are kept, if any are.
 #[inline(always)]
 fn pass_history(
     history: &mut Option<StateHistory>,
@@ -190,7 +190,7 @@ fn pass_history(
     Ok(())
 }
 
-/// These modules, by number, are to fire: they are marked where states are kept.
+/// These modules, by number, are to fire: they are marked if states are kept.
 #[inline(always)]
 fn mark_fired(history: &mut Option<StateHistory>, numbers: &[u32]) -> Result<(), AllocError>
     ensures { OnOk result (HasMarked numbers.now history.old history.new) }
@@ -215,7 +215,7 @@ fn all_waves(
     Ok(waves)
 }
 
-/// The modules that stand, by number.
+/// The modules of the partition, by number.
 fn all_modules(alloc: Global, netlist: &Region<'_>) -> Result<Vec<u32>, AllocError> {
     let mut modules = Vec::new(alloc);
     for m in 0..netlist.module_slots() {
@@ -226,7 +226,7 @@ fn all_modules(alloc: Global, netlist: &Region<'_>) -> Result<Vec<u32>, AllocErr
     Ok(modules)
 }
 
-/// The states of the modules that stand, after the last unit.
+/// The states of the modules after the last unit.
 fn end_memories(
     alloc: Global,
     netlist: &Region<'_>,
@@ -255,7 +255,7 @@ fn end_memory(netlist: &Region<'_>, simulation: &NetlistSimulation, m: u32) -> O
     }
 }
 
-/// What was kept of the modules that stand, to be shared.
+/// The kept states of the modules, to be shared.
 fn shared_checkpoints(
     alloc: Global,
     netlist: &Region<'_>,

@@ -41,8 +41,8 @@ impl StateHistory {
         Ok(StateHistory { marks, list, kept })
     }
 
-    /// Goes on to the unit of a time, before which the modules are as the simulation has them: keeps the states of those that have fired since
-    /// the last checkpoint, where it is time.
+    /// Goes on to the unit of a time, before which the modules are as the simulation has them: keeps the states of those that have fired since the
+    /// last checkpoint, if it is time.
     pub(crate) fn pass(
         &mut self,
         netlist: &Region<'_>,
@@ -139,7 +139,7 @@ fn first_states(alloc: Global, netlist: &Region<'_>) -> Result<Vec<Checkpoints>,
     Ok(kept)
 }
 
-/// The state before time 0 of a module, if one stands.
+/// The state of a module before time 0, if there is one.
 fn first_state(alloc: Global, netlist: &Region<'_>, id: ModuleId) -> Result<Checkpoints, AllocError>
     requires { IsCircuit netlist.now }
     ensures { IfOk result (λ kept. kept ≡ first_kept netlist.now (module_at netlist.now id.0)) }

@@ -16,18 +16,18 @@ const MOST_MODULES: u32 = 65_536;
 /// A run of more units isn't shared, since one thread passes over a time in which nothing happens.
 const MOST_UNITS: u32 = 1_048_576;
 
-/// It is looked at what happens when a 256th of the time is over, and up to a 64th, or up to an eighth where wires change more and more often.
+/// Samples are taken from a 256th of the time on up to a 64th, or up to an eighth if wires change more and more often.
 const PLAN: LookPlan = LookPlan {
     first: 256,
     sure: 3,
     most: 6,
 };
 
-/// Parts that hear of nothing are to have the least work in so many units.
+/// Partitions without inbound wires must have the least work in this number of units.
 const SPAN: u32 = 64;
 
-/// Where parts hear of each other, the netlist is to have so many times as many modules as there are in the least work. With fewer, waiting takes
-/// more of the processors than is gained.
+/// If partitions have inbound wires, the netlist must have this many times the modules of the least work. With fewer, waiting costs more than is
+/// gained.
 const SHARES: u32 = 6;
 
 /// Whether a netlist is large enough for several threads, and no larger than they run it.
@@ -40,7 +40,7 @@ pub(crate) fn can_pay(netlist: &Netlist, crew: &Crew) -> bool {
         && units <= MOST_UNITS
 }
 
-/// No looks so far, at a run of which time 0 is over.
+/// A probe of a run after time 0, without samples so far.
 pub(crate) fn first_looks() -> ActivityProbe
     ensures { result.to ≡ 1 }
 {
@@ -48,8 +48,8 @@ pub(crate) fn first_looks() -> ActivityProbe
 }
 
 /// A division of a netlist in which enough happens early, by looks at its run: each wire is to change a quarter as often, on average, as there are
-/// modules in the least work that is shared out, and that much work is to be done in each window, or more where there are fewer than four threads,
-/// which gain less.
+/// modules in the least work that is shared out, and that much work is to be done in each window, or more if there are fewer than four threads, which
+/// gain less.
 pub(crate) fn busy_division(
     alloc: Global,
     netlist: &Netlist,
@@ -90,7 +90,7 @@ pub(crate) fn busy_division(
     }
 }
 
-/// Whether the parts of a netlist are large enough to wait for each other, where they do.
+/// Whether the parts of a netlist are large enough to wait for each other, if they do.
 fn has_room(netlist: &Netlist, crew: &Crew, division: &Division) -> bool {
     division.heard.is_empty() || netlist.module_slots() >= crew.least().saturating_mul(SHARES)
 }
@@ -119,7 +119,7 @@ fn look_at(
     Ok(())
 }
 
-/// How many units parts run before they wait for each other, or a number that stands for it where they don't.
+/// The number of units that partitions run before they wait for each other, or a substitute for it if they don't wait.
 fn window_of(division: &Division) -> u32 {
     if division.heard.is_empty() {
         SPAN

@@ -13,8 +13,8 @@ use std::alloc::{AllocError, Global};
 use std::sync::Wait;
 use std::thread::Threads;
 
-/// The wave of each wire of a netlist up to its horizon. Where much happens early, the crew's threads make them, each for a part of the netlist.
-/// Where the memory for that is refused, the calling thread makes them.
+/// The wave of each wire of a netlist up to its horizon. If much happens early, the crew's threads make them, each for a part of the netlist. If the
+/// memory for that is refused, the calling thread makes them.
 pub fn find_waves<R: Threads + Wait + Sync>(
     rt: &R,
     alloc: Global,
@@ -48,7 +48,7 @@ fn find_here(alloc: Global, netlist: &Netlist) -> Result<Waves, AllocError>
     finished(alloc, netlist, run, 1)
 }
 
-/// The waves that a run gives, of which the units before a time are over.
+/// Finishes a run from this time on, and returns its waves.
 fn finished(alloc: Global, netlist: &Netlist, run: WavesRun, from: u32) -> Result<Waves, AllocError>
     requires { IsWavesRun netlist.now from run }
     ensures { IfOk result (AreWavesOf netlist.now) }
