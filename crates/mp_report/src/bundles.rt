@@ -11,8 +11,8 @@ use mp_netlist::{BundleId, BundleRecord, Netlist, WireId};
 use mp_response::Findings;
 use std::alloc::{AllocError, Global};
 
-/// What is found at a bundle, by time and then by the codes' numbers; nothing where it doesn't stand. Units in which none of its wires
-/// changes are passed over.
+/// What is found at a bundle, by time and then by the codes' numbers; nothing if it doesn't exist. Units in which none of its wires changes are
+/// passed over.
 #[tactic(auto, using(crate::proofs::BundleLemmas::no_bundle_over))]
 pub(crate) fn found_at_bundle(
     alloc: Global,
@@ -45,7 +45,7 @@ fn watch<'a>(netlist: &Netlist, waves: &'a Waves, bundle: &BundleRecord) -> Watc
     }
 }
 
-/// A wire that stands from time 1 on.
+/// The changes of a wire that exists, from time 1 on.
 #[tactic(auto, using(crate::proofs::WaveLemmas::wave_is))]
 fn ahead<'a>(netlist: &Netlist, waves: &'a Waves, wire: WireId) -> Ahead<'a>
     requires waves { AreWavesOf netlist.now waves.now }
@@ -102,7 +102,7 @@ fn found_now(netlist: &Netlist, bundle: &BundleRecord, watch: Watch<'_>, time: u
         .with_if(FindingCode::AckWhileIdle, acknowledge & !busy)
 }
 
-/// Whether a request event stands at a time, or below the horizon no more than the setup after it.
+/// Whether there is a request event at a time or, below the horizon, at most the setup after it.
 fn is_requested_soon(
     netlist: &Netlist,
     bundle: &BundleRecord,

@@ -1,4 +1,4 @@
-//! What is found in a netlist, and how it is told.
+//! The findings of a netlist, and their lines.
 #![tactic(auto)]
 
 mod ahead;

@@ -7,9 +7,9 @@ use mp_model::{Finding, Place};
 use mp_netlist::Netlist;
 use mp_streams::{Failed, Out, Sink, Text};
 
-/// Writes a line for each finding: `TIME module NAME CODE` or `TIME bundle NAME CODE`, with the word of the code. A finding at what doesn't
-/// stand has none. `Failed` comes with a fault of the sink: then some of what was held and of the lines, from the front, is with the sink,
-/// and nothing is held.
+/// Writes a line for each finding: `TIME module NAME CODE` or `TIME bundle NAME CODE`, with the word of the code. A finding at a module or a bundle
+/// that doesn't exist has none. `Failed` comes if the sink fails; then the sink has a beginning of what was held and of the lines, and nothing is
+/// held.
 pub fn put_report<S: Sink>(
     out: &mut Out<S>,
     netlist: &Netlist,
@@ -29,8 +29,8 @@ pub fn put_report<S: Sink>(
     Ok(())
 }
 
-/// What is told of a finding, `TIME module NAME CODE` or `TIME bundle NAME CODE`, with the word of the code, and what ends it. A finding
-/// at what doesn't stand has no text.
+/// The text of a finding, `TIME module NAME CODE` or `TIME bundle NAME CODE`, with the word of the code, and its end. A finding at a module or a
+/// bundle that doesn't exist has no text.
 #[derive(Clone, Copy)]
 pub struct FindingText<'a> {
     pub netlist: &'a Netlist,

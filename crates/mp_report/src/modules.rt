@@ -11,8 +11,8 @@ use mp_response::{Findings, InPiece, cut, cut_delayed, respond};
 use mp_wave::Wave;
 use std::alloc::{AllocError, Global};
 
-/// What is found at a module, by time and then by the codes' numbers; nothing where it doesn't stand. The module answers once, over the
-/// whole horizon, unless its kind finds nothing.
+/// What is found at a module, by time and then by the codes' numbers; nothing if it doesn't exist. The module answers once, over the whole horizon,
+/// unless its kind finds nothing.
 #[tactic(auto, using(crate::proofs::ModuleLemmas::found_at_module_steps))]
 pub(crate) fn found_at_module(
     alloc: Global,
@@ -48,7 +48,7 @@ fn finds_nothing(kind: Kind) -> bool
     }
 }
 
-/// What the inputs of a module hear over the whole horizon.
+/// The waves at the inputs of a module, up to the horizon.
 fn pieces(
     alloc: Global,
     netlist: &Netlist,
@@ -68,7 +68,7 @@ fn pieces(
     Ok(pieces)
 }
 
-/// What an input hears over the whole horizon.
+/// The wave at an input, up to the horizon.
 #[tactic(auto, using(crate::proofs::WaveLemmas::modules_piece_steps))]
 fn piece(
     alloc: Global,
@@ -86,7 +86,7 @@ fn piece(
     }
 }
 
-/// A wave so much later, from time 0 to an end. It is copied as a whole where it isn't put off.
+/// A wave later by a delay, from time 0 to an end. Without a delay it is copied as a whole.
 #[tactic(auto, using(crate::proofs::WaveLemmas::cut_whole, crate::proofs::WaveLemmas::cut_late))]
 fn heard(alloc: Global, wave: &Wave, delay: u32, end: u32) -> Result<InPiece, AllocError>
     requires some { 0 < end }

@@ -10,8 +10,8 @@ use rayon::prelude::*;
 use std::alloc::{AllocError, Global};
 use std::thread::Threads;
 
-/// What is found in a netlist, given its waves: by time, then the modules by number and the bundles by number, then by the codes' numbers.
-/// At most so many threads look for it, the calling one included; one alone starts none.
+/// The findings of a netlist, given its waves: by time, then the modules by number and the bundles by number, then by the numbers of the codes. At
+/// most this number of threads look for them, the calling one included; with one no thread is started.
 pub fn report<R: Threads + Sync>(
     rt: &R,
     alloc: Global,
