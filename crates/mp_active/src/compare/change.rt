@@ -3,7 +3,7 @@
 use mp_netlist::Netlist;
 use mp_partition::Run;
 
-/// A netlist with its run, and the netlist that has become of it, with its least delay.
+/// A netlist with its run, and the netlist after an edit of it, with its least delay.
 #[derive(Clone, Copy)]
 pub struct Change<'a> {
     pub old: &'a Netlist,

@@ -5,10 +5,10 @@ use crate::compare::numbers::Numbers;
 use crate::compare::wire_source::WireSource;
 use mp_kernel::{EventSlot, TimerWheel};
 
-/// Where the levels of each wire come from; of each number, how many inputs of modules that sleep read it; and the old changes. A number is
-/// tracked that may have another level than in the old run, and that a module reads that sleeps: it is listed in the timer wheel for its old
-/// changes. A wire that follows its old wave is listed, too. Of a number that is listed the place of its next change in the old wave is known,
-/// and of each number when a change of it in the new run was seen last. The numbers that depart in the present unit are gathered.
+/// The source of each wire's levels; for each number, how many inputs of sleeping modules read it; and the old changes. A number is tracked if it may
+/// have another level than in the old run and a sleeping module reads it: it is listed in the timer wheel for its old changes. A wire that follows
+/// its old wave is listed, too. Of a number that is listed the place of its next change in the old wave is known, and of each number when a change of
+/// it in the new run was seen last. The numbers that depart in the present unit are gathered.
 #[derive(Drop)]
 pub struct Comparison {
     pub numbers: Numbers,
@@ -34,7 +34,7 @@ impl Comparison {
         self.asleep[number as usize]
     }
 
-    /// Where the levels of a wire come from.
+    /// The source of a wire's levels.
     #[inline(always)]
     pub fn source_of(&self, wire: u32) -> WireSource
         requires { wire < length self.now.sources.items }

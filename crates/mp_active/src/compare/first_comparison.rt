@@ -47,7 +47,7 @@ impl Comparison {
         ensures unseen { IfOk result (AreUnseen 1) }
         ensures complete { IfOk result (IsComplete change.now.run.now 0) }
     {
-        // Its contract tells that the netlist is well formed.
+        // Its contract says that the netlist is well formed.
         let Change { old, run, new, .. } = *change;
         let _old_horizon = old.horizon();
         let span = new.horizon().min(SPAN);
@@ -77,7 +77,7 @@ impl Comparison {
         }
     }
 
-    /// The inputs of a module, if it stands.
+    /// Adds the inputs of a module, if it exists.
     fn note_module(
         &mut self,
         new: &Netlist,
@@ -145,7 +145,7 @@ impl Comparison {
         self.asleep[number as usize] += 1;
     }
 
-    /// Wires that come from the new run alone are tracked, and any other one that is on is listed.
+    /// Tracks the wires whose levels come only from the new run, and lists every other wire that is on.
     fn list_all(&mut self, run: &Run, wires: u32) -> Result<(), AllocError>
         requires wires { wires ≡ length self.old.sources.items }
         requires cursors { HasCursors run.now 0 [] self.old }

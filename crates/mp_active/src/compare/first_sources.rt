@@ -1,4 +1,4 @@
-//! Where the levels of wires come from at time 0.
+//! The sources of wires' levels at time 0.
 ghost use Rattle.std.specs.Prelude.{◌≡◌, ◌↔◌, ℕ, ◌<◌, false, true, IsTrue, IfOk, length, slice_index_or};
 ghost use Rattle.mp_netlist.specs.Drivers.{driver};
 ghost use Rattle.mp_depend.specs.Drivers.{driver_in};
@@ -11,8 +11,8 @@ use mp_depend::{drivers_of, is_set_alike};
 use mp_netlist::{Driver, ModuleId, Netlist, WireId};
 use std::alloc::{AllocError, Global};
 
-/// Where the levels of wires come from, when some modules are active: those of wires that these drive, or that no port drives and that aren't
-/// driven as before, come from the new run. These wires are on.
+/// The wires whose levels don't come from the old run, when some modules are active: those of wires that these drive, or that no port drives and that
+/// aren't driven as before, come from the new run. These wires are on.
 pub(crate) fn first_sources(
     alloc: Global,
     old: &Netlist,
@@ -45,7 +45,7 @@ fn first_source(is_new: bool) -> WireSource
     }
 }
 
-/// Whether the levels of a wire come from the new run alone. The drivers in both netlists are known.
+/// Whether the levels of a wire come only from the new run, given its drivers in both netlists.
 fn is_renewed(
     old: &Netlist,
     new: &Netlist,
@@ -58,7 +58,7 @@ fn is_renewed(
     requires is { is ≡ driver new.now wire.0 }
     ensures { IsTrue result ↔ IsRenewed old.now new.now active.now wire.0 }
 {
-    // Their contracts tell that the netlists are well formed.
+    // Their contracts say that the netlists are well formed.
     let _old_horizon = old.horizon();
     let _horizon = new.horizon();
     match is {

@@ -1,4 +1,4 @@
-//! The run of a netlist is an old one, and what inputs read is counted by port.
+//! Laws of old runs, and of the numbers that inputs read.
 
 ghost use Rattle.mp_active.specs.compare.OldRuns.{RunsAreOld, RunsHaveWaves, RunsEnd};
 ghost use Rattle.mp_active.specs.compare.Reading.{ReadsAreListed};
@@ -10,7 +10,7 @@ pub fn runs_are_old()
     ensures end { RunsEnd }
 {}
 
-/// The ports of a module, of which some may be open, read a number as often as it is among those that its inputs read.
+/// The ports of a module, some of which may be open, read a number as often as it is among the numbers of its inputs.
 pub fn reads_are_listed()
     ensures { ReadsAreListed }
 {}

@@ -81,7 +81,7 @@ fn old_count(run: &Run, wire: u32, delay: u32, near: usize, time: u32) -> usize
     }
 }
 
-/// How many changes of a wave come up to a time. They are looked for near a place, and else among all.
+/// How many changes of a wave come up to a time. They are looked for near a place, and otherwise among all.
 fn count_upto(wave: &Wave, near: usize, time: u32) -> usize
     requires { (k : ℕ) → k < length wave.now.changes → (pair_at wave.now.changes k).0 < 2 ^ 32 - 1 }
     ensures { IsCut time wave.now.changes result }

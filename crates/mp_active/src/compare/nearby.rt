@@ -10,7 +10,7 @@ use mp_wave::{Wave, WaveChanges};
 /// How many changes a long stride passes over, and how many strides are made of each length.
 const STRIDE: usize = 8;
 
-/// How many changes of a wave come up to a time, if they are some few more or fewer than so many.
+/// The number of changes of a wave up to a time, if it is close to `place`.
 pub fn find_near(wave: &Wave, place: usize, time: u32) -> Option<usize>
     ensures { IfSome result (IsCut time wave.now.changes) }
 {

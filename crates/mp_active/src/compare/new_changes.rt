@@ -2,8 +2,8 @@
 
 use mp_kernel::LevelChange;
 
-/// What is known ahead of the next unit of a new run. Of numbers of width 1 those that toggle: wires and copies that modules and wires told of, and
-/// wires that are set. Of numbers with data their levels from then on, likewise.
+/// The known changes of the next unit of a new run. For numbers of width 1 these are the toggles: of wires that modules drive, of copies, and of
+/// wires that are set. For numbers with data they are the new levels, likewise.
 #[derive(Clone, Copy)]
 pub struct NewChanges<'a> {
     pub wires: &'a [u32],

@@ -1,4 +1,4 @@
-//! The numbers that modules read: of wires, and behind them of their delayed copies.
+//! The numbers that modules read: of wires, and after them of their delayed copies.
 ghost use Rattle.std.specs.Prelude.{◌≡◌, ◌≢◌, ℕ, ◌<◌, false, IfOk, length, slice_index_or};
 ghost use Rattle.mp_netlist.specs.Circuit.{wire_at};
 ghost use Rattle.mp_active.specs.compare.Numbering.{AreSources, HasWires, has_data};
@@ -22,7 +22,7 @@ impl Numbers {
     ghost use Rattle.mp_active.specs.compare.Listing.{after};
     ghost use Rattle.mp_active.specs.compare.Numbering.{AreNumbered, AreNumbersOf};
 
-    /// The numbers of a netlist, of which all is known but their delays.
+    /// The numbers of a netlist, given everything but their delays.
     pub fn of(
         alloc: Global,
         netlist: &Netlist,
@@ -64,7 +64,7 @@ impl Numbers {
         self.delays[number as usize]
     }
 
-    /// The number behind a number, if any.
+    /// The number after a number, if any.
     #[inline(always)]
     pub fn after(&self, number: u32) -> Option<u32>
         requires { number < length self.now.next.items }

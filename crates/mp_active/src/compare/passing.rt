@@ -1,4 +1,4 @@
-//! The timer wheel of old changes goes on.
+//! Steps the timer wheel of old changes.
 ghost use Rattle.std.specs.Prelude.{◌≡◌};
 
 use crate::compare::comparison::Comparison;
@@ -37,7 +37,7 @@ impl Comparison {
         Ok(())
     }
 
-    /// A number that comes up has its old change, or is put off. It isn't listed any more where nobody needs its changes to come.
+    /// Handles a number that comes up: it has its old change, or is rearmed. It is cancelled if nobody needs its further changes.
     fn pass(
         &mut self,
         run: &Run,
@@ -78,7 +78,7 @@ impl Comparison {
             || self.is_tracked(number, time)
     }
 
-    /// The wire of a number that has its old change at a time is set, where it follows its old wave.
+    /// The wire of a number that has its old change at a time is set, if it follows its old wave.
     #[inline(always)]
     fn set_wire(
         &self,

@@ -9,7 +9,7 @@ use mp_netlist::Netlist;
 use mp_simulation::{HeardChanges, Stimuli, StimulusChange};
 use std::alloc::{AllocError, Global};
 
-/// What stimuli change, where all is to come, of those wires whose levels come from the new run alone.
+/// The changes, all still to come, by stimuli of wires whose levels come only from the new run.
 pub fn changed_stimuli(
     alloc: Global,
     netlist: &Netlist,
@@ -17,7 +17,7 @@ pub fn changed_stimuli(
 ) -> Result<HeardChanges, AllocError>
     ensures { IfOk result (λ stimuli. AreSetAnew netlist.now (until_in sources.now) 0 (left_of stimuli)) }
 {
-    // Its contract tells that the netlist is well formed.
+    // Its contract says that the netlist is well formed.
     let _horizon = netlist.horizon();
     let all = Stimuli::of(alloc, netlist)?;
     let mut list = Vec::new(alloc);
@@ -27,7 +27,7 @@ pub fn changed_stimuli(
     Ok(HeardChanges { list, place: 0 })
 }
 
-/// Adds a change of a wire whose levels come from the new run alone.
+/// Adds a change of a wire whose levels come only from the new run.
 fn add_changed(
     list: &mut Vec<StimulusChange>,
     change: StimulusChange,

@@ -3,9 +3,8 @@ ghost use Rattle.std.specs.Prelude.{◌≡◌, ◌<◌, ◌^◌, ◌-◌};
 
 use mp_kernel::NEVER;
 
-/// Where the levels of a wire come from. From a time on they are those of the old run: that is `NEVER` while an active module drives the
-/// wire, or where its stimulus has changed, and 0 where the wave is that of the old run. Whether the simulation has the levels of the wire,
-/// which is then on.
+/// The source of a wire's levels. From a time on they are those of the old run: that is `NEVER` while an active module drives the wire, or if its
+/// stimulus has changed, and 0 if the wave is that of the old run. Whether the simulation has the levels of the wire, which is then on.
 #[derive(Clone, Copy, Debug)]
 pub struct WireSource {
     pub until: u32,
@@ -26,7 +25,7 @@ impl WireSource {
         }
     }
 
-    /// A wire that is on. Its levels come from the new run alone.
+    /// A wire that is on, whose levels come only from the new run.
     pub fn renewed() -> WireSource
         ensures { result ≡ renewed }
     {
@@ -36,7 +35,7 @@ impl WireSource {
         }
     }
 
-    /// Whether the wire has its old level at a time, and the simulation has to be told of it.
+    /// Whether the wire has its old level at a time and the simulation needs it.
     #[inline(always)]
     pub fn follows(&self, time: u32) -> bool
         ensures { result ≡ follows self.now time }

@@ -1,4 +1,4 @@
-//! What the excerpt of a netlist has of it, and how a simulation goes from one excerpt to another.
+//! Laws of active subnetlists, and of a simulation that goes from one to another.
 
 ghost use Rattle.mp_active.specs.excerpt.Excerpts.{ExcerptsAreCircuits, ExcerptsHaveLevels, ExcerptsHaveStates, OffWiresRest, ExcerptsHaveDecided, ExcerptsHaveDrivers};
 ghost use Rattle.mp_active.specs.excerpt.Showing.{ShowingSimulates, SimulationsShow};
@@ -9,7 +9,7 @@ ghost use Rattle.mp_active.specs.excerpt.Leaving.{LeavingShows};
 ghost use Rattle.mp_active.specs.excerpt.Activating.{ActivatingShows};
 ghost use Rattle.mp_active.specs.excerpt.Renumbering.{NumbersStay, UnitsShow};
 
-/// Where all ports of active modules are at wires that are on, the excerpt is a netlist.
+/// If all ports of active modules are at wires that are on, the excerpt is a netlist.
 pub fn excerpts_are_circuits()
     ensures { ExcerptsAreCircuits }
 {}
@@ -34,14 +34,14 @@ pub fn excerpts_are_simulated()
     ensures shows { SimulationsShow }
 {}
 
-/// A simulation keeps its numbering where it keeps its rows and what stands next after each number, as it does in a unit.
+/// A simulation keeps its numbering if it keeps its rows and the next copy of each number, as it does in a unit.
 pub fn numbers_stay()
     ensures stay { NumbersStay }
     ensures units { UnitsShow }
 {}
 
-/// At time 0 it doesn't matter which wires are on. A part of a netlist that hears each wire that a module elsewhere drives is the excerpt of
-/// its modules in which all wires are on.
+/// At time 0 it doesn't matter which wires are on. A partition in which each wire that a module elsewhere drives is an inbound wire is the active
+/// subnetlist of its modules with all wires on.
 pub fn starts()
     ensures show { StartsShow }
     ensures simulated { StartsAreSimulated }
@@ -63,7 +63,7 @@ pub fn activating()
     ensures { ActivatingShows }
 {}
 
-/// Modules are put to sleep between two units: the wheels keep nothing of their wires.
+/// If modules are put to sleep between two units, the wheels keep nothing of their wires.
 pub fn leaving()
     ensures { LeavingShows }
 {}

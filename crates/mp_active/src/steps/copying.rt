@@ -73,7 +73,7 @@ fn put_copies(
     Ok(())
 }
 
-/// A copy is to have a change so many units later.
+/// Schedules a change of a copy this many units later.
 fn put_copy(
     simulation: &mut NetlistSimulation,
     has_data: bool,

@@ -1,4 +1,4 @@
-//! What is put into the wheels is what they have to have, and what is taken out of them is what is to go.
+//! Laws of what is put into the wheels and taken out of them.
 
 ghost use Rattle.mp_active.specs.steps.Ahead.{OldChangesAreAhead, SpansJoin, PutsAhead, NoneAhead, RestingHaveNothing};
 ghost use Rattle.mp_active.specs.steps.Activated.{BitModulesActivate, DataModulesActivate};
@@ -17,7 +17,7 @@ pub fn spans_join()
     ensures { SpansJoin }
 {}
 
-/// What is known of a wire is put into the wheels, which have nothing of it before: so it is where its module isn't active.
+/// The known changes of a wire are put into wheels that have none of them, as is the case if its module isn't active.
 pub fn puts_ahead()
     ensures puts { PutsAhead }
     ensures none { NoneAhead }
@@ -50,18 +50,18 @@ pub fn sleeping_leaves()
     ensures { SleepingLeaves }
 {}
 
-/// What is put back into a slot that was emptied is what it has then.
+/// A slot that was emptied has exactly what is put back into it.
 pub fn puts_back()
     ensures toggles { PutsBack }
     ensures levels { PutsLevelsBack }
 {}
 
-/// What is listed of the wires that are taken out is just what the wheels had of them.
+/// The changes listed for the wires that are taken out are exactly those that the wheels had.
 pub fn lists_taken()
     ensures { ListsTaken }
 {}
 
-/// What is taken out where modules leave are the changes of their wires that are decided, each once.
+/// What is taken out if modules leave are the changes of their wires that are decided, each once.
 pub fn takes_tails()
     ensures { TakesTails }
 {}

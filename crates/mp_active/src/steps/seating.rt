@@ -19,7 +19,7 @@ pub fn seat_bits(simulation: &mut NetlistSimulation, number: u32, part: &AnyModu
     simulation.bits.simulator.levels[m] = PortLevels::of(memory);
 }
 
-/// A module with data takes a seat among those with data: the one that it has had before, if any, and else a new one, which is returned.
+/// A module with data takes a seat among those with data: the one that it has had before, if any, and otherwise a new one, which is returned.
 pub fn seat_data(
     simulation: &mut NetlistSimulation,
     number: u32,

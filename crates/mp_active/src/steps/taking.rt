@@ -12,7 +12,8 @@ use mp_kernel::{EventSlot, EventWheel, LevelChange, LevelSlot, LevelWheel, NEVER
 use mp_simulation::{NetlistSimulation, StimulusChange};
 use std::alloc::AllocError;
 
-/// Before the unit of a time, what comes in so many units of wires that no active module drives is taken out of the wheels, and listed.
+/// Before the unit of a time, takes the changes that come within this number of units, of wires that no active module drives, out of the wheels, and
+/// lists them.
 pub fn take_changes(
     simulation: &mut NetlistSimulation,
     sources: &[WireSource],
@@ -86,7 +87,7 @@ fn take_levels(
     Ok(())
 }
 
-/// Of the wires that toggled in a slot, those that stay are put back, and the others listed.
+/// Puts the toggles of a slot that stay back, and lists the others.
 fn put_back_toggles(
     wheel: &mut EventWheel,
     sources: &[WireSource],
@@ -115,7 +116,7 @@ fn put_back_toggles(
     Ok(())
 }
 
-/// Of the changes of a slot, those that stay are put back, and the others listed.
+/// Puts the changes of a slot that stay back, and lists the others.
 fn put_back_levels(
     wheel: &mut LevelWheel,
     sources: &[WireSource],

@@ -55,7 +55,7 @@ pub fn turn_copies_on(
     Ok(())
 }
 
-/// The copy that stands next after a number, if any, and how much later it is.
+/// The next copy after a number, if any, and how much later it is.
 fn next_copy(simulation: &NetlistSimulation, has_data: bool, number: u32) -> OutputPort
     requires { number < length (next_in has_data simulation.now) }
     ensures { result ≡ copy_at (next_in has_data simulation.now) number }

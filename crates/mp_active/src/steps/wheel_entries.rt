@@ -1,4 +1,4 @@
-//! What the simulation knows ahead of wires that modules drive is put into its wheels.
+//! Puts the known changes of wires that modules drive into the wheels.
 ghost use Rattle.std.specs.Prelude.{◌<◌, ◌≤◌, ◌-◌, ◌+◌, ◌∷◌, [], All, OnOk};
 ghost use Rattle.mp_wave.specs.Waveform.{between};
 ghost use Rattle.mp_wave.specs.WaveChanges.{changes_in};
