@@ -1,4 +1,4 @@
-//! A change of a netlist is evaluated again part by part, where the netlist falls into groups of modules that no wire connects.
+//! A change of a netlist is evaluated again part by part, if the netlist falls into groups of modules that no wire connects.
 
 mod changed_part;
 mod driven;

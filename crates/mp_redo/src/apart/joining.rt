@@ -1,11 +1,11 @@
-//! What the parts of a netlist have together, where no wire connects them.
+//! What the parts of a netlist have together, if no wire connects them.
 
 ghost use Rattle.mp_redo.specs.apart.PartWorkSpans.{AllAreWorkSpans, NoneAreBelow, WorkSpansJoin};
 ghost use Rattle.mp_redo.specs.apart.RunSlots.{RunsAreBySlots, RunsKeepStates};
 ghost use Rattle.mp_redo.specs.apart.PartRuns.{RunsHavePartWaves, RunsHavePartEnds, RunsKeepPartStates};
 ghost use Rattle.mp_redo.specs.apart.PartRuns.{PartRunsHaveWaves, PartRunsHaveEnds, PartRunsKeepStates};
 
-/// The work spans of all parts, one part after the other, are the work spans of the netlist, where each part has its least delay.
+/// The work spans of all parts, one part after the other, are the work spans of the netlist, if each part has its least delay.
 pub fn work_spans_join()
     ensures none { NoneAreBelow }
     ensures join { WorkSpansJoin }

@@ -1,4 +1,4 @@
-//! What a part of a netlist has of it.
+//! Laws of the parts of a netlist.
 
 ghost use Rattle.mp_redo.specs.apart.Parts.{DivisionsAreUnconnected, WiresAreEither, UndrivenAreWithin, DrivenAreAtHome};
 ghost use Rattle.mp_redo.specs.apart.Parts.{PartsHavePlaces, PartsHaveWires, PartsHaveModules, PartsHaveNoOthers, PartsAreBySlots};
@@ -7,8 +7,8 @@ ghost use Rattle.mp_redo.specs.apart.PartLevels.{PartsHaveLevels, PartsHaveWaves
 ghost use Rattle.mp_redo.specs.apart.PartLevels.{PartsHaveStates, PartsHaveStatesBefore, PartsHaveInputs};
 ghost use Rattle.mp_redo.specs.apart.PartWork.{PartsAreRevisions, PartsHaveLeastDelay, PartsHaveWindows, PartsHaveWork, OthersDontWork};
 
-/// No wire connects the parts of a division in which none hears of another. A wire that no port drives isn't driven elsewhere, nor is it in
-/// the part of its driver.
+/// No wire connects the parts of a division without inbound wires. A wire that no port drives isn't driven elsewhere, nor is it in the part of its
+/// driver.
 pub fn parts_are_unconnected()
     ensures divisions { DivisionsAreUnconnected }
     ensures either { WiresAreEither }
@@ -25,15 +25,15 @@ pub fn parts_have_slots()
     ensures slots { PartsAreBySlots }
 {}
 
-/// A part is a netlist, in which just those wires have no driver that other parts drive.
+/// A part is a netlist, in which exactly the wires that other parts drive have no driver.
 pub fn parts_are_circuits()
     ensures circuits { PartsAreCircuits }
     ensures drivers { PartsHaveDrivers }
     ensures undriven { OthersAreUndriven }
 {}
 
-/// Where no wire connects the parts, below the horizon the wires of a part have their levels, and its modules their states. A wire that another
-/// part drives stays at its initial level.
+/// If no wire connects the parts, below the horizon the wires of a part have their levels, and its modules their states. A wire that another part
+/// drives stays at its initial level.
 pub fn parts_have_levels()
     ensures levels { PartsHaveLevels }
     ensures waves { PartsHaveWaves }
@@ -44,8 +44,8 @@ pub fn parts_have_levels()
     ensures inputs { PartsHaveInputs }
 {}
 
-/// The parts of a revision are revisions. Where no wire connects the parts and a part has the least delay of the netlist, it has the
-/// windows of the netlist, and in these just the work of the modules that are at home there.
+/// The parts of a revision are revisions. If no wire connects the parts and a part has the least delay of the netlist, it has the windows of the
+/// netlist, and in these exactly the work of its own modules.
 pub fn parts_have_work()
     ensures revisions { PartsAreRevisions }
     ensures least { PartsHaveLeastDelay }

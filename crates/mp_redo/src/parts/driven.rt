@@ -1,4 +1,4 @@
-//! Where what drives a wire is at home.
+//! The part of a wire's driver.
 ghost use Rattle.std.specs.Prelude.{◌≡◌};
 ghost use Rattle.mp_depend.specs.Drivers.{driver_in};
 ghost use Rattle.mp_redo.specs.parts.Drivers.{TellsElsewhere};

@@ -24,11 +24,11 @@ pub(crate) fn part_netlist(
     Ok(found)
 }
 
-/// Removes the module of this number, if it stands.
+/// Removes the module of this number, if it exists.
 fn remove(netlist: &mut Netlist, id: ModuleId) -> Result<(), AllocError>
     ensures { OnOk result (IsWithout netlist.old id.0 netlist.new) }
 {
-    // Its contract tells that the netlist is well formed.
+    // Its contract says that the netlist is well formed.
     let _horizon = netlist.horizon();
     let Some(found) = netlist.module(id) else {
         return Ok(());
@@ -37,7 +37,7 @@ fn remove(netlist: &mut Netlist, id: ModuleId) -> Result<(), AllocError>
     let removal = Edit::Single(SingleEdit::RemoveModule { module });
     match netlist.apply(&removal) {
         Ok(()) => Ok(()),
-        // A module that stands can be removed, and no removal wants memory.
+        // A module that exists can be removed, and no removal takes memory.
         Err(_) => unreachable!(),
     }
 }

@@ -19,8 +19,8 @@ use mp_partition::{Division, divide, partition_of};
 use mp_phase::Crew;
 use std::alloc::{AllocError, Global};
 
-/// The parts of a netlist after a change, none of which hears of another, and what drives each wire of the netlist before. No wire of
-/// either netlist connects modules of two parts.
+/// The parts of a netlist after a change, which have no inbound wires, and the driver of each wire in the netlist before. No wire of either netlist
+/// connects modules of two parts.
 #[derive(Drop)]
 pub(crate) struct Partition {
     pub division: Division,
@@ -30,7 +30,7 @@ pub(crate) struct Partition {
 /// A netlist of more modules isn't copied for each part.
 const MOST_COPIED: u32 = 65_536;
 
-/// The parts in which a change is evaluated again by the threads of a crew: none where one thread does it as well.
+/// The parts in which a change is evaluated again by the threads of a crew: none if one thread does it as well.
 pub(crate) fn choose_partition(
     alloc: Global,
     old: &Netlist,
@@ -55,8 +55,8 @@ pub(crate) fn choose_partition(
     checked(alloc, old, new, division)
 }
 
-/// Whether so many modules, reached at once, are worth a division: at least two for each worker, and so many that their units up to the
-/// horizon outweigh the modules that are copied for it.
+/// Whether this number of modules, reached at once, is worth a division: at least two for each worker, and enough that their units up to the horizon
+/// outweigh the modules that are copied for it.
 fn are_many(reached: usize, new: &Netlist, crew: &Crew) -> bool {
     let wanted = crew.least().min(crew.count().saturating_mul(2)) as usize;
     let units = reached.saturating_mul(new.horizon() as usize);
@@ -74,7 +74,7 @@ fn checked(
     requires { IsDivision new.now division.homes.items division.wires.items division.heard.items division.parts }
     ensures { IfOk result (λ found. IfSome found (IsPartition old.now new.now)) }
 {
-    // Their contracts tell that the netlists are well formed.
+    // Their contracts say that the netlists are well formed.
     let _old_horizon = old.horizon();
     let _new_horizon = new.horizon();
     if !hears_nothing(&division) {
@@ -94,7 +94,7 @@ fn checked(
     }))
 }
 
-/// Whether no part hears of another.
+/// Whether no part has inbound wires.
 fn hears_nothing(division: &Division) -> bool
     ensures { result ≡ true → division.now.heard.items ≡ [] }
 {

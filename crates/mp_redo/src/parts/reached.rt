@@ -24,7 +24,7 @@ pub(crate) fn first_reached(
     Ok(reached)
 }
 
-/// A mark for each wire on which something else is set. No marks where there is none.
+/// A mark for each wire on which something else is set. No marks if there is none.
 fn set_otherwise(alloc: Global, old: &Netlist, new: &Netlist) -> Result<Vec<bool>, AllocError> {
     let mut marks = Vec::new(alloc);
     let mut any = false;

@@ -22,10 +22,10 @@ use std::alloc::{AllocError, Global};
 use std::sync::Wait;
 use std::thread::Threads;
 
-/// The run of a netlist that was made of another, by the run of that one; and what of it was evaluated. Where the change reaches many
-/// modules at once, and both netlists fall into the same parts that no wire connects, each part is evaluated again on a thread of its own.
-/// Else the calling thread does all, but for the modules that begin to work in the same unit, which the threads of the crew share. A module
-/// passes the gate for each entry of the work. Where memory runs out, the old run stays.
+/// The run of a netlist after an edit, from the run before it, and the work of it. If the change reaches many modules at once, and both netlists fall
+/// into the same parts that no wire connects, each part is evaluated again on a thread of its own. Otherwise the calling thread does all, but for the
+/// modules that begin to work in the same unit, which the threads of the crew share. A module passes the gate for each entry of the work. If memory
+/// runs out, the old run stays.
 pub fn redo<R: Threads + Wait + Sync, G: Gate + Sync>(
     context: &RerunContext<'_, R, G>,
     old: &Netlist,
@@ -38,7 +38,7 @@ pub fn redo<R: Threads + Wait + Sync, G: Gate + Sync>(
     ensures run { IfOk result (λ both. IsRun new.now both.0) }
     ensures work { IfOk result (λ both. IsWork old.now new.now both.1) }
 {
-    // Their contracts tell that the netlists are well formed.
+    // Their contracts say that the netlists are well formed.
     let _old_horizon = old.horizon();
     let _new_horizon = new.horizon();
     let Some(partition) = choose_partition(context.alloc, old, new, context.crew)? else {

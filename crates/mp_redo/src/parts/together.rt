@@ -48,7 +48,7 @@ pub(crate) fn redo_together<R: Threads + Wait + Sync, G: Gate + Sync>(
     all_of(alloc, redone)
 }
 
-/// What is made of all parts, where memory didn't run out in any.
+/// What is made of all parts, if memory didn't run out in any.
 fn all_of(alloc: Global, redone: Vec<Result<Redone, AllocError>>) -> Result<Vec<Redone>, AllocError>
     ensures { IfOk result (λ parts. AreDone (λ one part. one ≡ Ok part) redone.items parts.items) }
 {

@@ -65,7 +65,7 @@ fn whole_wave(
     parts[part as usize].run.waves().shared(wire)
 }
 
-/// The part whose modules drive a wire of the new netlist, or the first, where no port does.
+/// The part whose modules drive a wire of the new netlist, or the first, if no port does.
 fn part_of_wire(change: &PartsChange<'_>, wire: WireId) -> u32
     requires { IsChange change.now }
     ensures low { result < change.now.partition.now.division.parts }
@@ -121,7 +121,7 @@ fn whole_checkpoints(
     Ok(kept)
 }
 
-/// The states of a module before the checkpoints, if it stands.
+/// The states of a module before the checkpoints, if it exists.
 fn whole_checkpoint(
     change: &PartsChange<'_>,
     parts: &[Redone],

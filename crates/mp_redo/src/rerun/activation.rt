@@ -29,8 +29,8 @@ impl Rerun {
     ghost use Rattle.mp_redo.specs.rerun.Returning.{HasReturned, IsToldAwake};
     ghost use Rattle.mp_redo.specs.rerun.Waking.{HasWoken, HaveWoken};
 
-    /// The modules that join become active before the unit of a time. Each passes the gate for all from its block's begin to the end of its
-    /// window, on the threads of the crew where they answer once more for units of the block and are as many as it shares out.
+    /// The modules that join become active before the unit of a time. Each passes the gate for all from its block's begin to the end of its window,
+    /// on the threads of the crew if they answer once more for units of the block and are as many as it shares out.
     pub(crate) fn activate_all<R: Threads + Wait + Sync, G: Gate + Sync>(
         &mut self,
         context: &RerunContext<'_, R, G>,
@@ -180,7 +180,7 @@ impl Rerun {
         Ok(())
     }
 
-    /// After the unit of a time a module, which the simulation has as active, is told to be so.
+    /// Marks a module as active after the unit of a time; it is active in the simulation already.
     fn tell_awake(
         &mut self,
         change: &Change<'_>,

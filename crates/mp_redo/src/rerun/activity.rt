@@ -2,8 +2,8 @@
 
 use mp_netlist::ModuleId;
 
-/// Of each module whether it is active, whether it is touched, and its place among the modules with data, where it has had one. Modules that
-/// become active in the present unit are listed, and those that have in the present window.
+/// Of each module whether it is active, whether it is touched, and its place among the modules with data, if it has had one. Modules that become
+/// active in the present unit are listed, and those that have in the present window.
 #[derive(Drop)]
 pub(crate) struct Activity {
     pub active: Vec<bool>,

@@ -63,8 +63,8 @@ impl Rerun {
         Ok(())
     }
 
-    /// Lists the active modules that weren't touched and are in the state of the old run before a border. Each other one that is listed as
-    /// active works on behind it.
+    /// Lists the active modules that weren't touched and are in the state of the old run before a border. All other active modules continue to work
+    /// after it.
     fn find_leaving(
         &self,
         change: &Change<'_>,
@@ -110,7 +110,7 @@ impl Rerun {
         is_old_state(change.run, id, time, self.simulation.memory(id.0))
     }
 
-    /// Whether a module stands and is active.
+    /// Whether a module exists and is active.
     pub(crate) fn is_at_work(&self, change: &Change<'_>, id: ModuleId) -> bool
         ensures { IsTrue result ↔ (IsSome (module_at change.now.new.now id.0) × (active_of self.now id.0 ≡ true)) }
     {

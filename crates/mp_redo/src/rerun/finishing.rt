@@ -34,8 +34,8 @@ impl Rerun {
     ghost use Rattle.mp_redo.specs.rerun.Reruns.{IsChange};
     ghost use Rattle.mp_redo.specs.rerun.Settling.{HasEnded};
 
-    /// The run and all work spans of work, where all units before an end are over. From then on the rest is that of the old run. What is the
-    /// old run's is shared.
+    /// The run and all work spans of work, if all units before an end are over. From then on the rest is that of the old run. What is the old run's
+    /// is shared.
     pub(crate) fn finish(
         self,
         alloc: Global,
@@ -69,8 +69,7 @@ impl Rerun {
     }
 }
 
-/// What a re-evaluation leaves: the simulation, where the levels of each wire come from, which modules are active, and what was kept on the
-/// way.
+/// What a re-evaluation leaves: the simulation, if the levels of each wire come from, which modules are active, and what was kept on the way.
 #[derive(Drop)]
 struct Remains {
     simulation: NetlistSimulation,
@@ -97,7 +96,7 @@ fn remains_of(rerun: Rerun) -> Remains
     }
 }
 
-/// The last state of each module that stands.
+/// The last state of each module that exists.
 fn all_ends(
     alloc: Global,
     change: &Change<'_>,
@@ -115,7 +114,7 @@ fn all_ends(
     Ok(ends)
 }
 
-/// The last state of a module that stands: that in the simulation, where it is active, and else that of the old run.
+/// The last state of a module that exists: that of the simulation if the module is active, and otherwise that of the old run.
 fn last_state(
     change: &Change<'_>,
     simulation: &NetlistSimulation,
@@ -134,7 +133,7 @@ fn last_state(
     Some(simulation.memory(id.0))
 }
 
-/// The wave of each wire that stands.
+/// The wave of each wire that exists.
 fn all_waves(
     alloc: Global,
     change: &Change<'_>,
@@ -161,7 +160,7 @@ fn all_waves(
     Ok(found)
 }
 
-/// From when on the wave of a wire is that of the old run, where units from an end on weren't gone through.
+/// From when on the wave of a wire is that of the old run, if units from an end on weren't gone through.
 fn old_from(source: WireSource, end: u32) -> u32
     ensures { result ≡ old_from source.until end }
 {
@@ -171,8 +170,8 @@ fn old_from(source: WireSource, end: u32) -> u32
     source.until.max(end)
 }
 
-/// The wave of a wire that stands: that of the old run, where this gives all its levels, and else that in the simulation, which may go on
-/// with that of the old run from a time on.
+/// The wave of a wire that exists: that of the old run if it has all its levels, and otherwise that of the simulation, which the old run's may
+/// continue from a time on.
 fn wave_in(
     alloc: Global,
     change: &Change<'_>,
@@ -201,7 +200,7 @@ fn wave_in(
     }
 }
 
-/// The wave of a wire that stands: one that was shown, or that before a time, and from then on that of the old run.
+/// The wave of a wire that exists: the given wave, or that wave before a time and the old run's from then on.
 fn whole_wave(
     alloc: Global,
     change: &Change<'_>,
@@ -222,7 +221,7 @@ fn whole_wave(
     spliced_wave(alloc, &shown, from, change.run, wire, horizon)
 }
 
-/// The wave that a simulation has of a wire: by its toggles, if it has width 1, and else the one that was built.
+/// The wave that a simulation has of a wire: by its toggles, if it has width 1, and otherwise the one that was built.
 fn shown_wave(
     found: &WireRecord,
     toggles: Option<ToggleWave>,

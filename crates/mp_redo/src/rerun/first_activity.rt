@@ -39,7 +39,7 @@ pub(crate) fn first_activity(
     })
 }
 
-/// So many marks, of which those of some modules are set.
+/// This number of marks, of which those of the given modules are set.
 fn marks_of(alloc: Global, count: u32, ids: &[ModuleId]) -> Result<Vec<bool>, AllocError>
     ensures places { IfOk result (λ marks. length marks.items ≡ count) }
     ensures marked { IfOk result (λ marks. (m : ℕ) → is_marked marks.items m ≡ true → Contains ids.now (record { 0 = m })) }

@@ -32,7 +32,7 @@ pub(crate) fn first_simulation(
 ) -> Result<First, AllocError>
     ensures { IfOk result (λ first. IsFirst new.now (is_marked active.now) first) }
 {
-    // Its contract tells that the netlist is well formed.
+    // Its contract says that the netlist is well formed.
     let _horizon = new.horizon();
     let whole = Region::whole(new);
     let layout = Layout::of(alloc, &whole)?;

@@ -7,7 +7,7 @@ use mp_kernel::LevelChange;
 use mp_simulation::StimulusChange;
 use std::alloc::AllocError;
 
-/// Lists what changes at a time, from a place on, and gives the place behind.
+/// Lists the changes at a time, from a place on, and returns the place after them.
 pub(crate) fn list_due(
     list: &[StimulusChange],
     from: usize,

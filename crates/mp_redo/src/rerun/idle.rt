@@ -36,7 +36,7 @@ impl Rerun {
     ghost use Rattle.mp_redo.specs.rerun.Windows.{IsAtWindow};
     ghost use Rattle.mp_depend.specs.work.Work.{block_of, window_of};
 
-    /// Whether nothing changes in the unit of a time: nothing is set in it, and nothing is known ahead of it.
+    /// Whether nothing changes in the unit of a time: nothing is set in it, and no change is scheduled for it.
     #[inline(always)]
     pub(crate) fn is_still(&self, change: &Change<'_>, time: u32) -> bool
         requires some { 0 < time }
@@ -47,7 +47,7 @@ impl Rerun {
         self.simulation.is_still() && self.is_unset(change, time)
     }
 
-    /// Whether nothing is set in the unit of a time, and no module that sleeps hears of what changes in it.
+    /// Whether nothing is set in the unit of a time, and no sleeping module sees a change in it.
     #[inline(always)]
     pub(crate) fn is_quiet(&self, change: &Change<'_>, time: u32) -> bool
         requires change { IsChange change.now }
@@ -88,7 +88,7 @@ impl Rerun {
         self.comparison.tracks_none(wires, time) && self.comparison.tracks_none(copies, time)
     }
 
-    /// Whether nothing is set in the unit of a time: no number comes up, and nothing is set anew.
+    /// Whether nothing is set in the unit of a time: no number comes up, and no changed stimulus sets anything.
     #[inline(always)]
     fn is_unset(&self, change: &Change<'_>, time: u32) -> bool
         requires some { 0 < time }
@@ -129,7 +129,7 @@ impl Rerun {
         self.set.levels.clear();
     }
 
-    /// Where no module is active, the last time at which a window begins, or the horizon, and before which, from a time on, nothing happens; else
+    /// If no module is active, the last time at which a window begins, or the horizon, and before which, from a time on, nothing happens; otherwise
     /// that time. As all slots of the timer wheel are looked at, it isn't done at each window.
     pub(crate) fn idle_end(&mut self, change: &Change<'_>, from: u32) -> u32
         requires change { IsChange change.now }
@@ -158,7 +158,8 @@ impl Rerun {
         last_begin(change, time)
     }
 
-    /// Whether it is worth looking ahead at a time, nobody is active, nothing is under way in the simulation, and nothing is set anew then.
+    /// Whether it is worth looking ahead at a time, no module is active, no change is scheduled in the simulation, and no changed stimulus sets
+    /// anything then.
     fn is_idle(&self, time: u32) -> bool
         ensures nobody { IsTrue result → self.now.recorder.live.items ≡ [] }
         ensures rest { IsTrue result → IsAtRest self.now.simulation }

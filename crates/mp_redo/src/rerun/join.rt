@@ -10,8 +10,8 @@ use mp_response::{InPiece, respond};
 use std::alloc::{AllocError, Global};
 use std::sync::Wait;
 
-/// What a module does from one time to before another, from its state before the first, where its input ports have these pieces. Its
-/// first entry of work lasts to the end of a window, for which it passes the gate.
+/// What a module does from one time to before another, from its state before the first, if its input ports have these pieces. Its first entry of work
+/// lasts to the end of a window, for which it passes the gate.
 #[derive(Drop)]
 pub(crate) struct Join {
     pub module: ModuleId,

@@ -25,7 +25,7 @@ impl Rerun {
     ghost use Rattle.mp_redo.specs.rerun.Joining.{AreJoining, HasLooked, AreDeparting};
     ghost use Rattle.mp_redo.specs.rerun.Reruns.{IsChange, IsRerunAt, active_of};
 
-    /// Lists the modules that sleep, and that hear something else in the unit of a time than in the old run.
+    /// Lists the sleeping modules with an input that changes otherwise in the unit of a time than in the old run.
     pub(crate) fn find_joining(&mut self, change: &Change<'_>, time: u32) -> Result<(), AllocError>
         requires change { IsChange change.now }
         requires some { 0 < time }

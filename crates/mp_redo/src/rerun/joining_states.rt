@@ -21,9 +21,9 @@ impl Rerun {
     ghost use Rattle.mp_redo.specs.rerun.Reruns.{IsChange};
     ghost use Rattle.mp_redo.specs.rerun.Tasks.{AreKept, IsOldState};
 
-    /// The states in the old run, before the unit of a time, of the modules that join. Each passes the gate for all from its block's begin to
-    /// the end of the window. Where the block begins before the unit, modules answer once more up to it, on the threads of the crew where
-    /// they are as many as it shares out.
+    /// The states in the old run, before the unit of a time, of the modules that join. Each passes the gate for all from its block's begin to the end
+    /// of the window. If the block begins before the unit, modules answer once more up to it, on the threads of the crew if they are as many as it
+    /// shares out.
     pub(crate) fn joining_states<R: Threads + Wait + Sync, G: Gate + Sync>(
         &self,
         context: &RerunContext<'_, R, G>,
@@ -45,7 +45,7 @@ impl Rerun {
         states_by(context, tasks)
     }
 
-    /// The states that the old run kept of the modules that join, where a block begins with the unit.
+    /// The states that the old run kept of the modules that join, if a block begins with the unit.
     fn kept_states<R: Wait, G: Gate>(
         &self,
         context: &RerunContext<'_, R, G>,

@@ -20,8 +20,8 @@ use mp_response::{Piece, respond};
 use mp_wave::{Wave, WaveBuilder};
 use std::alloc::{AllocError, Global};
 
-/// The wave of an output's wire in the old run from the unit before the horizon on, as far as it rests on states up to the unit of a time: it
-/// goes on where the run has ended.
+/// The wave of an output's wire in the old run from the unit before the horizon on, as far as it rests on states up to the unit of a time: it goes on
+/// if the run has ended.
 pub(crate) fn last_wave(
     alloc: Global,
     change: &Change<'_>,
@@ -72,7 +72,7 @@ fn last_piece(
     Ok(piece)
 }
 
-/// The level of an output's wire at a time in the old run, and 0 where it has none.
+/// The level of an output's wire at a time in the old run, and 0 if it has none.
 fn old_level(run: &Run, output: Output, time: u32) -> u64
     ensures { (w : ℕ) → output.wire ≡ Some (record { 0 = w }) → result ≡ level_of (old_wave run.now w) time }
 {
@@ -85,7 +85,7 @@ fn old_level(run: &Run, output: Output, time: u32) -> u64
     }
 }
 
-/// A wave goes on with changes that come so much later.
+/// Continues a wave with these changes, each later by the delay.
 fn hold_later(wave: &mut WaveBuilder, changes: &[(u32, u64)], delay: u32) -> Result<(), AllocError>
     requires { AreTimesIn wave.old.next (2 ^ 32 - 1) (put_off delay changes.now) }
     ensures { OnOk result (wave.new ≡ held_all wave.old (put_off delay changes.now)) }

@@ -82,7 +82,7 @@ fn old_piece(
     }
 }
 
-/// A wave from one time to before another, as an input hears it so many units later.
+/// The part of a wave from one time to before another, as an input with this delay sees it.
 fn cut_wave(
     alloc: Global,
     wave: &Wave,
@@ -93,7 +93,7 @@ fn cut_wave(
     requires { from < to }
     ensures { IfOk result (λ piece. (t : ℕ) → from ≤ t → t < to → piece_level piece t ≡ level_of wave.now (t - delay)) }
 {
-    // Its contract tells that the wave is in form.
+    // Its contract says that the wave is in form.
     let _initial = wave.initial();
     cut_delayed(alloc, wave, delay, from, to)
 }

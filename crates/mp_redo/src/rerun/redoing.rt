@@ -18,12 +18,11 @@ use std::alloc::AllocError;
 use std::sync::Wait;
 use std::thread::Threads;
 
-/// The run of a netlist that was made of another, by the run of that one; and the work spans of the work, in no order. One simulation of the new
-/// netlist has just the active modules: those that the change touches from time 0 on, and any other from the unit on in which one of its inputs
-/// first differs from the old run. At the border of a block an untouched module whose state is that of the old run again becomes inactive. A
-/// module passes the gate for each entry of the work. Modules that become active in the same unit answer once more from their block's begin up to
-/// it on the threads of the crew, where they are as many as it shares out. The calling thread does all else. Where memory runs out, the old
-/// run stays.
+/// The run of a netlist after an edit, from the run before it, and the work spans of its work, in any order. One simulation of the new netlist has
+/// only the active modules: those that the change touches from time 0 on, and any other from the unit on in which one of its inputs first differs
+/// from the old run. At the border of a block an untouched module whose state is that of the old run again becomes inactive. A module passes the gate
+/// for each entry of the work. Modules that become active in the same unit answer once more from their block's begin up to it on the threads of the
+/// crew, if they are as many as it shares out. The calling thread does all else. If memory runs out, the old run stays.
 pub fn redo<R: Threads + Wait + Sync, G: Gate + Sync>(
     context: &RerunContext<'_, R, G>,
     old: &Netlist,
@@ -57,7 +56,7 @@ fn run_again<R: Threads + Wait + Sync, G: Gate + Sync>(
     Ok(both)
 }
 
-/// The change of a netlist, of which this is the run, to a new one.
+/// The change from a netlist with this run to a new netlist.
 fn change_between<'a>(old: &'a Netlist, run: &'a Run, new: &'a Netlist) -> Change<'a>
     requires revision { IsRevision old.now new.now }
     requires run { IsRun old.now run.now }
@@ -65,7 +64,7 @@ fn change_between<'a>(old: &'a Netlist, run: &'a Run, new: &'a Netlist) -> Chang
     ensures old { result.old.now ≡ old.now }
     ensures new { result.new.now ≡ new.now }
 {
-    // Their contracts tell that the netlists are well formed.
+    // Their contracts say that the netlists are well formed.
     let _old_horizon = old.horizon();
     let _new_horizon = new.horizon();
     let least = new.least_delay();

@@ -18,7 +18,7 @@ impl Rerun {
     ghost use Rattle.mp_redo.specs.rerun.Reruns.{IsChange};
     ghost use Rattle.mp_redo.specs.rerun.Resting.{HasRested};
 
-    /// The state of a module before the unit of a time in the old run: that at its block's begin where its inputs have rested since then.
+    /// The state of a module before the unit of a time in the old run: that at its block's begin if its inputs have rested since then.
     pub(crate) fn joining_state(
         &self,
         alloc: Global,
@@ -73,7 +73,7 @@ impl Rerun {
         }
     }
 
-    /// A place near which the old changes of a number are that come next. It is exact where the number is listed, and else where it was last.
+    /// A place near the next old change of a number. It is exact if the number is armed, and otherwise the last known place.
     pub(crate) fn near_place(&self, number: u32) -> usize {
         match self.comparison.places.get(number as usize) {
             Some(place) => *place as usize,

@@ -1,4 +1,4 @@
-//! A module that sleeps takes its place in the simulation again, and what is known of its wires is put back into the wheels.
+//! Wakes modules: a sleeping module takes its place in the simulation again, and the known changes of its wires go back into the wheels.
 ghost use Rattle.std.specs.Prelude.{◌≡◌, ℕ, ◌+◌, ◌-◌, ◌≤◌, ◌++◌, ◌∷◌, [], drop, OnOk};
 ghost use Rattle.mp_wave.specs.Waveform.{between};
 ghost use Rattle.mp_active.specs.steps.Putting.{HasPut, entries_of, room};
@@ -185,8 +185,7 @@ impl Rerun {
     }
 }
 
-/// After the unit of a time, a wire is to have the changes that it had in the old run later than one time and earlier than another. Mostly there
-/// are none, which is told by those near a place.
+/// Schedules, after the unit of a time, a wire's changes in the old run between two times. Mostly there are none, which a look near a place shows.
 fn put_near_changes(
     simulation: &mut NetlistSimulation,
     wire: OldWire<'_>,
@@ -205,7 +204,7 @@ fn put_near_changes(
     put_old_changes(simulation, wire, from, to, now)
 }
 
-/// Of the changes from a place on, those of a wire are put into the wheels after the unit of a time, and the others listed.
+/// Puts those changes from a place on that are of this wire into the wheels after the unit of a time, and lists the others.
 fn put_tail(
     simulation: &mut NetlistSimulation,
     list: &[StimulusChange],
@@ -224,7 +223,7 @@ fn put_tail(
     Ok(())
 }
 
-/// A change of a wire is put into the wheels after the unit of a time, and one of another wire is listed.
+/// Puts a change of this wire into the wheels after the unit of a time, and lists a change of another wire.
 fn put_or_keep(
     simulation: &mut NetlistSimulation,
     change: StimulusChange,

@@ -1,4 +1,4 @@
-//! A re-evaluation of which the rest is that of the old run.
+//! Whether the rest of a re-evaluation is that of the old run.
 ghost use Rattle.std.specs.Prelude.{◌≡◌, ◌-◌, ◌^◌, [], drop, IsTrue};
 ghost use Rattle.mp_wave.specs.Waveform.{between};
 ghost use Rattle.mp_netlist.specs.Circuit.{stimulus_at};
@@ -19,8 +19,8 @@ impl Rerun {
     ghost use Rattle.mp_redo.specs.rerun.Settling.{IsOver, IsSettled};
     ghost use Rattle.mp_redo.specs.rerun.Windows.{IsAtWindow};
 
-    /// Whether the rest is that of the old run from a time on, at which a window begins: nobody is active, nobody joins later, and no change
-    /// is to come that the old run doesn't have. As all numbers are looked at, it is asked at the borders of blocks alone.
+    /// Whether the rest is that of the old run from a time on, at which a window begins: no module is active, none becomes active later, and no
+    /// change is to come that the old run doesn't have. This looks at all numbers, so it is asked only at checkpoints.
     pub(crate) fn is_settled(&self, change: &Change<'_>, time: u32) -> bool
         requires some { 0 < time }
         requires below { time < 2 ^ 32 - 1 }
@@ -94,14 +94,14 @@ impl Rerun {
     }
 }
 
-/// Whether a place is behind all changes.
+/// Whether a place is after all changes.
 fn is_past(changes: &[StimulusChange], place: usize) -> bool
     ensures { IsTrue result → drop place changes.now ≡ [] }
 {
     place >= changes.len()
 }
 
-/// Whether the stimulus of a wire, if it has one, changes it up to a time alone.
+/// Whether the stimulus of a wire, if there is one, changes it only up to a time.
 fn is_set_up_to(new: &Netlist, wire: WireId, last: u32) -> bool
     ensures { IsTrue result → IsSetUpTo last (stimulus_at new.now wire.0) }
 {

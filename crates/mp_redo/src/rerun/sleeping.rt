@@ -45,8 +45,8 @@ impl Rerun {
         Ok(())
     }
 
-    /// A module falls asleep before the unit of a time, and its work span of work ends. It returns the longest delay of its outputs, or 0 where
-    /// it sleeps already.
+    /// A module falls asleep before the unit of a time, and its work span of work ends. It returns the longest delay of its outputs, or 0 if it
+    /// sleeps already.
     fn leave_one(&mut self, change: &Change<'_>, id: ModuleId, time: u32) -> Result<u32, AllocError>
         requires places { length self.old.activity.active.items ≡ length change.now.new.now.modules }
         requires can { (r : Part) → module_at change.now.new.now id.0 ≡ Some r → active_of self.old id.0 ≡ true → CanFallAsleep change.now.run.now id.0 time r self.old }
@@ -86,7 +86,7 @@ impl Rerun {
         Ok(())
     }
 
-    /// What the wheels have within so many units of wires that no active module drives are tails from now on.
+    /// Moves the changes that the wheels have within this number of units, of wires that no active module drives, to the pending outputs.
     fn take_tails(&mut self, units: u32, time: u32) -> Result<(), AllocError>
         requires { time + units < 2 ^ 32 }
         ensures { OnOk result (HasTakenTails units time self.old self.new) }

@@ -41,7 +41,7 @@ fn follow_run(
     requires some { from < to }
     ensures { OnOk result (IsUpTo (switched from (level_of built.old.wave) (level_of (old_wave run.now wire.0))) to built.new) }
 {
-    // Its contract tells that what was built is in form.
+    // Its contract says that what was built is in form.
     let _next = built.next_time();
     match run.wave(wire) {
         Some(wave) => follow(built, wave, from, to),
@@ -55,7 +55,7 @@ fn follow(built: &mut WaveBuilder, wave: &Wave, from: u32, to: u32) -> Result<()
     requires some { from < to }
     ensures { OnOk result (IsUpTo (switched from (level_of built.old.wave) (level_of wave.now)) to built.new) }
 {
-    // Its contract tells that what was built is in form.
+    // Its contract says that what was built is in form.
     let _next = built.next_time();
     built.push_level(from, wave.level_at(from))?;
     hold_all(built, wave.changes_between(from, to))

@@ -77,7 +77,7 @@ pub(crate) fn tasks_of(
     Ok(tasks)
 }
 
-/// The states to which the tasks come: on the threads of the crew where there are as many as it shares out, and else on the calling thread.
+/// The states to which the tasks come: on the threads of the crew if there are as many as it shares out, and otherwise on the calling thread.
 pub(crate) fn states_by<R: Threads + Wait + Sync, G: Gate + Sync>(
     context: &RerunContext<'_, R, G>,
     tasks: Vec<Join>,

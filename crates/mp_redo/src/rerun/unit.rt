@@ -19,8 +19,8 @@ impl Rerun {
     ghost use Rattle.mp_redo.specs.rerun.Windows.{IsUnderWay};
     ghost use Rattle.mp_depend.specs.work.Work.{IsEntry};
 
-    /// Goes through the unit of a time, which lies in the present window: modules become active that hear something else than in the old run,
-    /// wires change that no active module drives, and active modules answer.
+    /// Runs the unit of a time in the present window: modules whose inputs differ from the old run become active, wires that no active module drives
+    /// change, and active modules answer.
     pub(crate) fn pass_unit<R: Threads + Wait + Sync, G: Gate + Sync>(
         &mut self,
         context: &RerunContext<'_, R, G>,

@@ -50,8 +50,7 @@ impl Rerun {
         Ok(horizon)
     }
 
-    /// What follows the units before a time. Where a window ends there, the next one begins: then, or, where nothing happens for a while, at a
-    /// later time.
+    /// What follows the units before a time. If a window ends there, the next one begins: then, or, if nothing happens for a while, at a later time.
     fn look_ahead<R: Wait, G: Gate>(
         &mut self,
         rt: &R,
@@ -102,7 +101,7 @@ impl Rerun {
         Ok(())
     }
 
-    /// A window begins at a time, and a block where that does. The modules that go on being active pass the gate.
+    /// A window begins at a time, and a block if that does. The modules that go on being active pass the gate.
     fn begin_window<R: Wait, G: Gate>(
         &mut self,
         rt: &R,
@@ -125,7 +124,7 @@ impl Rerun {
         Ok(())
     }
 
-    /// Where a block begins at a time, its border is crossed.
+    /// If a block begins at a time, its border is crossed.
     fn begin_block(&mut self, change: &Change<'_>, time: u32) -> Result<(), AllocError>
         requires change { IsChange change.now }
         requires some { 0 < time }
