@@ -11,8 +11,7 @@ use std::alloc::Global;
 use std::marker::Model;
 use std::sync::Arc;
 
-/// An edit that a session accepts after just the edits that it was prepared after, the version to which it leads with its run, and the work
-/// of it.
+/// An edit that a session accepts exactly after the edits after which it was prepared, with the version and the run that it leads to, and its work.
 #[derive(Drop)]
 pub struct Prepared {
     pub(crate) before: Arc<Version, Global>,

@@ -15,9 +15,9 @@ use std::marker::Model;
 use std::sync::{Arc, Wait};
 use std::thread::Threads;
 
-/// A netlist and the edits that were accepted on it: its present version with its run, a crew, and the gate that modules pass, which any module
-/// may enter. The first run is computed on the threads of the crew. An edit's run is computed from the run before it, by the crew where it
-/// reaches much in parts that no wire connects.
+/// A netlist and the edits that were accepted on it: its present version with its run, a crew, and the gate that modules pass, which any module may
+/// enter. The first run is computed on the threads of the crew. An edit's run is computed from the run before it, by the crew if it reaches much in
+/// parts that no wire connects.
 #[derive(Drop)]
 pub struct Session<G: Gate> {
     alloc: Global,
@@ -98,9 +98,9 @@ impl<G: Gate> Session<G> {
         &self.last_work
     }
 
-    /// Judges the edit after the session's edits, and makes all that its commit needs. It is refused for the first check that it fails;
-    /// else as `HistoryFull` after `MAX_EDITS` edits; else for want of memory, which for a batch of 1 to 256 edits may come in place of the
-    /// others. It may wait, as a gate may.
+    /// Judges the edit after the session's edits, and makes all that its commit needs. It is refused for the first check that it fails; otherwise as
+    /// `HistoryFull` after `MAX_EDITS` edits; otherwise for lack of memory, which for a batch of 1 to 256 edits may come in place of the others. It
+    /// may wait, as a gate may.
     pub fn prepare<R: Threads + Wait + Sync>(
         &self,
         rt: &R,
@@ -167,7 +167,7 @@ impl<G: Gate> Session<G> {
         Ok(())
     }
 
-    /// The netlist after the edit, where it is accepted.
+    /// The netlist after the edit, if it is accepted.
     fn next(&self, edit: &Edit) -> Result<Netlist, EditError>
         ensures ok { IfOk result (λ next. after (present self.now.story) edit.now ≡ Ok next) }
         ensures refused { IfErr result (RefusedBy edit.now (judged self.now.story edit.now)) }
@@ -179,8 +179,7 @@ impl<G: Gate> Session<G> {
         self.version.now().after(edit)
     }
 
-    /// Why the edit is refused after as many edits as a session may have: for its own fault, where it has one. A batch is judged whole for
-    /// that.
+    /// Why the edit is refused after as many edits as a session may have: for its own fault, if it has one. A batch is judged whole for that.
     fn refusal_when_full(&self, edit: &Edit) -> EditError
         requires { max_edits ≤ length self.now.story.edits }
         ensures { RefusedBy edit.now (judged self.now.story edit.now) result }
