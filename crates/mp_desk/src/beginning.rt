@@ -21,8 +21,8 @@ pub(crate) struct Beginning<R: Wait + Drop> {
     pub viewers: Vec<Pass>,
 }
 
-/// Begins a history with this version, for a desk of this size. `OutOfMemory` where memory is wanting, and `NoPlace` where there is memory,
-/// but no place for a reader.
+/// Begins a history with this version, for a desk of this size. `OutOfMemory` if memory runs out, and `NoPlace` if there is memory, but no place for
+/// a reader.
 pub(crate) fn begin<R: Wait + Drop>(
     rt: R,
     alloc: Global,
@@ -36,7 +36,7 @@ pub(crate) fn begin<R: Wait + Drop>(
 {
     let for_designers = Vec::with_capacity(alloc, size.designers)?;
     let for_viewers = Vec::with_capacity(alloc, size.viewers)?;
-    // A history that nobody else has can be begun, so want of memory is the only error.
+    // A history that nobody else holds can be begun, so lack of memory is the only error.
     let writer = begun(version).ok_or(AllocError)?;
     let readers = size.designers + size.viewers;
     let mut publication = Publication::new(rt, alloc, version, &writer.prefix(), readers)?;

@@ -1,4 +1,4 @@
-//! The one history of a desk: a log of versions and their authors, which exists in the proofs alone. What threads share of it is a word.
+//! The one history of a desk: a log of versions and their authors, which exists only in proofs. At run time threads share one word of it.
 ghost use Rattle.std.specs.Prelude.{◌≡◌, ◌∷◌, ◌++◌, [], length, IfSome};
 ghost use Rattle.std.specs.Arc.{arc_value};
 ghost use Rattle.mp_desk.specs.Chronicles.{entry, mark, writer_of, MayAdd};
@@ -7,7 +7,7 @@ use logbook::{Gain, Offer, Plain, Play, Rule, Seen, Word};
 use mp_version::Version;
 use std::sync::Arc;
 
-/// An entry of the history: a version, and the number of the designer who made its last edit. No value of it is made.
+/// An entry of the history: a version, and the number of the designer who made its last edit. It exists only in proofs.
 pub(crate) struct HistoryEntry {
     version: Version,
     author: usize,
@@ -69,7 +69,7 @@ impl<'a> Plain<Signing<'a>, HistoryEntry, u64> for Add {
     ghost state = { λ signing. None };
 }
 
-/// Adds a version with its author where the word is the one expected. It gives the history up to there.
+/// Adds a version with its author if the word is the one expected. It gives the history up to there.
 pub(crate) fn added(
     word: &Word<HistoryEntry, u64, Law>,
     seen: Seen<HistoryEntry, u64, Law>,

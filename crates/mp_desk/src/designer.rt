@@ -44,8 +44,8 @@ impl<L: DeskName> Designer<L> {
     ghost use Rattle.mp_version.specs.Limits.{max_edits};
     ghost use Rattle.mp_desk.specs.Extending.{Extends};
 
-    /// Reads what is published, and waits for nobody: it is the version that was seen last, or a later one. `Closed` where the desk is, and
-    /// `OutOfMemory` where memory is wanting: then the version that was seen last stays.
+    /// Reads the published version, without waiting: the one that was seen last, or a later one. `Closed` comes if the desk is closed, and
+    /// `OutOfMemory` if memory runs out; then the version seen last stays.
     pub fn read(&mut self) -> Result<Arc<Version>, ReadError>
         ensures later { IfOk result (λ v. Extends (arc_value v) self.old.seen) }
         ensures seen { IfOk result (λ v. self.new.seen ≡ arc_value v) }
@@ -76,7 +76,7 @@ impl<L: DeskName> Designer<L> {
         self.seen = publication.published().prefix().again();
     }
 
-    /// Signs all edits of the history, of which the last one is this designer's, and counts it in the book.
+    /// Signs the history, whose last edit is this designer's, and counts that edit in the book.
     pub(crate) fn sign(&mut self, writer: &LogWriter, book: &mut Book<L>)
         requires history { writer.now.book ≡ L.history }
         requires authors { length writer.now.authors ≤ length self.old.seen.edits }

@@ -18,7 +18,7 @@ use std::marker::Model;
 use std::sync::{Mutex, Wait};
 use std::thread::Threads;
 
-/// Where designers submit edits. A contract sees the number of the version with which it was opened, and how many designers it has.
+/// A desk, at which designers submit edits. A contract sees the number of the version with which it was opened, and how many designers it has.
 #[derive(Drop)]
 pub struct Desk<S: EditSession, L: DeskName, R: Wait + Drop> {
     state: Mutex<DeskState<S, L, R>>,
@@ -43,8 +43,7 @@ impl<S: EditSession, L: DeskName, R: Wait + Drop> Desk<S, L, R> {
     ghost use Rattle.mp_desk.specs.Holders.{fresh_viewer, AreFresh, ExtendsEach, HaveSeenTheSame, accepted_by, IsSigned};
     ghost use Rattle.mp_desk.specs.declared.desk_refused.DeskCause.TheVariants.{OutOfMemory};
 
-    /// Opens the desk under the name that the caller picked for these parts. It is refused for want of memory alone: then the session is handed
-    /// back.
+    /// Opens the desk under the name that the caller picked for these parts. It is refused only for lack of memory; then the session is returned.
     pub fn open(parts: DeskParts<S, R>) -> Result<Staffed<S, L, R>, DeskRefused<S>>
         requires history { parts.book ≡ L.history }
         requires ledger { parts.ledger ≡ L.name }
@@ -93,7 +92,7 @@ impl<S: EditSession, L: DeskName, R: Wait + Drop> Desk<S, L, R> {
         })
     }
 
-    /// The desk that has this under its lock, with so many designers.
+    /// The desk with this state under its lock, and this number of designers.
     fn over(state: DeskState<S, L, R>, designers: usize) -> Desk<S, L, R>
         requires opening { length state.edits ≡ L.opening }
         requires designers { designers + 1 ≡ L.parts }
@@ -114,8 +113,8 @@ impl<S: EditSession, L: DeskName, R: Wait + Drop> Desk<S, L, R> {
         self.opening
     }
 
-    /// Closes the desk, with all its designers and the viewers that are lent, and gives its session. `MissingPass` where not all designers are
-    /// given: then all is handed back.
+    /// Closes the desk, with all its designers and the viewers that are lent, and gives its session. `MissingPass` if not all designers are given:
+    /// then all is handed back.
     pub fn close(
         self,
         rt: &R,
@@ -164,8 +163,8 @@ impl<S: EditSession, L: DeskName, R: Wait + Drop> Desk<S, L, R> {
     ghost use Rattle.mp_desk.specs.Extending.{Extends};
     ghost use Rattle.mp_desk.specs.Holders.{RefusedAfter, Signs};
 
-    /// Submits an edit, which is judged after all edits that were accepted before it, and where it is accepted published before the answer.
-    /// The one lock is held meanwhile: other designers wait, and viewers don't. The error is that of the session; then nothing is published.
+    /// Submits an edit, which is judged after all edits that were accepted before it, and if it is accepted published before the answer. The one lock
+    /// is held meanwhile: other designers wait, and viewers don't. The error is that of the session; then nothing is published.
     pub fn submit<H: Threads + Wait + Sync>(
         &self,
         rt: &H,

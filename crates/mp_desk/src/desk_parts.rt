@@ -40,8 +40,8 @@ impl<S: EditSession, R: Wait + Drop> Model for DeskParts<S, R> {
 impl<S: EditSession, R: Wait + Drop> DeskParts<S, R> {
     ghost use Rattle.std.specs.Prelude.{IfOk, IfErr};
 
-    /// The parts of a desk of this size. `OutOfMemory` where memory is wanting, and `NoPlace` where there is memory, but the publication has no
-    /// place for a reader: then the session is handed back.
+    /// The parts of a desk of this size. `OutOfMemory` if memory runs out, and `NoPlace` if there is memory, but the publication has no place for a
+    /// reader: then the session is handed back.
     pub fn new(
         rt: R,
         alloc: Global,

@@ -9,7 +9,7 @@ use thiserror::Error;
 /// What a desk wanted.
 #[derive(Clone, Copy, Debug, PartialEq, Eq, Error)]
 pub enum DeskCause {
-    /// Memory was wanting.
+    /// Memory ran out.
     #[error("out of memory")]
     OutOfMemory,
     /// There was no place for a reader.

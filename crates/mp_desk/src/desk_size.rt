@@ -28,7 +28,7 @@ impl DeskSize {
     ghost use Rattle.std.specs.Prelude.{◌≡◌, is_ok, IfOk};
     ghost use Rattle.mp_desk.specs.DeskSizes.{is_desk_size};
 
-    /// A desk of so many designers and viewers. `BadDeskSize` where there are not 1 to 8 of the first, or not 1 to 32 of the others.
+    /// A desk with these numbers of designers and viewers. `BadDeskSize` comes if there aren't 1 to 8 designers, or aren't 1 to 32 viewers.
     pub fn new(designers: usize, viewers: usize) -> Result<DeskSize, BadDeskSize>
         ensures size { IfOk result (λ size. (size.designers ≡ designers) × (size.viewers ≡ viewers)) }
         ensures ok { is_ok result ≡ is_desk_size designers viewers }

@@ -49,7 +49,7 @@ impl<S: EditSession, L: DeskName, R: Wait + Drop> DeskState<S, L, R> {
     ghost use Rattle.mp_desk.specs.Extending.{Extends};
     ghost use Rattle.mp_desk.specs.Holders.{RefusedAfter, Signs};
 
-    /// Judges an edit, and where it is accepted publishes the version after it.
+    /// Judges an edit, and if it is accepted publishes the version after it.
     pub(crate) fn submit<H: Threads + Wait + Sync>(
         &mut self,
         rt: &H,
@@ -76,7 +76,7 @@ impl<S: EditSession, L: DeskName, R: Wait + Drop> DeskState<S, L, R> {
         Ok(receipt)
     }
 
-    /// Makes an edit that this designer has had prepared, and publishes the version after it. None where memory is wanting: then all stays.
+    /// Makes an edit that this designer has had prepared, and publishes the version after it. None if memory runs out: then all stays.
     fn accept<H: Wait>(
         &mut self,
         rt: &H,
@@ -106,8 +106,8 @@ impl<S: EditSession, L: DeskName, R: Wait + Drop> DeskState<S, L, R> {
     }
 }
 
-/// Adds the next version by this author to the history, and gives its receipt and what is to be published of it. None where memory is wanting: then
-/// the history stays.
+/// Adds the next version by this author to the history, and returns its receipt and what is to be published of it. `None` comes if memory runs out;
+/// then the history stays.
 fn write_version<L: DeskName>(
     writer: &mut LogWriter,
     version: &Arc<Version>,

@@ -1,4 +1,4 @@
-//! How a history goes on.
+//! The writer of a history.
 ghost use Rattle.std.specs.Prelude.{◌≡◌, IfSome};
 ghost use Rattle.std.specs.Arc.{arc_value};
 ghost use Rattle.mp_desk.specs.Chronicles.{unsigned};
@@ -36,7 +36,7 @@ impl LogWriter {
     ghost use Rattle.mp_desk.specs.Extending.{Succeeds};
     ghost use Rattle.mp_desk.specs.Chronicles.{written_on};
 
-    /// Adds a version by this author to the history. False where that is longer than it was written by this writer.
+    /// Adds a version by this author to the history. False if that is longer than it was written by this writer.
     pub(crate) fn add(&mut self, version: &Arc<Version>, author: usize) -> bool
         requires follows { Succeeds (arc_value version.now) self.old.story }
         ensures { MatchBool result (self.new ≡ written_on self.old (arc_value version.now) author) (self.new ≡ self.old) }

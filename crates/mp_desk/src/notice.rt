@@ -3,7 +3,7 @@ use crate::log_prefix::LogPrefix;
 use crate::name::DeskName;
 use std::marker::{Model, PhantomData};
 
-/// Tells of a version that was published. It carries no version. A contract sees its story.
+/// A notice of a published version, without the version itself. Contracts see the version's story.
 #[derive(Drop)]
 pub struct Notice<L: DeskName> {
     pub(crate) prefix: LogPrefix,
@@ -25,7 +25,7 @@ impl<L: DeskName> Model for Notice<L> {
 impl<L: DeskName> Notice<L> {
     ghost use Rattle.std.specs.Prelude.{◌≡◌, length};
 
-    /// The number of the version that it tells of.
+    /// The number of the version.
     pub fn number(&self) -> u32
         ensures { result ≡ length self.now.edits }
     {

@@ -20,7 +20,7 @@ pub enum ReadError {
     /// The desk is closed.
     #[error("the desk is closed")]
     Closed,
-    /// Memory was wanting.
+    /// Memory ran out.
     #[error("out of memory")]
     OutOfMemory,
 }

@@ -49,7 +49,7 @@ impl<R: Wait + Drop> Publication<R> {
     ghost use Rattle.std.specs.Prelude.{◌<◌, ◌≤◌, ◌^◌, All, IfOk, length, vec_len, vec_capacity};
     ghost use Rattle.std.specs.Arc.{arc_value};
 
-    /// Publishes a first version, with room for so many readers.
+    /// Publishes a first version, with room for this number of readers.
     pub(crate) fn new(
         rt: R,
         alloc: Global,
@@ -77,7 +77,7 @@ impl<R: Wait + Drop> Publication<R> {
         Ok(Pass { reader })
     }
 
-    /// So many places, in a list that has room for them. It takes no memory.
+    /// Adds this number of places to a list that has room for them. It takes no memory.
     pub(crate) fn places(&mut self, list: Vec<Pass>, count: usize) -> Result<Vec<Pass>, NoPlace>
         requires empty { list.items ≡ [] }
         requires room { count ≤ vec_capacity list }
@@ -125,7 +125,7 @@ impl<R: Wait + Drop> Publication<R> {
     }
 }
 
-/// The writer of a first version, which is published, with room for so many readers.
+/// Publishes a first version, with room for this number of readers, and returns its writer.
 fn first_writer<R: Wait>(
     rt: &R,
     alloc: Global,

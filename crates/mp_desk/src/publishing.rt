@@ -91,7 +91,7 @@ impl Absorb<Published> for Published {
     }
 }
 
-/// What a place has read. No value of it is made.
+/// The reads of a place. It exists only in proofs.
 pub(crate) type Known = [Published; 0];
 
 /// The rule: what is published follows all that any place has read.
@@ -106,7 +106,7 @@ impl Protocol<Published, Known> for Extending {
     ghost first = { [] };
 }
 
-/// What an entry tells.
+/// The facts that an entry carries.
 pub(crate) struct Enters;
 
 impl Outcome<Published, Known> for Enters {
@@ -115,7 +115,7 @@ impl Outcome<Published, Known> for Enters {
     ghost then = { λ known before now new. Entered known now new };
 }
 
-/// What a publication tells.
+/// The facts that a publication carries.
 pub(crate) struct Brings;
 
 impl Outcome<Published, Known> for Brings {
@@ -124,7 +124,7 @@ impl Outcome<Published, Known> for Brings {
     ghost then = { λ known before now new. new ≡ now ∷ [] };
 }
 
-/// How the writer tells a new place of what it published, and how that place starts from it.
+/// How a new place starts from what the writer has published.
 pub(crate) struct Starts;
 
 impl Split<Known> for Starts {

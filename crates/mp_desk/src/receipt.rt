@@ -4,7 +4,7 @@ use crate::notice::Notice;
 use mp_version::Version;
 use std::sync::Arc;
 
-/// The version to which an accepted edit led, and a notice of it.
+/// The version after an accepted edit, and a notice of it.
 #[derive(Drop)]
 pub struct Receipt<L: DeskName> {
     pub version: Arc<Version>,

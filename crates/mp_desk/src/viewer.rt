@@ -16,7 +16,7 @@ pub struct Viewer<L: DeskName> {
     pub(crate) pass: Pass,
     pub(crate) last: Arc<Version>,
     pub(crate) heard: LogPrefix,
-    /// The number of what was heard.
+    /// The number of the latest version that the viewer has read or been told of.
     pub(crate) floor: u32,
     pub(crate) of: PhantomData<L>,
 }
@@ -46,8 +46,8 @@ impl<L: DeskName> Viewer<L> {
         &self.last
     }
 
-    /// Reads what is published now, never a version that was kept, and waits for nobody. `Closed` where the desk is, and `OutOfMemory` where memory is
-    /// wanting: then the version that was read last stays.
+    /// Reads the version that is published now, and not one that was kept, without waiting. `Closed` comes if the desk is closed, and `OutOfMemory`
+    /// if memory runs out; then the version read last stays.
     pub fn read(&mut self) -> Result<Arc<Version>, ReadError>
         ensures later { IfOk result (λ v. Extends (arc_value v) self.old.last) }
         ensures told { IfOk result (λ v. Extends (arc_value v) self.old.learnt) }
@@ -59,7 +59,7 @@ impl<L: DeskName> Viewer<L> {
         let published = self.pass.enter()?;
         let number = published.version().number();
         if number < self.floor {
-            // What a notice tells of was published before the notice was made, so this doesn't come.
+            // The version of a notice was published before the notice was made, so this doesn't happen.
             return Err(ReadError::Closed);
         }
         published.prefix().agrees(&self.heard);
@@ -78,7 +78,7 @@ impl<L: DeskName> Viewer<L> {
         show(rt, publication, &mut self.pass);
     }
 
-    /// From now on a read extends what the notice tells of. It waits for nobody, and takes no memory.
+    /// From now on each read is at least as new as the version of the notice. It doesn't wait, and takes no memory.
     pub fn learn(&mut self, notice: &Notice<L>)
         ensures same { (self.new.last ≡ self.old.last) × (self.new.reads ≡ self.old.reads) }
         ensures learnt { Extends self.new.learnt notice.now }

@@ -17,7 +17,7 @@ pub struct DesignerTally<L: DeskName> {
     /// The notice of the last edit that was accepted.
     pub(crate) last: Option<Notice<L>>,
     pub(crate) refused: u64,
-    /// Whether memory was wanting.
+    /// Whether memory ran out.
     pub(crate) wanting: bool,
 }
 
@@ -41,7 +41,7 @@ impl<L: DeskName> DesignerTally<L> {
     ghost use Rattle.mp_desk.specs.meeting.Sittings.{begun, with_seen, IsAccepted, IsRefused, Takes, HasWorked};
     ghost use Rattle.mp_desk.specs.meeting.Seats.{working};
 
-    /// A designer who has just come.
+    /// A designer who has submitted nothing yet.
     pub(crate) fn new(me: Designer<L>) -> DesignerTally<L>
         requires { me.accepted ≡ 0 }
         ensures { result ≡ begun me }
@@ -66,7 +66,7 @@ impl<L: DeskName> DesignerTally<L> {
         }
     }
 
-    /// Submits what a line says. A line that is no edit counts as refused, and one without words isn't counted.
+    /// Submits the edit of a line. A line that isn't an edit counts as refused; one without words isn't counted.
     fn take_line<S: EditSession, R: Threads + Wait + Sync + Drop>(
         &mut self,
         rt: &R,
@@ -92,7 +92,7 @@ impl<L: DeskName> DesignerTally<L> {
         }
     }
 
-    /// Submits an edit, and tells how many were accepted so far, with this one. The error is that of the desk; it isn't counted.
+    /// Submits an edit, and returns the number of accepted edits with this one. The error is that of the desk; it isn't counted.
     pub fn submit<S: EditSession, R: Wait + Drop, H: Threads + Wait + Sync>(
         &mut self,
         rt: &H,
@@ -110,15 +110,15 @@ impl<L: DeskName> DesignerTally<L> {
         Ok(number)
     }
 
-    /// Counts a line as refused, where the count isn't at its greatest value.
+    /// Counts a line as refused, if the count isn't at its greatest value.
     pub fn refuse(&mut self)
         ensures { self.new ≡ record self.old { refused = min (self.old.refused + 1) (2 ^ 64 - 1) } }
     {
         self.refused = self.refused.saturating_add(1);
     }
 
-    /// Reads what is published, and waits for nobody: it is the version that was seen last, or a later one. `Closed` where the desk is, and
-    /// `OutOfMemory` where memory is wanting: then the version that was seen last stays.
+    /// Reads the published version, without waiting: the one that was seen last, or a later one. `Closed` comes if the desk is closed, and
+    /// `OutOfMemory` if memory runs out; then the version seen last stays.
     pub fn read(&mut self) -> Result<Arc<Version>, ReadError>
         ensures later { IfOk result (λ v. Extends (arc_value v) self.old.seen) }
         ensures seen { IfOk result (λ v. self.new ≡ with_seen self.old (arc_value v)) }
@@ -147,7 +147,7 @@ impl<L: DeskName> DesignerTally<L> {
         }
     }
 
-    /// Submits the lines of the block in turn. Where memory is wanting the others are left.
+    /// Submits the lines of the block in turn. If memory runs out the others are left.
     pub(crate) fn work<S: EditSession, R: Threads + Wait + Sync + Drop>(
         &mut self,
         rt: &R,

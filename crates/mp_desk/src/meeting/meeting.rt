@@ -33,9 +33,9 @@ pub struct DeskOutcome<S: EditSession> {
     pub numbers: Vec<u32>,
 }
 
-/// Has a designer for each block submit its lines, and viewers read 100 times, all on threads of their own; a part whose thread can't be
-/// started is done on the calling thread. Then each viewer learns of each designer's last edit, and reads once more. `OutOfMemory` where
-/// memory is wanting for any of them, and `NoPlace` where there is memory, but no place for a viewer or designer.
+/// Has a designer for each block submit its lines, and viewers read 100 times, all on threads of their own; a part whose thread can't be started is
+/// done on the calling thread. Then each viewer learns of each designer's last edit, and reads once more. `OutOfMemory` if memory runs out for any of
+/// them, and `NoPlace` if there is memory, but no place for a viewer or designer.
 pub fn meet<S: EditSession + Send, R: Threads + Wait + Sync>(
     rt: &R,
     alloc: Global,
@@ -56,7 +56,7 @@ where
     }
 }
 
-/// The meeting at the desk that these parts make. It is refused for want of memory alone.
+/// The meeting at the desk that these parts make. It is refused only for lack of memory.
 fn at_desk<
     S: EditSession + Send,
     L: DeskName + Send + Sync,
@@ -113,8 +113,8 @@ where
     Ok(adjourn(rt, alloc, desk, sittings, viewers)?)
 }
 
-/// Ends a meeting: each viewer learns of each designer's last edit and reads once more, and the desk is closed. The error comes where memory
-/// is wanting, or was for one of the designers.
+/// Ends a meeting: each viewer learns of each designer's last edit and reads once more, and the desk is closed. The error comes if memory runs out,
+/// or was for one of the designers.
 pub fn adjourn<S: EditSession + Send, L: DeskName + Send + Sync, R: Threads + Wait + Sync + Drop>(
     rt: &R,
     alloc: Global,

@@ -6,7 +6,7 @@ use thiserror::Error;
 /// What a meeting wanted.
 #[derive(Clone, Copy, Debug, PartialEq, Eq, Error)]
 pub enum MeetingFault {
-    /// Memory was wanting.
+    /// Memory ran out.
     #[error("out of memory")]
     OutOfMemory,
     /// There was no place for a reader.

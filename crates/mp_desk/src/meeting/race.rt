@@ -11,7 +11,7 @@ use std::alloc::Global;
 use std::sync::Wait;
 use std::thread::{Threads, for_each_mut, join};
 
-/// Has each designer submit its lines and each viewer read, each on a thread of its own where one can be made.
+/// Has each designer submit its lines and each viewer read, each on a thread of its own if one can be made.
 pub(crate) fn race<
     S: EditSession + Send,
     L: DeskName + Send + Sync,

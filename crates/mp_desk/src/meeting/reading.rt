@@ -17,7 +17,7 @@ pub(crate) fn read_often<L: DeskName>(viewer: &mut Viewer<L>) {
     }
 }
 
-/// What each viewer reads after it learnt of all that the designers were told: the numbers of these versions.
+/// The version numbers that the viewers read last, each after it has learnt of the last edit of every designer.
 pub(crate) fn last_reads<L: DeskName, R: Wait>(
     rt: &R,
     alloc: Global,
@@ -38,7 +38,7 @@ pub(crate) fn last_reads<L: DeskName, R: Wait>(
     Ok(numbers)
 }
 
-/// What the viewer reads after it learnt of all that the designers were told.
+/// The version that a viewer reads last, after it has learnt of the last edit of every designer.
 fn last_read<L: DeskName, R: Wait>(
     rt: &R,
     sittings: &[DesignerTally<L>],

@@ -8,7 +8,7 @@ use crate::meeting::tally::Tally;
 use crate::{Designer, DeskName};
 use std::alloc::{AllocError, Global};
 
-/// The designers, who have just come, ready to work.
+/// Starts all designers, who have submitted nothing yet.
 pub fn start_all<L: DeskName>(
     alloc: Global,
     designers: Vec<Designer<L>>,
@@ -23,7 +23,7 @@ pub fn start_all<L: DeskName>(
     Ok(sittings)
 }
 
-/// The designers again, and how their lines fared. `OutOfMemory` where memory was wanting for one of them, too.
+/// The designers again, and how their lines fared. `OutOfMemory` if memory ran out for one of them, too.
 pub(crate) fn finish_all<L: DeskName>(
     alloc: Global,
     sittings: Vec<DesignerTally<L>>,
