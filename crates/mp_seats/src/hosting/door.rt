@@ -1,4 +1,4 @@
-//! Where those who sit down come from.
+//! The door by which people come to a seat.
 ghost use Rattle.std.specs.Prelude.{◌≡◌, ◌++◌, ℕ, List, Option, IfSome, IfNone};
 ghost use Rattle.mp_seats.specs.declared.hosting.seat_place.SeatName.{SeatName};
 
@@ -13,16 +13,16 @@ pub trait Door: Drop {
     /// What somebody reads there.
     type Output: Sink + Drop;
 
-    // From the first to the second somebody came: this is there to be read, and this was written before, where it is known.
+    // From the first to the second somebody came: this is there to be read, and this was written before, if it is known.
     ghost Comes: { Self → Self → Option (List ℕ) → Option (List ℕ) → Type 0 };
 
-    // From the first to the second the one who came left, to whom all of this was written, where it is known.
+    // From the first to the second the one who came left, to whom all of this was written, if it is known.
     ghost Leaves: { Self → Self → Option (List ℕ) → Type 0 };
 
     // From the first to the second the one who came was turned away.
     ghost TurnsAway: { Self → Self → Type 0 };
 
-    /// Waits until somebody comes. None where nobody will come any more.
+    /// Waits until somebody comes. None if nobody will come any more.
     fn open(&mut self) -> Option<(Self::Input, Self::Output)>
         ensures comes { IfSome result (λ both. Comes self.old self.new (Self.Input.left both.0) (Self.Output.taken both.1)) }
         ensures none { IfNone result (self.new ≡ self.old) };
@@ -31,16 +31,15 @@ pub trait Door: Drop {
     fn close(&mut self, output: Self::Output)
         ensures { Leaves self.old self.new (Self.Output.taken output) };
 
-    /// Tells that somebody else may come, where the input has ended.
+    /// Frees the seat after its input has ended.
     fn free(&mut self, ended: Ended)
         ensures { self.new ≡ self.old };
 
-    /// Closes the output where the input has ended, and tells that somebody else may come: so whoever sees the end of the output may come again at
-    /// once.
+    /// Closes the output after the input has ended, and frees the seat: whoever sees the end of the output may come again at once.
     fn leave(&mut self, ended: Ended, output: Self::Output)
         ensures { Leaves self.old self.new (Self.Output.taken output) };
 
-    /// Tells that the one who came couldn't be served for want of memory.
+    /// Turns away whoever came, for lack of memory.
     fn turn_away(&mut self)
         ensures { TurnsAway self.old self.new };
 }

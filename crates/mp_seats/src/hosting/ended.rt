@@ -4,8 +4,7 @@ ghost use Rattle.mp_seats.specs.hosting.Endings.{HasEnded};
 use mp_streams::Source;
 use mp_text::LineReader;
 
-/// Shows that what somebody wrote at a seat was read to its end, or can't be read any more, and that the input is closed. It is made of such an
-/// input alone.
+/// A proof that the input of a seat was read to its end, or can't be read any more, and is closed. It is made only from such an input.
 #[derive(Drop)]
 pub struct Ended {
     closed: (),

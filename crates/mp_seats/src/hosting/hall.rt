@@ -1,4 +1,4 @@
-//! Where a desk is served.
+//! The hall in which a desk is served.
 use crate::hosting::door::{Door, Exit};
 
 /// The doors of a desk's seats, how those who wait there learn of its end, and how replies are written.

@@ -26,8 +26,8 @@ use std::marker::Brand;
 use std::sync::Wait;
 use std::thread::Threads;
 
-/// Serves all who come to the doors of a desk, each seat on a thread of its own, and answers the lines of whoever runs it meanwhile. It ends where
-/// these lines end and all seats are left. Where no thread can be started for a seat, that seat stays free.
+/// Serves all who come to the doors of a desk, each seat on a thread of its own, and answers the lines of whoever runs it meanwhile. It ends if these
+/// lines end and all seats are left. If no thread can be started for a seat, that seat stays free.
 ///
 /// The lines of whoever runs the desk may end with a fault: it is told beside what became of the desk, once all seats are left. `BadSize` comes where
 /// there are not doors for 1 to 8 designers and for at most 31 viewers: then no line is read. `OutOfMemory` comes if memory runs out, and

@@ -40,7 +40,7 @@ impl SeatPlace {
         self.taken.load(Ordering::SeqCst)
     }
 
-    /// Tells that somebody has taken the seat, or left it.
+    /// Sets whether somebody has taken the seat.
     pub fn set_taken(&self, taken: bool) {
         self.taken.store(taken, Ordering::SeqCst);
     }
@@ -97,7 +97,7 @@ impl Places {
     }
 }
 
-/// So many free seats.
+/// This number of free seats.
 fn free_places<F: Fn(u32) -> SeatName>(
     alloc: Global,
     count: u32,

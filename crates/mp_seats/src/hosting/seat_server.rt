@@ -43,7 +43,7 @@ impl<B: ReplyWriter, G: Occupant, D: Door> Serves for SeatServer<B, G, D> {
     }
 }
 
-/// Serves the next one who comes to the seat, or turns away where memory is wanting. False where nobody will come any more.
+/// Serves the next one who comes to the seat, or turns away if memory runs out. False if nobody will come any more.
 fn attend_next<R: Threads + Wait + Sync, B: ReplyWriter, G: Occupant, D: Door>(
     rt: &R,
     alloc: Global,
@@ -64,7 +64,7 @@ fn attend_next<R: Threads + Wait + Sync, B: ReplyWriter, G: Occupant, D: Door>(
     true
 }
 
-/// Lines of what somebody writes, and room before what is read.
+/// A line reader over the input, and a buffer before the output.
 fn streams<I: Source + Drop, T: Sink + Drop>(
     alloc: Global,
     input: I,
@@ -93,8 +93,8 @@ fn visit<R: Threads + Wait + Sync, B: ReplyWriter, G: Occupant, I: Source + Drop
     (served.is_ok(), out.into_sink())
 }
 
-/// Lets the one who came leave, and somebody else come. Where not all lines were answered the output is closed first, so that whoever reads there
-/// ends the input.
+/// Lets the one who came leave, and somebody else come. If not all lines were answered the output is closed first, so that whoever reads there ends
+/// the input.
 fn leave<R: Wait, D: Door>(
     rt: &R,
     door: &mut D,
@@ -112,7 +112,7 @@ fn leave<R: Wait, D: Door>(
     }
 }
 
-/// The input after what is left of it was passed over, up to its end or a fault, so that nobody else is answered it.
+/// Skips the rest of the input, up to its end or a fault, so that nobody else is answered those lines.
 fn ended<R: Wait, I: Source + Drop>(rt: &R, lines: LineReader<I>) -> LineReader<I>
     ensures { HasEnded result }
 {

@@ -10,7 +10,7 @@ pub(crate) trait Serves {
     // What one may have become at the end.
     ghost Becomes: { Self → Self → Type 0 };
 
-    /// Serves all who come, one behind the other. The clause `shared` says what the bound `Sync` says: in a trait the prover asks for both.
+    /// Serves all who come, one after the other. The clause `shared` repeats the bound `Sync`, since in a trait the prover asks for both.
     fn serve<R: Threads + Wait + Sync>(&mut self, rt: &R, alloc: Global)
         requires shared { IsSync R.row }
         ensures { Becomes self.old self.new };
@@ -21,6 +21,6 @@ pub(crate) trait EndNotice {
     /// What is to be kept until all of them know it.
     type Held: Drop;
 
-    /// Tells it to all others.
+    /// Tells all others that the input has ended.
     fn end(&self) -> Self::Held;
 }

@@ -132,7 +132,7 @@ fn people_of<S: EditSession, L: DeskName, R: Wait + Drop, B: ReplyWriter, D: Doo
     Ok((sittings, people_at(alloc, viewers)?))
 }
 
-/// Has all posts serve those who come, each on a thread of its own where one can be made, and the lines of whoever runs the desk answered meanwhile.
+/// Has all posts serve those who come, each on a thread of its own if one can be made, and the lines of whoever runs the desk answered meanwhile.
 fn serve_all<
     R: Threads + Wait + Sync + Send,
     P: Serves + Send,
@@ -164,7 +164,7 @@ fn serve_all<
     ended
 }
 
-/// Has the lines of whoever runs the desk answered up to their end or a fault, and tells all others of it.
+/// Answers the lines of whoever runs the desk up to their end or a fault, and then tells all others.
 fn talk<R: Threads + Wait + Sync, O: Answerer + EndNotice, I: Source, T: Sink>(
     rt: &R,
     own: &mut O,
@@ -213,7 +213,7 @@ fn serve_both<R: Threads + Wait + Sync + Send, P: Serves + Send, Q: Serves + Sen
     );
 }
 
-/// Has these posts serve those who come, on so many threads at most.
+/// Runs these seat servers, on at most this number of threads.
 fn serve_each<R: Threads + Wait + Sync + Send, P: Serves + Send>(
     rt: &R,
     alloc: Global,

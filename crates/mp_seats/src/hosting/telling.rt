@@ -1,4 +1,4 @@
-//! What is told of a desk's seats.
+//! The lines about a desk's seats.
 ghost use Rattle.std.specs.Prelude.{◌++◌, ℕ, Bool, List};
 ghost use Rattle.std.specs.Fmt.{decimal};
 ghost use Rattle.mp_streams.specs.Outgoing.{Writes as Sends};

@@ -11,9 +11,9 @@ use std::alloc::{AllocError, Global};
 use std::marker::Model;
 use std::snapshot::Snapshot;
 
-/// A journal: each edit that is appended is the line of a script, and all of it is with the sink before the next one is. After a write that failed
-/// nothing more is written, so that no edit is missing before another. A contract sees the bytes that the sink had taken before and those that it
-/// has taken now, as far as it tells them, and whether no write failed.
+/// A journal. Each edit is appended as the line of a script, and is completely with the sink before the next one. After a write that failed nothing
+/// more is written, so that no edit is missing before another. A contract sees the bytes that the sink had taken before and those that it has taken
+/// now, as far as it tells them, and whether no write failed.
 #[derive(Drop)]
 pub struct Journal<T: Sink, N: JournalNotice> {
     out: Out<T>,
@@ -63,7 +63,7 @@ impl<T: Sink, N: JournalNotice> Journal<T, N> {
         self.is_whole
     }
 
-    /// Appends the line of an edit, and passes it on to the sink. A write that fails is told to the notice; after one nothing is written.
+    /// Appends the line of an edit, and passes it on to the sink. The notice is called if a write fails, and after that nothing is written.
     pub fn append(&mut self, edit: &Edit)
         ensures { Continues self.old self.new (edit_text edit.now ++ 10 ∷ []) }
     {

@@ -11,8 +11,8 @@ use std::marker::Model;
 use std::sync::{Arc, Wait};
 use std::thread::Threads;
 
-/// A session whose accepted edits are appended to a journal, each before its commit is done. A contract sees the session, the journal, and how many
-/// edits the session had when the journal was begun.
+/// A session whose accepted edits are appended to a journal, each before its commit is done. Contracts see the session, the journal, and the number
+/// of edits that the session had when the journal was begun.
 #[derive(Drop)]
 pub struct Journaled<S: EditSession, T: Sink, N: JournalNotice> {
     session: S,
@@ -47,7 +47,7 @@ impl<S: EditSession, T: Sink, N: JournalNotice> Journaled<S, T, N> {
         }
     }
 
-    /// The journal, which has a line for each edit that was accepted since it was begun.
+    /// The journal, with a line for each edit accepted since it was begun.
     pub fn journal(&self) -> &Journal<T, N>
         ensures value { result.now ≡ self.now.journal }
         ensures kept { KeepsEdits self.now.journal self.now.opening (S.story self.now.session).edits }

@@ -14,8 +14,8 @@ use std::thread::Threads;
 
 /// Makes the edits of a journal in a session, in order. `text` is all of the journal: a line for each edit, with its line feed.
 ///
-/// `Unended` comes first, where the text has a last line without a line feed: its edit may not be whole. Then the first line decides that isn't
-/// read, asks a question, or has an edit that is refused after those before it. `OutOfMemory` comes if memory runs out.
+/// `Unended` comes first, if the text has a last line without a line feed: its edit may not be whole. Then the first line decides that isn't read,
+/// asks a question, or has an edit that is refused after those before it. `OutOfMemory` comes if memory runs out.
 pub fn make_again<R: Threads + Wait + Sync, S: EditSession>(
     rt: &R,
     alloc: Global,
@@ -46,7 +46,7 @@ fn ends_whole(text: &[u8]) -> bool {
     }
 }
 
-/// Makes the edit of a line, where it has words.
+/// Makes the edit of a line, if it has words.
 fn make_line<R: Threads + Wait + Sync, S: EditSession>(
     rt: &R,
     alloc: Global,

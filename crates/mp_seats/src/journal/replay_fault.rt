@@ -18,7 +18,7 @@ pub enum ReplayFault {
     /// The last line doesn't end.
     #[error("the last line has no line feed")]
     Unended,
-    /// Memory was wanting.
+    /// Memory ran out.
     #[error("out of memory")]
     OutOfMemory,
 }

@@ -21,8 +21,8 @@ pub(crate) struct PipeDoor<'a> {
 }
 
 impl PipeDoor<'_> {
-    /// Both pipes: the output once somebody reads there, and then the input once somebody writes there. None where one can't be opened, and where the
-    /// desk ends meanwhile.
+    /// Both pipes: the output once somebody reads there, and then the input once somebody writes there. None if one can't be opened, and if the desk
+    /// ends meanwhile.
     fn open_pipes(&self) -> Option<(File, File)> {
         let output = OpenOptions::new()
             .write(true)
@@ -44,7 +44,7 @@ impl PipeDoor<'_> {
         }
     }
 
-    /// Puts the other pipe in the place of the output. Where that can't be done this one stays.
+    /// Puts the other pipe in the place of the output. If that can't be done, this one stays.
     fn change_output(&mut self) {
         if !self.has_spare {
             return;
@@ -79,8 +79,8 @@ impl Door for PipeDoor<'_> {
             return None;
         }
         let (input, output) = self.open_pipes()?;
-        // It is told that the seat is taken before it is asked again whether nobody may come any more: so whoever opens the doors of free
-        // seats at the end leaves out none that waits.
+        // The seat is marked as taken before the end is checked once more, so whoever opens the doors of free seats at the end leaves out no thread
+        // that waits.
         self.seat.set_taken(true);
         if self.places.have_ended() {
             self.seat.set_taken(false);
@@ -99,7 +99,7 @@ impl Door for PipeDoor<'_> {
     }
 
     fn leave(&mut self, _ended: Ended, output: Self::Output) {
-        // the output is closed before the seat is free: a seat that is told to be free was left by the desk too
+        // the output is closed before the seat is free: a seat that is called free was left by the desk too
         self.change_output();
         drop(output);
         self.seat.set_taken(false);

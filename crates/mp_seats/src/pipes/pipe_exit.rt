@@ -4,9 +4,8 @@ use crate::pipes::pipe_paths::PipePaths;
 use crate::pipes::pipes::Pipes;
 use std::fs::{File, OpenOptions};
 
-/// The way out of the seats of a desk: the pipes of one that nobody has taken are opened for both ends, so that a thread that waits there goes on.
-/// An output is then kept open to read alone: somebody who left the seat may not have seen the end there yet, and sees it only where nobody can
-/// write.
+/// The way out of the seats of a desk: the pipes of one that nobody has taken are opened for both ends, so that a thread that waits there goes on. An
+/// output is then kept open only for reading: somebody who left the seat may not have seen the end there yet, and sees it only if nobody can write.
 #[derive(Drop)]
 pub(crate) struct PipeExit<'a> {
     pub pipes: &'a Pipes<'a>,
@@ -39,7 +38,7 @@ impl PipeExit<'_> {
         }
     }
 
-    /// Opens a pipe to read, and doesn't wait. Where it can't be opened so it is open for both ends.
+    /// Opens a pipe for reading, without waiting. If that can't be done, it is opened for reading and writing.
     fn open_to_read(&self, path: &str) -> Option<File> {
         let both = self.open_both(path)?;
         // (somebody can write there now, so this doesn't wait)

@@ -4,8 +4,8 @@ use std::alloc::{AllocError, Global};
 use std::fs;
 use std::os::unix::fs::{FileTypeExt, MetadataExt};
 
-/// The paths of a seat's named pipes: those by which people know them, and the desk's own links to the same pipes. The desk opens its own alone, so it
-/// doesn't matter to it whether somebody removes or replaces the others.
+/// The paths of a seat's named pipes: those by which people know them, and the desk's own links to the same pipes. The desk opens only its own, so it
+/// doesn't matter if somebody removes or replaces the others.
 #[derive(Drop)]
 pub(crate) struct PipePaths {
     /// What is written at the seat.

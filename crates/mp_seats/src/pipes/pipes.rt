@@ -16,9 +16,9 @@ use std::fs;
 use std::sync::Wait;
 use std::thread::Threads;
 
-/// The named pipes of all seats of a desk, in one folder: in `designer-1.in` is written what the first designer asks, and in `designer-1.out`
-/// what is answered; so for each designer, and for each viewer from `viewer-1.in` on. The desk opens links of its own to them, in the folder `.desk`
-/// there. If there is a pipe `.desk/designer-1.spare` too, those who come to the first designer's seat read from the two by turns.
+/// The named pipes of all seats of a desk, in one folder: the first designer writes lines to `designer-1.in` and reads answers from `designer-1.out`;
+/// each further designer has such a pair, and so has each viewer from `viewer-1.in` on. The desk opens links of its own to them, in the folder
+/// `.desk` there. If there is a pipe `.desk/designer-1.spare` too, those who come to the first designer's seat read from the two by turns.
 #[derive(Drop)]
 pub struct Pipes<'a> {
     pub(crate) files: &'a HostRuntime,
@@ -66,7 +66,7 @@ impl<'a> Pipes<'a> {
         }
     }
 
-    /// Tells on standard error which pipes were removed or replaced, and removes the desk's own links.
+    /// Writes to standard error which pipes were removed or replaced, and removes the desk's own links.
     pub fn unlink(&self) {
         unlink_all(self.files, self.designers.as_slice());
         unlink_all(self.files, self.viewers.as_slice());
@@ -174,7 +174,7 @@ fn first_unlinked<'a>(files: &HostRuntime, paths: &'a [PipePaths]) -> Option<&'a
     None
 }
 
-/// Tells which of some pipes are gone, and removes the desk's own links to them.
+/// Reports which of these pipes are gone, and removes the desk's own links to them.
 fn unlink_all(files: &HostRuntime, paths: &[PipePaths]) {
     for pair in paths {
         if let Some(path) = pair.gone(files) {

@@ -10,12 +10,11 @@ use std::thread::Threads;
 
 /// Who answers lines, and may change with each of them.
 pub trait Answerer {
-    // Whether one who stands so may answer a line so, and stand so after it. None is a line that is too long to be read.
+    // Whether an answerer in one state may give this answer to a line and be in the other state after it. `None` is a line that is too long.
     ghost Answers: { Self → Option (List ℕ) → Self → List ℕ → Type 0 };
 
-    /// Writes the answer to a line. `None` is a line that is too long to be read. `WriteFailed` comes if the sink fails, and `OutOfMemory`
-    /// where memory is wanting: then a part of the answer may be written. The clause `shared` says what the bound `Sync` says: in a trait the
-    /// prover asks for both.
+    /// Writes the answer to a line. `None` is a line that is too long to be read. `WriteFailed` comes if the sink fails, and `OutOfMemory` if memory
+    /// runs out: then a part of the answer may be written. The clause `shared` says what the bound `Sync` says: in a trait the prover asks for both.
     fn put_answer<R: Threads + Wait + Sync, T: Sink>(
         &mut self,
         rt: &R,

@@ -24,7 +24,7 @@ pub(crate) fn answer<R: Threads + Wait + Sync, A: Answerer, S: Source, T: Sink>(
     put
 }
 
-/// The line that was read last, where it isn't too long.
+/// The line that was read last, if it isn't too long.
 fn line_of<S: Source>(lines: &LineReader<S>) -> Option<&[u8]>
     ensures { option_copied result ≡ lines.now.line }
 {

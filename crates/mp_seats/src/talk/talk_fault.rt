@@ -14,7 +14,7 @@ pub enum TalkFault {
     /// A write of the answers failed.
     #[error("write failed")]
     WriteFailed,
-    /// Memory was wanting for an answer.
+    /// Memory ran out for an answer.
     #[error("out of memory")]
     OutOfMemory,
 }
