@@ -45,7 +45,7 @@ impl<'a> Cause<'a> {
     }
 }
 
-/// What the inputs of a module hear at a time, by port.
+/// The events of a module's inputs at a time, by port.
 pub(crate) fn events_at(
     levels: Levels<'_>,
     inputs: &[Input],

@@ -17,7 +17,7 @@ use mp_model::Waves;
 use mp_netlist::Netlist;
 use std::alloc::{AllocError, Global};
 
-/// A change that a module heard at an input, and the change that it led to.
+/// An event of an input, and the change of the module's output that it led to.
 #[derive(Clone, Copy, Debug, PartialEq, Eq)]
 pub struct CauseLink {
     pub cause: WireChange,
@@ -25,8 +25,8 @@ pub struct CauseLink {
 }
 
 /// The links of the whole chain of causes of a wire's level at a time: for each of its steps, the last first, one for each event of the cause, by
-/// port. There are none for a wire that didn't change, or where none stands. `AllocError` comes where memory is wanting: it takes memory for
-/// the drivers of wires and for the links.
+/// port. There are none for a wire that didn't change, or if there is none. `AllocError` comes if memory runs out: it takes memory for the drivers of
+/// wires and for the links.
 pub fn links(
     alloc: Global,
     netlist: &Netlist,
@@ -65,7 +65,7 @@ fn links_from(
     Ok(links)
 }
 
-/// Puts the links of a cause to its effect behind others.
+/// Appends the links from a cause to its effect.
 fn push_links(
     links: &mut Vec<CauseLink>,
     effect: WireChange,

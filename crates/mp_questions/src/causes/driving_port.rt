@@ -32,7 +32,7 @@ pub(crate) fn driving_port<'a>(netlist: &'a Netlist, driver: Driver) -> Option<D
     }
 }
 
-/// The delay of an output port: 1, as the least, where there is no such port.
+/// The delay of an output port: 1, as the least, if there is no such port.
 fn delay_of(part: &ModuleRecord, port: u32) -> u32
     ensures { result ≡ delay_of part.now port }
 {

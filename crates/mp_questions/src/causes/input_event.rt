@@ -1,7 +1,7 @@
-//! What an input hears.
+//! Events of inputs.
 use crate::causes::wire_change::WireChange;
 
-/// An event at an input: the change of its wire, and the input's delay, after which it is heard.
+/// An event of an input: the change of its wire, and the delay after which the input sees it.
 #[derive(Clone, Copy, Debug, Default, PartialEq, Eq)]
 pub struct InputEvent {
     pub change: WireChange,

@@ -28,7 +28,7 @@ impl<'a> Levels<'a> {
         ensures netlist { result.netlist.now ≡ netlist.now }
         ensures form { IsCircuit netlist.now }
     {
-        // Its contract tells that the netlist is well formed.
+        // Its contract says that the netlist is well formed.
         let _horizon = netlist.horizon();
         Levels { netlist, waves }
     }
@@ -54,13 +54,13 @@ impl<'a> Levels<'a> {
         }
     }
 
-    /// What an input hears at a time, if anything.
+    /// The event of an input at a time, if there is one.
     pub(crate) fn event_at(self, input: Input, time: u32) -> Option<InputEvent>
         requires form { IsCircuit self.netlist.now }
         requires within { time < self.netlist.now.horizon }
         ensures { result ≡ (if hears self.entry.netlist.now time input then Some (event_at self.entry.netlist.now time input) else None) }
     {
-        // An event that is heard is later than the delay: up to then the input has the wire's first level.
+        // An event of an input comes later than its delay: up to then the input has the wire's first level.
         match self.change_at(input.wire, time.saturating_sub(input.delay)) {
             Some(change) => Some(InputEvent {
                 change,

@@ -1,7 +1,7 @@
 //! A wire at a time.
 use mp_netlist::WireId;
 
-/// A wire at a time, as it is asked for. A time at or above the horizon is read as the horizon's last unit.
+/// A wire and a time, as a question gives them. A time at or above the horizon is read as the horizon's last unit.
 #[derive(Clone, Copy, Debug, PartialEq, Eq)]
 pub struct Moment {
     pub wire: WireId,

@@ -1,4 +1,4 @@
-//! Where the time of a chain of causes went.
+//! How the time of a chain of causes divides among modules.
 ghost use Rattle.std.specs.Prelude.{◌≡◌};
 ghost use Rattle.std.specs.List.{flat_map};
 ghost use Rattle.mp_streams.specs.Outgoing.{Writes as WritesTo};
@@ -16,13 +16,13 @@ use mp_netlist::Netlist;
 use mp_streams::{Failed, Out, Sink, Text, WriteError};
 use std::alloc::Global;
 
-/// Writes where the time went that led to a wire's level at a time: for each module of the whole chain of causes a line
-/// `MODULE UNITS STEPS`, how many units passed in it and in how many steps, the most units first, and of equal ones the lesser number
-/// first. Nothing is written for a wire that didn't change, or where none stands.
+/// Writes how the time up to a wire's level divides among modules: a line `MODULE UNITS STEPS` for each module of the whole chain of causes, with the
+/// units that passed in it and the number of steps. The most units come first, and of equal ones the lesser number. Nothing is written for a wire
+/// that didn't change, or if there is none.
 ///
-/// `WriteFailed` comes with a fault of the sink: then some of what was held and of the text, from the front, is with the sink, and nothing
-/// is held. `OutOfMemory` comes where memory is wanting: then nothing is written. It takes memory for the drivers of wires and for two
-/// numbers of each module. A step of the chain takes searches in the waves of one module's inputs.
+/// `WriteFailed` comes if the sink fails; then the sink has a beginning of what was held and of the text, and nothing is held. `OutOfMemory` comes if
+/// memory runs out; then nothing is written. It takes memory for the drivers of wires and for two numbers of each module. A step of the chain takes
+/// searches in the waves of one module's inputs.
 pub fn put_path<S: Sink>(
     alloc: Global,
     out: &mut Out<S>,

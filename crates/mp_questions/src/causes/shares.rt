@@ -54,7 +54,7 @@ fn no_shares(alloc: Global, netlist: &Netlist) -> Result<Vec<ModuleShare>, Alloc
     Ok(shares)
 }
 
-/// The time of a change, 0 where there is none.
+/// The time of a change, 0 if there is none.
 fn time_of(change: Option<WireChange>) -> u32
     ensures { result ≡ time_of change }
 {
@@ -64,7 +64,7 @@ fn time_of(change: Option<WireChange>) -> u32
     }
 }
 
-/// Adds a step of so many units to the share of the module that it comes from, if it comes from one.
+/// Adds a step of this number of units to the share of the module that it comes from, if it comes from one.
 fn note(shares: &mut Vec<ModuleShare>, port: Option<DrivingPort<'_>>, units: u32)
     requires room { (m : ℕ) (d : Share) → m < length shares.old.items → is_port_of m (option_map port_seen port) ≡ true → HasRoom units (slice_index_or shares.old.items m d) }
     ensures places { length shares.new.items ≡ length shares.old.items }
@@ -75,7 +75,7 @@ fn note(shares: &mut Vec<ModuleShare>, port: Option<DrivingPort<'_>>, units: u32
     }
 }
 
-/// Adds a step of so many units to the share of a module.
+/// Adds a step of this number of units to the share of a module.
 fn add(shares: &mut Vec<ModuleShare>, id: ModuleId, units: u32)
     requires room { (d : Share) → id.0 < length shares.old.items → HasRoom units (slice_index_or shares.old.items id.0 d) }
     ensures places { length shares.new.items ≡ length shares.old.items }
@@ -88,7 +88,7 @@ fn add(shares: &mut Vec<ModuleShare>, id: ModuleId, units: u32)
     }
 }
 
-/// A share with a step of so many units more.
+/// The share with one more step, of this number of units.
 fn with_step(share: ModuleShare, units: u32) -> ModuleShare
     requires { HasRoom units share }
     ensures { result ≡ with_step units share }

@@ -10,7 +10,7 @@ use crate::causes::wire_change::WireChange;
 use mp_netlist::{Driver, Netlist, WireId};
 use std::alloc::{AllocError, Global};
 
-/// What goes back from change to change: the levels of a netlist, and the drivers of its wires, each of which is searched for once.
+/// Goes back from change to change: it has the levels of a netlist and the drivers of its wires, each of which is searched for once.
 #[derive(Drop)]
 pub(crate) struct Tracer<'a> {
     pub(crate) levels: Levels<'a>,
@@ -52,7 +52,7 @@ impl<'a> Tracer<'a> {
     }
 }
 
-/// What drives a wire, searched for where it isn't known yet, and noted.
+/// What drives a wire, searched for if it isn't known yet, and noted.
 fn driver_of(netlist: &Netlist, known: &mut [Option<Driver>], wire: WireId) -> Driver
     requires { AreKnown netlist.now known.old }
     ensures driver { result ≡ driver netlist.now wire.0 }

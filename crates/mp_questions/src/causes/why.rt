@@ -22,13 +22,13 @@ use mp_netlist::{Netlist, WireId};
 use mp_streams::{Failed, Out, Sink, Text, WriteError};
 use std::alloc::Global;
 
-/// Writes why a wire has its level at a time: its last change with the cause, then the change that it follows with the cause of that, and so
-/// on, back to what is set from outside or to the start of a module, but at most so many lines. A wire that didn't change has its declared
-/// level. Nothing is written where no wire stands.
+/// Writes why a wire has its level at a time: its last change with the cause, then the change that it follows with the cause of that, and so on, back
+/// to a stimulus or to the start of a module, in at most this number of lines. A wire that didn't change has its declared level. Nothing is written
+/// if there is no wire.
 ///
-/// `WriteFailed` comes with a fault of the sink: then some of what was held and of the text, from the front, is with the sink, and nothing
-/// is held. `OutOfMemory` comes where memory is wanting: then a part of the text, from its front, is written. It takes memory for the
-/// drivers of wires, and none for the lines. A line takes searches in the waves of one module's inputs.
+/// `WriteFailed` comes if the sink fails; then the sink has a beginning of what was held and of the text, and nothing is held. `OutOfMemory` comes if
+/// memory runs out; then a beginning of the text is written. It takes memory for the drivers of wires, and none for the lines. A line takes searches
+/// in the waves of one module's inputs.
 pub fn put_why<S: Sink>(
     alloc: Global,
     out: &mut Out<S>,
@@ -74,7 +74,7 @@ fn put_chain<S: Sink>(
     Ok(())
 }
 
-/// Writes the line of a wire that didn't change, and nothing where none stands.
+/// Writes the line of a wire that didn't change; nothing if there is none.
 fn put_declared<S: Sink>(out: &mut Out<S>, netlist: &Netlist, wire: WireId) -> Result<(), Failed>
     ensures { WritesTo result out.old out.new (declared_line (wire_at netlist.now wire.0)) }
 {
@@ -136,7 +136,7 @@ fn put_port<S: Sink>(out: &mut Out<S>, port: DrivingPort<'_>) -> Result<(), Fail
     (" < ", name, " ", (kind, "/", port.delay, " <")).put_to(out)
 }
 
-/// Writes events, each behind a space.
+/// Writes events, each after a space.
 fn put_events<S: Sink>(
     out: &mut Out<S>,
     netlist: &Netlist,
@@ -161,7 +161,7 @@ fn put_event<S: Sink>(out: &mut Out<S>, netlist: &Netlist, event: InputEvent) ->
     ("/", event.delay).put_to(out)
 }
 
-/// The name of a wire, and no text where none stands.
+/// The name of a wire; empty if there is none.
 fn wire_name(netlist: &Netlist, wire: WireId) -> &str
     ensures { result.now ≡ wire_name netlist.now wire }
 {

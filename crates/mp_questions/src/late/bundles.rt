@@ -19,7 +19,8 @@ use rayon::prelude::*;
 use std::alloc::{AllocError, Global};
 use std::thread::Threads;
 
-/// All data that are late: by time, then by bundle. At most so many threads look for them, the calling one included; one alone starts none.
+/// All data that are late: by time, then by bundle. At most this number of threads look for them, the calling one included; with one no thread is
+/// started.
 pub fn all_late<R: Threads + Sync>(
     rt: &R,
     alloc: Global,
@@ -39,7 +40,8 @@ pub fn all_late<R: Threads + Sync>(
     Ok(all)
 }
 
-/// What is late at each bundle by number, each list by time. At most so many threads look for it, the calling one included; one alone starts none.
+/// The late data of each bundle by number, each list by time. At most this number of threads look for it, the calling one included; with one no
+/// thread is started.
 pub fn late_lists<R: Threads + Sync>(
     rt: &R,
     alloc: Global,
@@ -101,11 +103,11 @@ fn joined(alloc: Global, lists: &[Vec<Late>]) -> Result<Vec<Late>, AllocError>
     Ok(all)
 }
 
-/// What is late at a bundle, by time; nothing where none stands.
+/// What is late at a bundle, by time; nothing if there is none.
 fn late_over(alloc: Global, of: Driven<'_>, id: BundleId) -> Result<Vec<Late>, AllocError>
     ensures { IfOk result (λ list. list.items ≡ late_over of.entry.netlist.now id) }
 {
-    // Its contract tells that the netlist is well formed.
+    // Its contract says that the netlist is well formed.
     let _horizon = of.netlist.horizon();
     let Some(bundle) = of.netlist.bundle(id) else {
         return Ok(Vec::new(alloc));
@@ -143,7 +145,7 @@ fn late_among(
     Ok(late)
 }
 
-/// How late the data of a bundle that change at a time are behind the last request before, if they are.
+/// By how many units a change of a bundle's data is after the last request before it, if it is late.
 fn units_behind(
     search: &mut Search<'_>,
     bundle: &BundleRecord,

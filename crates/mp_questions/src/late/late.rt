@@ -1,7 +1,7 @@
 //! Data that are late.
 use mp_netlist::BundleId;
 
-/// A change of a bundle's data that is late behind a request.
+/// A change of a bundle's data that is late.
 #[derive(Clone, Copy, Debug, PartialEq, Eq)]
 pub struct Late {
     /// When the data change, in units from 0.

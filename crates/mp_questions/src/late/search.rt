@@ -75,7 +75,7 @@ impl<'a> Search<'a> {
         Ok(false)
     }
 
-    /// Whether a change is an excuse. If not, what it comes from is to be looked at.
+    /// Whether a change is an excuse. If not, its sources are added to the pending changes.
     fn is_excuse(&mut self, request: WireTime, change: WireTime) -> Result<bool, AllocError>
         requires form { IsCircuit self.old.of.netlist.now }
         requires within { change.time < self.old.of.netlist.now.horizon }
@@ -186,7 +186,7 @@ fn is_request(request: WireTime, wire: WireId, found: Option<u32>) -> bool
     }
 }
 
-/// The delay of an output port: 1, as the least, where there is no such port.
+/// The delay of an output port: 1, as the least, if there is no such port.
 fn delay_of(part: &ModuleRecord, port: u32) -> u32
     ensures { result ≡ delay_of part.now port }
 {

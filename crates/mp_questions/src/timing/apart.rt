@@ -6,8 +6,8 @@ ghost use Rattle.mp_questions.specs.timing.Waits.{apart};
 
 use crate::timing::delayed_input::{DelayedInput, since};
 
-/// The time of the last event up to a time that just one of two inputs of width 1 had, or 0 where there was none: since then they differ
-/// where they do, and agree where they do. It looks back over the times at which both had an event.
+/// The time of the last event up to a time that exactly one of two inputs of width 1 had, or 0 if there was none: since then the two have differed,
+/// or have agreed, all the time. It looks back over the times at which both had an event.
 pub(crate) fn apart_since(
     one: Option<DelayedInput<'_>>,
     other: Option<DelayedInput<'_>>,

@@ -20,7 +20,7 @@ pub(crate) fn put_bundles<S: Sink>(out: &mut Out<S>, at: &WaitMoment<'_>) -> Res
     Ok(())
 }
 
-/// Writes the line of a bundle, and nothing where none stands.
+/// Writes the line of a bundle; nothing if there is none.
 fn put_bundle<S: Sink>(out: &mut Out<S>, at: &WaitMoment<'_>, id: BundleId) -> Result<(), Failed>
     ensures { Writes result out.old out.new (bundle_wait at.now.netlist.now at.now.time id.0) }
 {
@@ -30,7 +30,7 @@ fn put_bundle<S: Sink>(out: &mut Out<S>, at: &WaitMoment<'_>, id: BundleId) -> R
     }
 }
 
-/// Writes that a bundle waits for its acknowledge, where it is busy.
+/// Writes that a bundle waits for its acknowledge, if it is busy.
 fn put_busy<S: Sink>(
     out: &mut Out<S>,
     at: &WaitMoment<'_>,

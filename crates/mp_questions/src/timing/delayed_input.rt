@@ -1,11 +1,11 @@
-//! What an input of a module hears.
+//! Inputs with delays.
 ghost use Rattle.std.specs.Prelude.{◌≡◌, ℕ, ◌+◌, ◌<◌, ◌≤◌, ◌^◌};
 ghost use Rattle.mp_questions.specs.timing.Events.{since};
 ghost use Rattle.mp_questions.specs.timing.Hearing.{HearsPort};
 
 use mp_wave::Wave;
 
-/// The wave of a wire, so many units later.
+/// The wave of a wire, later by a delay.
 #[derive(Clone, Copy)]
 pub struct DelayedInput<'a> {
     pub wave: &'a Wave,
@@ -25,7 +25,7 @@ impl<'a> DelayedInput<'a> {
         self.wave.level_at(time.saturating_sub(self.delay))
     }
 
-    /// The time of the last event up to a time, or 0 where there was none.
+    /// The time of the last event up to a time, or 0 if there was none.
     pub fn since(self, time: u32) -> u32
         requires { time < 2 ^ 31 }
         ensures value { (f : ℕ → ℕ) (end : ℕ) → Hears f end self.entry → time < end → result ≡ since f time }
@@ -56,7 +56,7 @@ impl<'a> DelayedInput<'a> {
     }
 }
 
-/// The level that a port hears at a time: 0 where there is no such port.
+/// The level at a port at a time, 0 if there is no such port.
 pub(crate) fn level_at(port: Option<DelayedInput<'_>>, time: u32) -> u64
     ensures { (f : ℕ → ℕ) (end : ℕ) → HearsPort f end port.entry → time < end → result ≡ f time }
 {
@@ -66,7 +66,7 @@ pub(crate) fn level_at(port: Option<DelayedInput<'_>>, time: u32) -> u64
     }
 }
 
-/// The time of the last event that a port hears up to a time, or 0 where there was none.
+/// The time of the last event of a port up to a time, or 0 if there was none.
 pub(crate) fn since(port: Option<DelayedInput<'_>>, time: u32) -> u32
     requires { time < 2 ^ 31 }
     ensures value { (f : ℕ → ℕ) (end : ℕ) → HearsPort f end port.entry → time < end → result ≡ since f time }
@@ -78,7 +78,7 @@ pub(crate) fn since(port: Option<DelayedInput<'_>>, time: u32) -> u32
     }
 }
 
-/// The time of the first event that a port hears after a time, or an end that comes first.
+/// The time of the first event of a port after a time, or the end if that comes first.
 pub(crate) fn next(port: Option<DelayedInput<'_>>, time: u32, end: u32) -> u32
     ensures within { result ≤ end }
     ensures later { time < end → time < result }

@@ -11,7 +11,7 @@ use mp_model::Waves;
 use mp_netlist::{Netlist, WireId};
 use mp_wave::WaveChanges;
 
-/// The changes of a wire that stands in some units below the horizon.
+/// The changes of a wire that exists in a range of units below the horizon.
 pub(crate) fn events_within<'a>(
     netlist: &Netlist,
     waves: &'a Waves,

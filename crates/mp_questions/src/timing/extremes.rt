@@ -9,7 +9,7 @@ pub struct Extremes {
     pub most: u32,
 }
 
-/// The extremes of numbers that had these, none where there were none yet, and of a further number.
+/// The extremes of numbers that had these, none if there were none yet, and of a further number.
 pub(crate) fn widened(found: Option<Extremes>, number: u32) -> Option<Extremes>
     ensures { result ≡ widened found number }
 {

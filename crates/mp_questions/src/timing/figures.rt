@@ -1,4 +1,4 @@
-//! Figures behind the name of a wire or a bundle.
+//! Figures after the name of a wire or a bundle.
 ghost use Rattle.std.specs.Prelude.{◌≡◌};
 ghost use Rattle.mp_streams.specs.Outgoing.{Writes};
 ghost use Rattle.mp_questions.specs.timing.Measures.{figures_line};
@@ -7,7 +7,7 @@ use crate::timing::extremes::Extremes;
 use mp_streams::{Failed, Out, Sink, Text};
 use mp_wave::WaveChanges;
 
-/// The times of the first and of the last event, where there is one.
+/// The times of the first and of the last event, if there is one.
 #[derive(Clone, Copy)]
 pub(crate) struct FirstAndLast<'a> {
     pub(crate) events: WaveChanges<'a>,
@@ -28,7 +28,7 @@ impl<'a> Text for FirstAndLast<'a> {
     }
 }
 
-/// The least and the greatest of some numbers behind a word, and nothing where there are none.
+/// The least and the greatest of some numbers, after a word; nothing if there are no numbers.
 #[derive(Clone, Copy)]
 pub(crate) struct LeastAndMost<'a> {
     pub(crate) word: &'a str,
@@ -48,7 +48,7 @@ impl<'a> Text for LeastAndMost<'a> {
     }
 }
 
-/// The least of some numbers behind a word, and nothing where there are none.
+/// The least of some numbers, after a word; nothing if there are no numbers.
 #[derive(Clone, Copy)]
 pub(crate) struct Least<'a> {
     pub(crate) word: &'a str,
@@ -68,7 +68,7 @@ impl<'a> Text for Least<'a> {
     }
 }
 
-/// The greatest of some numbers behind a word, and nothing where there are none.
+/// The greatest of some numbers, after a word; nothing if there are no numbers.
 #[derive(Clone, Copy)]
 pub(crate) struct Most<'a> {
     pub(crate) word: &'a str,

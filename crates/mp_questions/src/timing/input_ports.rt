@@ -1,4 +1,4 @@
-//! What the inputs of a module hear.
+//! The inputs of a module as waves.
 ghost use Rattle.std.specs.Prelude.{ℕ, ◌≡◌, All, IsSome, Some, slice_index};
 ghost use Rattle.mp_records.specs.declared.ports.Input.{Input as Port};
 ghost use Rattle.mp_netlist.specs.Circuit.{IsModule, wire_at};
@@ -11,7 +11,7 @@ use crate::timing::wait_moment::WaitMoment;
 use mp_modules::MOST_INPUTS;
 use mp_netlist::ModuleRecord;
 
-/// What each port that a module can have hears, and nothing where there is no such port.
+/// The delayed wave at each port that a module can have; `None` if the module has no such port.
 #[derive(Clone, Copy)]
 pub(crate) struct InputPorts<'a> {
     pub(crate) first: Option<DelayedInput<'a>>,
@@ -66,7 +66,7 @@ impl<'a> InputPorts<'a> {
     }
 }
 
-/// What a port of a module hears.
+/// The delayed wave at a port of a module.
 fn ear<'a>(at: &WaitMoment<'a>, found: &ModuleRecord, port: usize) -> Option<DelayedInput<'a>>
     requires { IsModule at.now.netlist.now found.now }
     ensures { HearsPort (λ t. slice_index (inputs_by at.now.netlist.now (level at.now.netlist.now) found.now t) port) at.now.netlist.now.horizon result }

@@ -7,7 +7,7 @@ ghost use Rattle.mp_questions.specs.timing.Waits.{input_line, since_line};
 use mp_netlist::{ModuleRecord, Netlist, WireId};
 use mp_streams::{Failed, Out, Sink, Text};
 
-/// Writes a name, what goes on there, with what, and since when.
+/// Writes a name, what it does, with what, and since when.
 pub(crate) fn put_since<S: Sink, T: Text>(
     out: &mut Out<S>,
     name: &str,
@@ -20,7 +20,7 @@ pub(crate) fn put_since<S: Sink, T: Text>(
     (name, does, what, (" since ", since, "\n")).put_to(out)
 }
 
-/// Writes a module's name, what goes on there, the wire at one of its inputs, and since when.
+/// Writes a module's name, what it does, the wire at one of its inputs, and since when.
 pub(crate) fn put_input<S: Sink>(
     out: &mut Out<S>,
     netlist: &Netlist,
@@ -37,7 +37,7 @@ pub(crate) fn put_input<S: Sink>(
     put_since(out, found.name.as_str(), does, &what, since)
 }
 
-/// The name of a wire, and no text where none stands.
+/// The name of a wire; empty if there is none.
 pub(crate) fn wire_name(netlist: &Netlist, wire: WireId) -> &str
     ensures { result.now ≡ wire_name netlist.now wire }
 {

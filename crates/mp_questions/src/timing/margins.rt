@@ -36,7 +36,7 @@ pub(crate) fn gaps(events: WaveChanges<'_>) -> Option<Extremes>
     found
 }
 
-/// The extremes of how long the data of each request stood, where they changed at all. The requests are read once, and so are the data.
+/// The extremes of how long the data of each request stood, if they changed at all. The requests are read once, and so are the data.
 pub(crate) fn setups(
     netlist: &Netlist,
     waves: &Waves,
@@ -60,8 +60,7 @@ pub(crate) fn setups(
     found
 }
 
-/// The extremes of how long after each request the next acknowledge came, where one did. The requests are read once, and so are the
-/// acknowledges.
+/// The extremes of how long after each request the next acknowledge came, if one did. The requests are read once, and so are the acknowledges.
 pub(crate) fn responses(
     netlist: &Netlist,
     waves: &Waves,
@@ -105,7 +104,7 @@ fn units_within(late: &Late, units: Units) -> Option<u32>
     None
 }
 
-/// The events of a wire that stands, from time 0 on.
+/// The events of a wire from time 0 on.
 fn trail_of<'a>(netlist: &Netlist, waves: &'a Waves, wire: WireId) -> Trail<'a>
     requires waves { AreWavesOf netlist.now waves.now }
     requires stands { IsSome (wire_at netlist.now wire.0) }

@@ -4,7 +4,7 @@ ghost use Rattle.mp_questions.specs.timing.Hearing.{marked, bit};
 
 use mp_modules::Memory;
 
-/// The times of the last events up to a time, 0 where there was none: of the outputs before their delays, and of whether each client waits.
+/// The times of the last events up to a time, 0 if there was none: of the outputs before their delays, and of whether each client waits.
 #[derive(Clone, Copy)]
 pub(crate) struct Marks {
     pub(crate) first_output: u32,

@@ -18,15 +18,15 @@ use mp_model::Waves;
 use mp_netlist::{BundleId, BundleRecord, Netlist, WireId};
 use mp_streams::{Failed, Out, Sink};
 
-/// Writes what a range of times measures, given the waves of the netlist and what is late at each bundle by number. For each wire by number a line
-/// `wire NAME EVENTS`, where it has events the times of the first and the last, and where it has two the least and the greatest gap between two
-/// that follow each other. Then for each bundle by number a line `bundle NAME REQUESTS`, ` setup S` with the least time for which the data of a
-/// request stood, where they changed at all, ` response LEAST MOST` with how long after a request the next acknowledge came, where one did, and
-/// ` late L` with the greatest number of units by which data are late that change in the range, where any are. Data of requests and acknowledges
-/// count wherever they lie below the horizon.
+/// Writes the measures of a range of times, given the waves of the netlist and the late data of each bundle by number. For each wire by number a line
+/// `wire NAME EVENTS`, if it has events the times of the first and the last, and if it has two the least and the greatest gap between two that follow
+/// each other. Then for each bundle by number a line `bundle NAME REQUESTS`, ` setup S` with the least time for which the data of a request stood, if
+/// they changed at all, ` response LEAST MOST` with how long after a request the next acknowledge came, if one did, and ` late L` with the greatest
+/// number of units by which data are late that change in the range, if any are. Data of requests and acknowledges count wherever they lie below the
+/// horizon.
 ///
-/// `Failed` comes with a fault of the sink: then some of what was held and of the lines, from the front, is with the sink, and nothing is
-/// held. It takes no memory, and reads each wave once for each line that it counts in.
+/// `Failed` comes if the sink fails; then the sink has a beginning of what was held and of the lines, and nothing is held. It takes no memory, and
+/// reads each wave once for each line that needs it.
 pub fn put_measure<S: Sink>(
     out: &mut Out<S>,
     netlist: &Netlist,
@@ -61,7 +61,7 @@ fn put_wires<S: Sink>(
     Ok(())
 }
 
-/// Writes the line of a wire, and nothing where none stands.
+/// Writes the line of a wire; nothing if there is none.
 fn put_wire<S: Sink>(
     out: &mut Out<S>,
     netlist: &Netlist,
@@ -108,7 +108,7 @@ fn put_bundles<S: Sink>(
     Ok(())
 }
 
-/// Writes the line of a bundle with all that is late at it, and nothing where none stands.
+/// Writes the line of a bundle with all that is late at it; nothing if there is none.
 fn put_slot<S: Sink>(
     out: &mut Out<S>,
     netlist: &Netlist,

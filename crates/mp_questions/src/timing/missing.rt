@@ -13,7 +13,7 @@ use crate::timing::wait_moment::WaitMoment;
 use mp_modules::Rendezvous;
 use mp_netlist::ModuleRecord;
 
-/// The input of a C that hasn't come, where the other one has: behind its bubble it agrees with the output.
+/// The input of a C whose event is missing, if that of the other one has come: the input that agrees, behind its bubble, with the output.
 pub fn missing_input(at: &WaitMoment<'_>, found: &ModuleRecord) -> Option<usize>
     requires form { IsModule at.now.netlist.now found.now }
     requires kind { found.now.kind ≡ kinds.C }
@@ -36,7 +36,7 @@ pub fn missing_input(at: &WaitMoment<'_>, found: &ModuleRecord) -> Option<usize>
     Some(1)
 }
 
-/// The output of a C whose inputs differ since a time: the level of both before that, or its first output where that is 0.
+/// The output of a C whose inputs differ since a time: the level of both before that, or its first output if that is 0.
 fn joined_before(ears: InputPorts<'_>, bubbles: Rendezvous, since: u32) -> u64
     ensures first { since ≡ 0 → result ≡ (if bubbles.initial then 1 else 0) }
     ensures later { (f : ℕ → ℕ) (end e : ℕ) → HearsPort f end ears.entry.first → since ≡ suc e → e < end → result ≡ bubbled bubbles.bubble_a (f e) }
@@ -47,7 +47,7 @@ fn joined_before(ears: InputPorts<'_>, bubbles: Rendezvous, since: u32) -> u64
     bubbled(bubbles.bubble_a, level_at(ears.first, since - 1))
 }
 
-/// The level behind a bubble, where there is one.
+/// The level behind a bubble, if there is one.
 fn bubbled(bubble: bool, level: u64) -> u64
     ensures { result ≡ bubbled bubble level }
 {

@@ -1,7 +1,7 @@
 //! A range of times.
 
-/// The times from one on to before another, as they are asked for. A netlist reads a time at or above its horizon as its last unit, or as
-/// the horizon where it ends the range. There are none where the first is then not below the end.
+/// The times from one to before another, as a question gives them. A time at or above the horizon is read as the last unit, or as the horizon if it
+/// ends the range. The range is empty if its first time is then not below its end.
 #[derive(Clone, Copy, Debug, PartialEq, Eq)]
 pub struct TimeRange {
     /// The first time.

@@ -27,7 +27,7 @@ impl<'a> WaitMoment<'a> {
     ghost use Rattle.mp_model.specs.Waves.{level, wave};
     ghost use Rattle.mp_questions.specs.timing.Hearing.{Hears};
 
-    /// The wave of a wire that stands.
+    /// The wave of a wire that exists.
     pub fn wave_of(&self, wire: WireId) -> &'a Wave
         requires { IsSome (wire_at self.now.netlist.now wire.0) }
         ensures { result.now ≡ wave self.now.netlist.now wire.0 }
@@ -38,7 +38,7 @@ impl<'a> WaitMoment<'a> {
         }
     }
 
-    /// What an input that reads a wire that stands hears.
+    /// The delayed wave at an input whose wire exists.
     pub fn heard(&self, input: Input) -> DelayedInput<'a>
         requires { IsSome (wire_at self.now.netlist.now input.wire.0) }
         ensures { Hears (input_by self.now.netlist.now (level self.now.netlist.now) input) self.now.netlist.now.horizon result }
@@ -50,7 +50,7 @@ impl<'a> WaitMoment<'a> {
         }
     }
 
-    /// What is heard of a wire that stands without a delay.
+    /// The wave of a wire that exists, without a delay.
     pub fn prompt(&self, wire: WireId) -> DelayedInput<'a>
         requires { IsSome (wire_at self.now.netlist.now wire.0) }
         ensures { Hears (level self.now.netlist.now wire.0) self.now.netlist.now.horizon result }

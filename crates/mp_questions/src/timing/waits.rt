@@ -27,9 +27,8 @@ use mp_streams::{Failed, Out, Sink};
 /// request went on; an ARBITER for that of its owner, since the grant, and it keeps the request of a client that waits; a REG holds a
 /// level; a bundle that is busy waits for its acknowledge, since its last request. A time at or above the horizon is read as its last unit.
 ///
-/// `Failed` comes with a fault of the sink: then some of what was held and of the lines, from the front, is with the sink, and nothing is
-/// held. It takes no memory. What a C, a REG or a bundle waits for is found by searches in waves; a CALL and an ARBITER are followed once, from
-/// event to event.
+/// `Failed` comes if the sink fails; then the sink has a beginning of what was held and of the lines, and nothing is held. It takes no memory. What a
+/// C, a REG or a bundle waits for is found by searches in waves; a CALL and an ARBITER are followed once, from event to event.
 pub fn put_waits<S: Sink>(
     out: &mut Out<S>,
     netlist: &Netlist,
@@ -59,7 +58,7 @@ fn put_modules<S: Sink>(out: &mut Out<S>, at: &WaitMoment<'_>) -> Result<(), Fai
     Ok(())
 }
 
-/// Writes the lines of a module, and nothing where none stands.
+/// Writes the lines of a module; nothing if there is none.
 fn put_module<S: Sink>(out: &mut Out<S>, at: &WaitMoment<'_>, id: ModuleId) -> Result<(), Failed>
     ensures { Writes result out.old out.new (module_wait at.now.netlist.now at.now.time id.0) }
 {
@@ -160,7 +159,7 @@ fn put_arbiter<S: Sink>(
     }
 }
 
-/// Writes that an ARBITER keeps the first client's request, where it waits.
+/// Writes that an ARBITER keeps the first client's request, if it waits.
 fn put_first_kept<S: Sink>(
     out: &mut Out<S>,
     at: &WaitMoment<'_>,
@@ -178,7 +177,7 @@ fn put_first_kept<S: Sink>(
     put_input(out, at.netlist, found, " ARBITER keeps ", 0, asked)
 }
 
-/// Writes that an ARBITER keeps the second client's request, where it waits.
+/// Writes that an ARBITER keeps the second client's request, if it waits.
 fn put_second_kept<S: Sink>(
     out: &mut Out<S>,
     at: &WaitMoment<'_>,
@@ -217,7 +216,7 @@ fn put_register<S: Sink>(
     put_since(out, name, " REG holds ", &level, since_held)
 }
 
-/// What a REG that is held since a time holds: its data before that, or its first level where that is 0.
+/// What a REG that is held since a time holds: its data before that, or its first level if that is 0.
 fn held_before(ears: InputPorts<'_>, params: &[u64], since: u32) -> u64
     ensures first { since ≡ 0 → result ≡ slice_index params.now 0 }
     ensures later { (f : ℕ → ℕ) (end e : ℕ) → HearsPort f end ears.entry.first → since ≡ suc e → e < end → result ≡ f e }
