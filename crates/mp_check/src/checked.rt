@@ -1,4 +1,4 @@
-//! What is found where a netlist is checked.
+//! What is found if a netlist is checked.
 ghost use Rattle.std.specs.Prelude.{IfOk};
 ghost use Rattle.mp_model.specs.Waves.{AreWavesOf};
 ghost use Rattle.mp_check.specs.Checks.{IsCheckOf};
@@ -14,7 +14,7 @@ use mp_report::report;
 use std::alloc::{AllocError, Global};
 use std::thread::Threads;
 
-/// What is found where a netlist is checked, and what its notes are written by.
+/// What is found if a netlist is checked, and what its notes are written by.
 #[derive(Drop)]
 pub struct Checked {
     pub(crate) findings: Vec<Finding>,

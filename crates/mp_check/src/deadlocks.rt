@@ -11,7 +11,7 @@ use crate::waiting::{port_slots, wait_of};
 use std::alloc::{AllocError, Global};
 use std::marker::Model;
 
-/// A cycle of ports each of which waits for the wire of the next, the last one for that of the first, which is the least port of them.
+/// A cycle of ports each of which waits for the wire of the next, and the last one for that of the first, which is the least of them.
 #[derive(Drop)]
 pub struct Deadlock {
     waits: Vec<Wait>,
@@ -41,7 +41,7 @@ impl Deadlock {
 pub(crate) fn deadlocks(alloc: Global, end: &RunEnd<'_>) -> Result<Vec<Deadlock>, AllocError>
     ensures { IfOk result (λ found. found.items ≡ deadlocks end.now.at.netlist.now) }
 {
-    // Its contract tells that the netlist is well formed.
+    // Its contract says that the netlist is well formed.
     let _horizon = end.at.netlist.horizon();
     let next = next_ports(alloc, end)?;
     let firsts = round_beginnings(alloc, next.as_slice())?;
@@ -52,7 +52,7 @@ pub(crate) fn deadlocks(alloc: Global, end: &RunEnd<'_>) -> Result<Vec<Deadlock>
     Ok(found)
 }
 
-/// For each port by number the next one, whose wire it waits for; how many numbers there are where it waits for none.
+/// For each port by number the next one, whose wire it waits for; how many numbers there are if it waits for none.
 #[tactic(auto, using(crate::proofs::WayLemmas::number_steps))]
 fn next_ports(alloc: Global, end: &RunEnd<'_>) -> Result<Vec<u32>, AllocError>
     ensures each { IfOk result (λ next. next.items ≡ map (next_port end.now.at.netlist.now) (range_with_len 0 (port_slots end.now.at.netlist.now))) }
@@ -66,7 +66,7 @@ fn next_ports(alloc: Global, end: &RunEnd<'_>) -> Result<Vec<u32>, AllocError>
     Ok(next)
 }
 
-/// The port whose wire a port waits for; how many numbers there are where it waits for none.
+/// The port whose wire a port waits for; how many numbers there are if it waits for none.
 fn next_port(end: &RunEnd<'_>, number: u32) -> u32
     ensures value { result ≡ next_port end.now.at.netlist.now number }
     ensures within { result ≤ port_slots end.now.at.netlist.now }

@@ -1,8 +1,8 @@
 //! Whether a netlist works.
 //!
-//! `check` collects what is found in a netlist, data that come late, and deadlocks: ports that wait for each other's wires for ever. `put_check` writes
-//! these and the notes on wires. Begin with `specs/CheckLines.antt`, which says what is written; `waiting` has what a port waits for, and `rounds` how
-//! the ports that wait in a circle are found.
+//! `check` collects the findings of a netlist, late data, and deadlocks: ports that wait for each other's wires for ever. `put_check` writes these
+//! and the notes on wires. Begin with `specs/CheckLines.antt`, which says what is written; `waiting` has what a port waits for, and `rounds` how the
+//! ports that wait in a circle are found.
 #![tactic(auto)]
 
 mod checked;

@@ -24,8 +24,7 @@ use mp_streams::{Failed, Out, Sink, Text};
 /// Writes what a check of a netlist found: the lines of the report, a line `TIME bundle NAME late UNITS` for each change of data that is late, a line
 /// `TIME deadlock MODULE waits for WIRE, ..` for each deadlock, and a line `note wire NAME ..` for each note on a wire. Times are in units from 0.
 ///
-/// `Failed` comes if the sink fails: then some of what was held and of the lines, from the front, is with the sink, and nothing is held. It
-/// takes no memory.
+/// `Failed` comes if the sink fails; then the sink has a beginning of what was held and of the lines, and nothing is held. It takes no memory.
 pub fn put_check<S: Sink>(
     out: &mut Out<S>,
     netlist: &Netlist,
@@ -87,7 +86,7 @@ fn put_deadlock<S: Sink>(out: &mut Out<S>, end: &RunEnd<'_>, waits: &[Wait]) -> 
     out.put_text("\n")
 }
 
-/// The last time at which one of the wires changed, 0 where none did.
+/// The last time at which one of the wires changed, 0 if none did.
 fn stands_since(end: &RunEnd<'_>, waits: &[Wait]) -> u32
     ensures { result ≡ stands_since end.now.at.netlist.now waits.now }
 {
@@ -98,11 +97,11 @@ fn stands_since(end: &RunEnd<'_>, waits: &[Wait]) -> u32
     latest
 }
 
-/// The time of the last change of a wire, 0 where there is none.
+/// The time of the last change of a wire, 0 if there is none.
 fn since(end: &RunEnd<'_>, wire: WireId) -> u32
     ensures { result ≡ since (level end.now.at.netlist.now wire.0) (last_unit end.now.at.netlist.now) }
 {
-    // Its contract tells that the netlist is well formed.
+    // Its contract says that the netlist is well formed.
     let _horizon = end.at.netlist.horizon();
     match end.at.netlist.wire(wire) {
         Some(_) => end.at.prompt(wire).since(end.at.time),
@@ -121,7 +120,7 @@ fn put_waits<S: Sink>(out: &mut Out<S>, netlist: &Netlist, waits: &[Wait]) -> Re
     put_others(out, netlist, others)
 }
 
-/// Writes what more ports wait for, each behind a comma.
+/// Writes what the further ports wait for, each after a comma.
 fn put_others<S: Sink>(out: &mut Out<S>, netlist: &Netlist, others: &[Wait]) -> Result<(), Failed>
     ensures { Writes result out.old out.new (flat_map (next_text netlist.now) others.now) }
 {
@@ -145,7 +144,7 @@ fn put_wait<S: Sink>(out: &mut Out<S>, netlist: &Netlist, wait: Wait) -> Result<
     (name, " waits for ", wire_name(netlist, wait.wire)).put_to(out)
 }
 
-/// The name of a module, and no text where none stands.
+/// The name of a module; empty if there is none.
 fn module_name(netlist: &Netlist, id: ModuleId) -> &str
     ensures { result.now ≡ name_in (module_at netlist.now id.0) }
 {
@@ -155,7 +154,7 @@ fn module_name(netlist: &Netlist, id: ModuleId) -> &str
     }
 }
 
-/// The name of a wire, and no text where none stands.
+/// The name of a wire; empty if there is none.
 fn wire_name(netlist: &Netlist, wire: WireId) -> &str
     ensures { result.now ≡ wire_name netlist.now wire }
 {

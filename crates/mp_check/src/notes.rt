@@ -13,7 +13,7 @@ use crate::waiting::output_at;
 use mp_netlist::{Driver, ModuleId, WireId, WireRecord};
 use mp_streams::{Failed, Out, Sink, Text};
 
-/// Writes the note on each wire by number, where the marks say which wires are read.
+/// Writes the note on each wire by number, if the marks say which wires are read.
 pub(crate) fn put_notes<S: Sink>(
     out: &mut Out<S>,
     end: &RunEnd<'_>,
@@ -77,7 +77,7 @@ fn put_undriven<S: Sink>(
     put_line(out, found, &" is unused")
 }
 
-/// Writes that nothing reads a wire with a stimulus, where nothing does.
+/// Writes that nothing reads a wire with a stimulus, if nothing does.
 fn put_unread<S: Sink>(out: &mut Out<S>, found: &WireRecord, has_reader: bool) -> Result<(), Failed>
     ensures { Writes result out.old out.new (stimulus_note found.now has_reader) }
 {
@@ -87,7 +87,7 @@ fn put_unread<S: Sink>(out: &mut Out<S>, found: &WireRecord, has_reader: bool) -
     put_line(out, found, &" has a stimulus, and nothing reads it")
 }
 
-/// Writes that a wire has another level than the declared one from the delay of its port on, where it has.
+/// Writes that a wire has another level than the declared one from the delay of its port on, if it has.
 fn put_port<S: Sink>(
     out: &mut Out<S>,
     end: &RunEnd<'_>,
@@ -100,7 +100,7 @@ fn put_port<S: Sink>(
     requires driver { driver end.now.at.netlist.now wire.0 ≡ Port id port }
     ensures { Writes result out.old out.new (port_note end.now.at.netlist.now found.now id.0 port (module_at end.now.at.netlist.now id.0)) }
 {
-    // Its contract tells that the netlist is well formed.
+    // Its contract says that the netlist is well formed.
     let _horizon = end.at.netlist.horizon();
     let Some(part) = end.at.netlist.module(id) else {
         return Ok(());
@@ -113,7 +113,7 @@ fn put_port<S: Sink>(
     put_becomes(out, found, level, delay)
 }
 
-/// Writes that a wire has a level from a delay on, where that isn't the declared one.
+/// Writes that a wire has a level from a delay on, if that isn't the declared one.
 fn put_becomes<S: Sink>(
     out: &mut Out<S>,
     found: &WireRecord,

@@ -20,7 +20,7 @@ pub(crate) fn read_wires(alloc: Global, netlist: &Netlist) -> Result<Vec<bool>, 
     Ok(marks)
 }
 
-/// Marks what the inputs of a module read, if it stands.
+/// Marks the wires that a module reads, if it exists.
 fn mark_module(netlist: &Netlist, id: ModuleId, marks: &mut Vec<bool>)
     requires within { id.0 < length netlist.now.modules }
     requires before { AreReadByModules netlist.now id.0 marks.old.items }
@@ -52,7 +52,7 @@ fn mark_bundles(netlist: &Netlist, marks: &mut Vec<bool>)
     }
 }
 
-/// Marks what a bundle names, if it stands.
+/// Marks the wires that a bundle names, if it exists.
 fn mark_bundle(netlist: &Netlist, id: BundleId, marks: &mut Vec<bool>)
     requires within { id.0 < length netlist.now.bundles }
     requires before { AreReadByBundles netlist.now id.0 marks.old.items }

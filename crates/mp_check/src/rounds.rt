@@ -9,14 +9,13 @@ use std::alloc::{AllocError, Global};
 /// For each number the way from it on, of as many numbers as there are in each.
 #[derive(Drop)]
 struct Ways {
-    /// The number behind each way.
+    /// The number at the end of each way.
     beyond: Vec<u32>,
-    /// The least number on each way, and how many ways there are where it is none of these.
+    /// The least number on each way, and how many ways there are if it is none of these.
     least: Vec<u32>,
 }
 
-/// The numbers to which the way behind them comes round, and that are the least on it, where each number has a next one. How many numbers there
-/// are stands for none.
+/// The numbers that are on a cycle and are the least on it, if each number has a next one. The number of all numbers means that there is no next one.
 pub(crate) fn round_beginnings(alloc: Global, next: &[u32]) -> Result<Vec<u32>, AllocError>
     requires few { length next.now < 2 ^ 32 }
     requires next { All (λ k. k ≤ length next.now) next.now }
@@ -34,7 +33,7 @@ pub(crate) fn round_beginnings(alloc: Global, next: &[u32]) -> Result<Vec<u32>, 
     Ok(found)
 }
 
-/// The ways of so many numbers.
+/// The ways of `count` numbers.
 fn ways_of(alloc: Global, next: &[u32], count: u32) -> Result<Ways, AllocError>
     requires few { length next.now < 2 ^ 32 }
     requires next { All (λ k. k ≤ length next.now) next.now }
@@ -62,7 +61,7 @@ fn no_ways(alloc: Global, next: &[u32]) -> Result<Ways, AllocError>
     Ok(Ways { beyond, least })
 }
 
-/// The ways of twice as many numbers, and of one more if that is asked for.
+/// The ways of twice as many numbers, plus one if `and_one` is true.
 fn doubled(alloc: Global, next: &[u32], half: &Ways, and_one: bool) -> Result<Ways, AllocError>
     requires few { length next.now < 2 ^ 32 }
     requires next { All (λ k. k ≤ length next.now) next.now }
@@ -77,7 +76,7 @@ fn doubled(alloc: Global, next: &[u32], half: &Ways, and_one: bool) -> Result<Wa
     Ok(Ways { beyond, least })
 }
 
-/// The number behind such a way.
+/// The number at the end of such a way.
 fn doubled_beyond(next: &[u32], half: &Ways, number: u32, and_one: bool) -> u32
     requires few { length next.now < 2 ^ 32 }
     requires next { All (λ k. k ≤ length next.now) next.now }
@@ -109,7 +108,7 @@ fn doubled_least(next: &[u32], half: &Ways, number: u32, and_one: bool) -> u32
     first.min(second)
 }
 
-/// The number at a place, and one that stands for none where there is no such place.
+/// The number at a place, or `none` if there is no such place.
 fn number_in(none: u32, numbers: &[u32], place: u32) -> u32
     ensures { result ≡ number_in none numbers.now place }
 {

@@ -1,7 +1,7 @@
 //! What a port waits for.
 use mp_netlist::{ModuleId, WireId};
 
-/// A module a port of which can't change its wire before another port changes the wire that it waits for.
+/// A module with a port that can't change its wire before another port changes the wire that it waits for.
 #[derive(Clone, Copy, Debug, PartialEq, Eq)]
 pub struct Wait {
     pub waiter: ModuleId,

@@ -51,7 +51,7 @@ fn wait_at(end: &RunEnd<'_>, id: ModuleId, part: &ModuleRecord, port: u32) -> Op
     }
 }
 
-/// An output of a module, one without a wire where there is no such port.
+/// An output of a module, one without a wire if there is no such port.
 pub(crate) fn output_at(part: &ModuleRecord, port: u32) -> Output
     ensures { result ≡ output_at part.now port }
 {
@@ -64,12 +64,12 @@ pub(crate) fn output_at(part: &ModuleRecord, port: u32) -> Output
     }
 }
 
-/// That a module waits for a wire, where a port drives that.
+/// That a module waits for a wire, if a port drives that.
 fn wait_for(end: &RunEnd<'_>, waiter: ModuleId, wire: WireId) -> Option<Wait>
     ensures value { result ≡ wait_for end.now.at.netlist.now waiter.0 wire }
     ensures within { IfSome result (λ wait. wait.next < port_slots end.now.at.netlist.now) }
 {
-    // Its contract tells that the netlist is well formed.
+    // Its contract says that the netlist is well formed.
     let _horizon = end.at.netlist.horizon();
     match end.driver_of(wire) {
         Driver::Port(driver, output) => Some(Wait {
@@ -81,7 +81,7 @@ fn wait_for(end: &RunEnd<'_>, waiter: ModuleId, wire: WireId) -> Option<Wait>
     }
 }
 
-/// Whether what a port gives is out: no input of its module has had an event in the last units, of which there are as many as its delay.
+/// Whether the changes of a port have all reached its wire: no input of its module has had an event within the port's delay before the end.
 fn is_given_out(end: &RunEnd<'_>, part: &ModuleRecord, delay: u32) -> bool
     requires { IsModule end.now.at.netlist.now part.now }
     ensures { result ≡ is_given_out end.now.at.netlist.now part.now delay }
@@ -105,7 +105,7 @@ fn is_input_still(end: &RunEnd<'_>, input: Input, after: u32) -> bool
     end.at.heard(input).since(end.at.time) <= after
 }
 
-/// The wire that an output stays for, where no change of it is on its way.
+/// The wire whose change an output needs, if no change of it is on its way.
 fn needed_wire(end: &RunEnd<'_>, id: ModuleId, part: &ModuleRecord, port: u32) -> Option<WireId>
     requires stands { module_at end.now.at.netlist.now id.0 ≡ Some part.now }
     requires form { IsModule end.now.at.netlist.now part.now }
@@ -120,7 +120,7 @@ fn needed_wire(end: &RunEnd<'_>, id: ModuleId, part: &ModuleRecord, port: u32) -
     }
 }
 
-/// The wire at an input, where no change of it is on its way there.
+/// The wire at an input, if no change of it is on its way to the input.
 fn arrived_wire(end: &RunEnd<'_>, input: Input) -> Option<WireId>
     requires { IsSome (wire_at end.now.at.netlist.now input.wire.0) }
     ensures { result ≡ arrived_wire end.now.at.netlist.now input }
@@ -132,7 +132,7 @@ fn arrived_wire(end: &RunEnd<'_>, input: Input) -> Option<WireId>
     None
 }
 
-/// The input without an event of which an output stays.
+/// The input without whose event an output keeps its level.
 fn needed_input(end: &RunEnd<'_>, id: ModuleId, part: &ModuleRecord, port: u32) -> Option<usize>
     requires stands { module_at end.now.at.netlist.now id.0 ≡ Some part.now }
     requires form { IsModule end.now.at.netlist.now part.now }
