@@ -7,7 +7,7 @@ use mp_streams::{Failed, Out, Piece, Sink, Text};
 /// How many digits a code has to choose from.
 const BASE: u32 = 94;
 
-/// The digit that stands for 0 in a code.
+/// The digit 0 of a code.
 const FIRST_DIGIT: u8 = b'!';
 
 /// The identifier code of the wire of a number.
@@ -30,7 +30,7 @@ impl Text for Code {
     }
 }
 
-/// Writes the code of a wire from a place on, and returns where it ends.
+/// Writes the code of a wire from a place on, and returns the index after it.
 #[inline(always)]
 pub(crate) fn write_code(wire: u32, room: &mut [u8], at: usize) -> usize
     requires { at + 5 ≤ length room.old }

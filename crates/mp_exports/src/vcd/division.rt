@@ -7,16 +7,16 @@ use crate::vcd::time_chunk::TimeChunk;
 use mp_netlist::WireId;
 use std::alloc::{AllocError, Global};
 
-/// How many bytes a passage has, about, where there are several.
+/// How many bytes a passage has, about, if there are several.
 const PASSAGE_BYTES: usize = 2_097_152;
 
-/// How many bytes a passage has at most, about, where there are several.
+/// How many bytes a passage has at most, about, if there are several.
 const MOST_BYTES: usize = 8_388_608;
 
-/// From so many threads on there are several passages: two make them no sooner than one thread writes them.
+/// From this number of threads on the text is divided into passages: two threads don't make it faster than one.
 const LEAST_THREADS: usize = 3;
 
-/// How many portions a passage has at least: so many that it costs little to find where the changes of each wire begin in it.
+/// The least number of portions of a passage, such that it costs little to find where the changes of each wire begin in it.
 const PORTIONS: u32 = 4;
 
 /// How many bytes the value of a wire has beside its digits, about: what goes before them, a code and a line feed.
@@ -25,8 +25,8 @@ const BYTES_BESIDE: usize = 6;
 /// How many bytes the line of a time has, about.
 const TIME_BYTES: usize = 8;
 
-/// The times from 1 to one below the horizon, in passages for so many threads: in one where there are one or two threads or little to write, and where
-/// there are so many wires that the text of so many portions would be too long.
+/// The times from 1 to one below the horizon, divided into passages for this number of threads. There is one passage if there are one or two threads,
+/// or little to write, or too many wires for the text of the least number of portions.
 pub(crate) fn passages_of(
     alloc: Global,
     of: Recorded<'_>,
@@ -61,7 +61,7 @@ fn units_of_passage(of: Recorded<'_>) -> u32 {
     units_in(horizon, bytes, PASSAGE_BYTES).max(least)
 }
 
-/// In how many units there are so many bytes, of all that there are up to the horizon.
+/// The number of units with this number of bytes, of all bytes up to the horizon.
 fn units_in(horizon: u32, all: usize, bytes: usize) -> u32
     requires { 0 < bytes }
     ensures { result ≤ horizon }

@@ -21,7 +21,7 @@ impl<'a> DumpBatch<'a> {
     ghost use Rattle.mp_streams.specs.WriteErrors.{Writes};
     ghost use Rattle.mp_exports.specs.vcd.Clauses.{flat_map, passage_text, AreMade};
 
-    /// A batch of no passages, with so many rooms.
+    /// A batch without passages, with this number of buffers.
     pub(crate) fn new(alloc: Global, rooms: usize) -> Result<DumpBatch<'a>, AllocError>
         ensures rooms { IfOk result (λ batch. vec_len batch.rooms ≡ rooms) }
         ensures none { IfOk result (λ batch. batch.passages.now ≡ []) }
@@ -36,7 +36,7 @@ impl<'a> DumpBatch<'a> {
         })
     }
 
-    /// Makes the texts of passages in place of those before, each on a thread of its own where one can be started.
+    /// Makes the texts of passages in place of those before, each on a thread of its own if one can be started.
     pub(crate) fn make<R: Threads + Sync>(
         &mut self,
         rt: &R,
@@ -52,7 +52,7 @@ impl<'a> DumpBatch<'a> {
         make_each(rt, alloc, passages, self.rooms.as_mut_slice());
     }
 
-    /// Writes the texts of the passages, one behind the other.
+    /// Writes the texts of the passages, one after the other.
     pub(crate) fn put<S: Sink>(&self, alloc: Global, out: &mut Out<S>) -> Result<(), WriteError>
         requires { AreMade self.now }
         ensures { Writes result out.old out.new (flat_map passage_text self.now.passages.now) }
@@ -61,7 +61,7 @@ impl<'a> DumpBatch<'a> {
     }
 }
 
-/// Writes the texts of passages, one behind the other: those that rooms at their places have, and the others as the passages write them.
+/// Writes the texts of passages, one after the other: those that the buffers at their places have, and the others directly.
 pub(crate) fn put_each<S: Sink>(
     alloc: Global,
     out: &mut Out<S>,
@@ -96,7 +96,7 @@ fn make_each<R: Threads + Sync>(
     );
 }
 
-/// Makes the text of the passage at a place, where there is one.
+/// Makes the text of the passage at a place, if there is one.
 fn make_at(alloc: Global, passages: &[TimeChunk<'_>], place: usize, room: &mut Room)
     ensures { IsMadeAt passages.now place room.new }
 {

@@ -15,15 +15,14 @@ use mp_streams::{Out, Sink, WriteError};
 use std::alloc::Global;
 use std::thread::Threads;
 
-/// Writes the value change dump of a netlist, given its waves. Read by the rules of IEEE Std 1364, its text declares the wires that stand,
-/// and gives each at each time below the horizon the wire's level. With three `threads` or more, at most that many make its text ahead of the calling
-/// one, which writes it.
+/// Writes the value change dump of a netlist, given its waves. Read by the rules of IEEE Std 1364, its text declares the wires that exist, and gives
+/// each at each time below the horizon the wire's level. With three `threads` or more, at most that many make its text ahead of the calling one,
+/// which writes it.
 ///
-/// `WriteFailed` comes if the sink fails: then some of what was held and of the dump, from the front, is with the sink, and nothing
-/// is held. `OutOfMemory` comes if memory runs out: then a part of the dump, from its front, is written. It takes time in proportion
-/// to the wires, the units and the changes; and of memory 12 bytes for each wire, and for each thread that makes text 8 for each wire, 16 for
-/// each change and 4 for each unit of a portion, which has as many changes as stay near the processor, and twice the text of a passage, 2 MiB
-/// mostly and 16 MiB at most.
+/// `WriteFailed` comes if the sink fails; then the sink has a beginning of what was held and of the dump, and nothing is held. `OutOfMemory` comes if
+/// memory runs out; then a beginning of the dump is written. It takes time in proportion to the wires, the units and the changes; and of memory 12
+/// bytes for each wire, and for each thread that makes text 8 for each wire, 16 for each change and 4 for each unit of a portion, which has as many
+/// changes as stay near the processor, and twice the text of a passage, 2 MiB mostly and 16 MiB at most.
 #[tactic(auto, using(crate::proofs::lemmas::vcd::DumpReadLemmas::says_levels))]
 pub fn put_dump<R: Threads + Sync, S: Sink>(
     rt: &R,

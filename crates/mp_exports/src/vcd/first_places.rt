@@ -1,4 +1,4 @@
-//! Where the changes of waves from a time on begin.
+//! The places of the first changes of waves from a time on.
 ghost use Rattle.std.specs.Prelude.{◌≡◌};
 ghost use Rattle.mp_exports.specs.vcd.Clauses.{IfOk, length, vec_len};
 

@@ -48,10 +48,10 @@ fn is_ahead(changes: WaveChanges<'_>, place: usize, time: u32) -> bool
     place >= changes.len() || time <= changes.time_at(place)
 }
 
-/// How many places before and behind the one at a steady pace are looked at before others.
+/// The number of places before and after the expected one that are tried first.
 const NEAR: usize = 24;
 
-/// The place at which the changes of a wave from a time on begin. It is looked for first near where it is if changes come at a steady pace up to
+/// The place of the first change of a wave from a time on. It is looked for first near the place that it has if changes come at a steady pace up to
 /// the horizon.
 pub(crate) fn place_at(wave: &Wave, time: u32, horizon: u32) -> usize
     ensures { result ≤ length wave.now.changes }

@@ -4,10 +4,10 @@ ghost use Rattle.std.specs.Prelude.{◌<◌};
 use mp_model::Waves;
 use mp_netlist::{Netlist, WireId};
 
-/// So many changes are listed at once for each wire, on average: so that a wire is looked at seldom.
+/// This number of changes is listed at once for each wire on average, so that each wire is looked at seldom.
 const CHANGES_A_WIRE: usize = 8;
 
-/// So many changes are listed at once, or more: few enough to stay near the processor.
+/// At least this number of changes is listed at once: few enough to stay in a cache.
 const CHANGES_AT_ONCE: usize = 16_384;
 
 /// How much of the waves is listed at once.
@@ -15,7 +15,7 @@ const CHANGES_AT_ONCE: usize = 16_384;
 pub(crate) struct Portion {
     /// How many units, one at least.
     pub(crate) units: u32,
-    /// How many changes there are in so many units, on average.
+    /// The average number of changes in a portion.
     pub(crate) changes: usize,
 }
 

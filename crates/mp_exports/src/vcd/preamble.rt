@@ -13,7 +13,7 @@ const BLOCK_START: &str = "$upscope $end\n$enddefinitions $end\n#0\n$dumpvars\n"
 
 const BLOCK_END: &str = "$end\n";
 
-/// What is told of each wire before its changes.
+/// The parts of a dump before the changes.
 #[derive(Clone, Copy)]
 pub(crate) enum PreamblePart {
     Declarations,
@@ -42,7 +42,7 @@ pub fn put_preamble<S: Sink>(
     (OPENING, (declarations, (BLOCK_START, (levels, BLOCK_END)))).put_to(out)
 }
 
-/// The lines of a part for each wire that stands, by number.
+/// The lines of a part for each wire that exists, by number.
 #[derive(Clone, Copy)]
 struct WireLines<'a> {
     netlist: &'a Netlist,
@@ -64,7 +64,7 @@ impl<'a> Text for WireLines<'a> {
 }
 
 impl<'a> WireLines<'a> {
-    /// Writes the line of a wire, where the wire stands.
+    /// Writes the line of a wire, if the wire exists.
     fn put_part<S: Sink>(&self, out: &mut Out<S>, id: WireId) -> Result<(), Failed>
         ensures { Writes result out.old out.new (slot_text (part_line self.now.netlist.now self.now.part) id.0 (wire_at self.now.netlist.now id.0)) }
     {

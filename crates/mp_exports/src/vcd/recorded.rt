@@ -1,4 +1,4 @@
-//! What the changes of a dump are told from.
+//! What the changes of a dump are made from.
 ghost use Rattle.std.specs.Prelude.{◌≡◌, ◌<◌, ◌≤◌, ℕ, map, slice_index};
 ghost use Rattle.mp_netlist.specs.Circuit.{width_of};
 ghost use Rattle.mp_model.specs.Waves.{AreWavesOf};

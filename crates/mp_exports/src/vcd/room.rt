@@ -12,7 +12,7 @@ use std::alloc::Global;
 /// How many bytes a text has at most that is made ahead.
 const MOST_BYTES: usize = 16_777_216;
 
-/// The text of a passage, where it was made ahead.
+/// The text of a passage, if it was made ahead.
 #[derive(Drop)]
 pub(crate) struct Room {
     pub(crate) text: Option<Vec<u8>>,
@@ -21,7 +21,7 @@ pub(crate) struct Room {
 impl Room {
     ghost use Rattle.mp_exports.specs.vcd.Clauses.{IsMade};
 
-    /// Makes the text of a passage. It isn't made where it is too long, and where memory is refused.
+    /// Makes the text of a passage. It isn't made if it is too long, and if memory is refused.
     pub(crate) fn make(&mut self, alloc: Global, passage: &TimeChunk<'_>)
         ensures { IsMade passage.now self.new }
     {
@@ -33,7 +33,7 @@ impl Room {
     }
 }
 
-/// Writes the text of a passage: the one that a room has, or, where none has it, as the passage writes it.
+/// Writes the text of a passage: the one that a room has, or, if none has it, as the passage writes it.
 pub(crate) fn put_text<S: Sink>(
     alloc: Global,
     out: &mut Out<S>,

@@ -10,8 +10,8 @@ use std::alloc::Global;
 use std::mem;
 use std::thread::{Threads, join_mut};
 
-/// Writes the texts of the passages, one behind the other. Where there are several passages, so many threads make their texts, while the calling
-/// thread writes those that were made before.
+/// Writes the texts of the passages, one after the other. If there are several passages, this number of threads make their texts, while the calling
+/// thread writes those that are already made.
 #[tactic(auto, using(crate::proofs::lemmas::vcd::StandingLemmas::unmade))]
 pub(crate) fn put_passages<R: Threads + Sync, S: Sink>(
     rt: &R,

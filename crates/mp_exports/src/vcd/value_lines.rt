@@ -29,7 +29,7 @@ impl Piece for ValueLine {
     }
 }
 
-/// Writes a level of so many bits from a place on, and returns where it ends.
+/// Writes a level of so many bits from a place on, and returns the index after it.
 #[inline(always)]
 fn write_value(width: u32, level: u64, room: &mut [u8], at: usize) -> usize
     requires { at + width + 2 ≤ length room.old }
@@ -46,7 +46,7 @@ fn write_value(width: u32, level: u64, room: &mut [u8], at: usize) -> usize
     end + 1
 }
 
-/// Writes the lowest bits of a level, so many, from a place on, the greatest first, and returns where they end.
+/// Writes the lowest bits of a level, so many, from a place on, the greatest first, and returns the index after them.
 #[inline]
 fn write_bits(width: u32, level: u64, room: &mut [u8], at: usize) -> usize
     requires { at + width ≤ length room.old }

@@ -64,7 +64,7 @@ impl<'a, N: Text> Text for Register<'a, N> {
     }
 }
 
-/// What the wire of a number is called, and nothing where none stands.
+/// What the wire of a number is called; nothing if there is none.
 #[derive(Clone, Copy)]
 pub(crate) struct Wire<'a> {
     pub(crate) netlist: &'a Netlist,

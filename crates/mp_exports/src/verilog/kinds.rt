@@ -34,7 +34,7 @@ pub(crate) fn module_word(kind: Kind) -> &'static str
     }
 }
 
-/// The modules of the kinds of which a module stands.
+/// The Verilog modules of the kinds that occur.
 #[derive(Clone, Copy)]
 pub(crate) struct KindModules<'a> {
     pub(crate) netlist: &'a Netlist,
@@ -51,7 +51,7 @@ impl<'a> Text for KindModules<'a> {
     }
 }
 
-/// Writes the modules of those of the kinds of which a module stands.
+/// Writes the Verilog modules of those of the kinds that occur.
 fn put_kinds<S: Sink>(out: &mut Out<S>, netlist: &Netlist, kinds: &[Kind]) -> Result<(), Failed>
     ensures { Writes result out.old out.new (flat_map (kind_section netlist.now) kinds.now) }
 {
@@ -81,7 +81,7 @@ fn all_kinds() -> &'static [Kind]
     ]
 }
 
-/// Writes the module of a kind, where one of the netlist's modules has it.
+/// Writes the Verilog module of a kind, if the kind occurs.
 fn put_kind<S: Sink>(out: &mut Out<S>, netlist: &Netlist, kind: Kind) -> Result<(), Failed>
     ensures { Writes result out.old out.new (kind_section netlist.now kind) }
 {
@@ -91,7 +91,7 @@ fn put_kind<S: Sink>(out: &mut Out<S>, netlist: &Netlist, kind: Kind) -> Result<
     out.put_text(kind_text(kind))
 }
 
-/// Whether a module of this kind stands.
+/// Whether the netlist has a module of this kind.
 fn occurs(netlist: &Netlist, kind: Kind) -> bool
     ensures { result ≡ list_any (is_of_kind kind) netlist.now.modules }
 {

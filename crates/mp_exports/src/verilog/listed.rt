@@ -8,14 +8,14 @@ use mp_streams::{Failed, Out, Sink, Text};
 
 /// What has an item for some numbers, that begins with a comma.
 pub(crate) trait Listed {
-    // The item of a number, empty where it has none.
+    // The item of a number, empty if it has none.
     ghost item: { Self → ℕ → List ℕ };
 
     /// Whether it has an item for this number.
     fn has_item(&self, number: u32) -> bool
         ensures { result ≡ has_some (item self.now number) };
 
-    /// Writes the item of this number, without its comma where it is the first. `Failed` is as that of `Out::put_bytes`.
+    /// Writes the item of this number, without its comma if it is the first. `Failed` comes as in `Out::put_bytes`.
     fn put_item<S: Sink>(&self, out: &mut Out<S>, number: u32, is_first: bool) -> Result<(), Failed>
         ensures { Writes result out.old out.new (cond is_first (without_first (item self.now number)) (item self.now number)) };
 }
@@ -41,7 +41,7 @@ impl<T: Listed> Text for Separated<T> {
     }
 }
 
-/// Whether there is no item yet behind one number more.
+/// Whether there is still no item after one more number.
 fn is_still_first(is_first: bool, has_item: bool) -> bool
     ensures { result ≡ (is_first && not has_item) }
 {

@@ -28,7 +28,7 @@ impl<N: Text, V: Text> Text for Given<N, V> {
     }
 }
 
-/// What stands before the item of this number.
+/// The text before the item of this number.
 fn comma(number: u32) -> &'static str
     ensures { result.now ≡ comma number }
 {

@@ -47,7 +47,7 @@ fn is_reserved(name: &str) -> bool
     is_in_verilog(name) || is_in_system_verilog(name) || is_in_iverilog(name)
 }
 
-/// A name: a reserved word stands between a backslash and a space.
+/// A name; a reserved word is written between a backslash and a space.
 #[derive(Clone, Copy)]
 pub(crate) struct Identifier<'a> {
     pub(crate) name: &'a str,

@@ -7,7 +7,7 @@ use crate::verilog::numbered::Each;
 use crate::verilog::wires::Wires;
 use mp_streams::{Failed, Out, Sink, Text};
 
-/// The wires as ports: an input where no port of a module drives it, and else an output.
+/// The wires as ports: an input if no port of a module drives it, and otherwise an output.
 #[derive(Clone, Copy)]
 struct ModulePorts<'a> {
     wires: Wires<'a>,

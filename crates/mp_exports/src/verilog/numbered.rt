@@ -10,7 +10,7 @@ pub(crate) trait Numbered {
     // The text of a number.
     ghost item: { Self → ℕ → List ℕ };
 
-    /// Writes the text of this number. `Failed` is as that of `Out::put_bytes`.
+    /// Writes the text of this number. `Failed` comes as in `Out::put_bytes`.
     fn put_item<S: Sink>(&self, out: &mut Out<S>, number: u32) -> Result<(), Failed>
         ensures { Writes result out.old out.new (item self.now number) };
 }

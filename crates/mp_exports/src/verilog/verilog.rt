@@ -14,9 +14,9 @@ use mp_netlist::{Driver, Netlist};
 use mp_streams::{Failed, Out, Sink, Text, WriteError};
 use std::alloc::Global;
 
-/// Writes a netlist as Verilog: a module for each kind that occurs, one for the netlist, and a test bench that drives it and dumps the levels
-/// of its wires. `WriteFailed` comes if the sink fails: then some of what was held and of the text, from the front, is with the sink,
-/// and nothing is held. `OutOfMemory` comes before anything is written. It takes memory for the driver of each wire.
+/// Writes a netlist as Verilog: a module for each kind that occurs, one for the netlist, and a test bench that drives it and dumps the levels of its
+/// wires. `WriteFailed` comes if the sink fails; then the sink has a beginning of what was held and of the text, and nothing is held. `OutOfMemory`
+/// comes before anything is written. It takes memory for the driver of each wire.
 pub fn put_verilog<S: Sink>(
     alloc: Global,
     out: &mut Out<S>,

@@ -26,7 +26,7 @@ impl<'a> Wires<'a> {
         self.netlist.wire_slots()
     }
 
-    /// The wire of this number, where it stands.
+    /// The wire of this number, if it exists.
     pub(crate) fn at(&self, number: u32) -> Option<&'a WireRecord>
         ensures { option_copied result ≡ wire_at self.now.netlist.now number }
     {
