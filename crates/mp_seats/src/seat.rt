@@ -58,7 +58,7 @@ impl<B: ReplyWriter, G: Occupant> Seat<B, G> {
         guest
     }
 
-    /// Answers each line that comes, and passes the answer on to the sink, before it reads the next one. It ends if the source ends.
+    /// Answers each line that comes, and passes the answer on to the sink, before it reads the next one. It ends when the source ends.
     ///
     /// `ReadFailed` comes if the source fails, after the answers to all lines that ended before. `WriteFailed` comes with a fault of the sink, and
     /// `OutOfMemory` if memory runs out for the answer to a question: then a part of the last answer may be written. An edit for which memory runs

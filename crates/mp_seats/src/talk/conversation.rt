@@ -11,7 +11,7 @@ use mp_text::LineReader;
 use std::sync::Wait;
 use std::thread::Threads;
 
-/// Has each line answered, and passes the answer on to the sink, before it reads the next one. It ends if the source ends.
+/// Has each line answered, and passes the answer on to the sink, before it reads the next one. It ends when the source ends.
 ///
 /// `ReadFailed` comes if the source fails, after the answers to all lines that ended before. `WriteFailed` comes with a fault of the
 /// sink, and `OutOfMemory` if memory runs out for an answer: then a part of the last answer may be written.
