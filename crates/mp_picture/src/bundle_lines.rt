@@ -9,7 +9,7 @@ use crate::nodes::{Id, put_node, wire_name};
 use mp_netlist::{BundleId, BundleRecord, Netlist, WireId};
 use mp_streams::{Failed, Out, Sink, Text};
 
-/// Writes the lines of a bundle, and nothing where no bundle stands: its node, and a line to it from each of its wires.
+/// Writes the lines of a bundle, and nothing if there is no bundle: its node, and a line to it from each of its wires.
 pub(crate) fn put_bundle_lines<S: Sink>(
     out: &mut Out<S>,
     netlist: &Netlist,
@@ -56,7 +56,7 @@ fn put_box<S: Sink>(
     put_node(out, Id { kind, name }, &label, style)
 }
 
-/// Writes the line from where a wire begins to its cell in the bundle of a name.
+/// Writes the line from the tail of a wire to its cell in the bundle of this name.
 fn put_line<S: Sink>(
     out: &mut Out<S>,
     netlist: &Netlist,

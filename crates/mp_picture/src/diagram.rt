@@ -25,9 +25,8 @@ use std::alloc::Global;
 /// Writes the timing diagram of a picture: the times, a row for each wire, a row for each module and bundle of which the report finds
 /// something in the range, and the report's lines of these findings.
 ///
-/// `WriteFailed` comes if the sink fails: then some of what was held and of the diagram, from the front, is with the sink, and
-/// nothing is held. `OutOfMemory` comes if memory runs out: then a part of the diagram, from its front, is written. It takes memory
-/// for the findings in the range and for one row.
+/// `WriteFailed` comes if the sink fails; then the sink has a beginning of what was held and of the diagram, and nothing is held. `OutOfMemory` comes
+/// if memory runs out; then a beginning of the diagram is written. It takes memory for the findings in the range and for one row.
 pub fn put_diagram<S: Sink>(
     alloc: Global,
     out: &mut Out<S>,

@@ -7,7 +7,7 @@ use mp_modules::Kind;
 use mp_netlist::{ModuleId, ModuleRecord, Netlist};
 use mp_streams::{Failed, Out, Sink, Text};
 
-/// Where an edge meets a module.
+/// The place at which an edge meets a module.
 #[derive(Clone, Copy, Debug, PartialEq, Eq)]
 pub(crate) enum EdgePort {
     /// Anywhere, since the ports of its kind don't differ.
@@ -70,7 +70,7 @@ pub(crate) fn output_cells(kind: Kind) -> &'static str
     }
 }
 
-/// Where the edge of a read meets the module that reads.
+/// The place at which the edge of a read meets the module that reads.
 pub(crate) fn input_port(netlist: &Netlist, part: ModuleId, port: u32) -> EdgePort
     ensures { result ≡ input_port (module_at netlist.now part.0) port }
 {
@@ -80,7 +80,7 @@ pub(crate) fn input_port(netlist: &Netlist, part: ModuleId, port: u32) -> EdgePo
     }
 }
 
-/// Where the edges of a wire leave the module that drives it.
+/// The place at which the edges of a wire leave the module that drives it.
 pub(crate) fn output_port(netlist: &Netlist, part: ModuleId, port: u32) -> EdgePort
     ensures { result ≡ output_port (module_at netlist.now part.0) port }
 {

@@ -11,7 +11,7 @@ use crate::nodes::{Id, put_node, wire_name};
 use mp_netlist::{Driver, ModuleId, Netlist, WireId};
 use mp_streams::{Failed, Out, Sink, Text};
 
-/// A node, and where an edge meets it.
+/// A node, and the place at which an edge meets it.
 #[derive(Clone, Copy)]
 pub(crate) struct End<'a> {
     pub(crate) id: Id<'a>,
@@ -28,7 +28,7 @@ impl<'a> Text for End<'a> {
     }
 }
 
-/// The name of a wire with the delay of the port that drives it, as `q1/2`, and nothing where none does.
+/// The name of a wire with the delay of the port that drives it, as `q1/2`, and nothing if none does.
 #[derive(Clone, Copy)]
 struct DrivenName<'a> {
     name: &'a str,
@@ -49,7 +49,7 @@ impl<'a> Text for DrivenName<'a> {
     }
 }
 
-/// The delay of an input, as `+4`, and nothing where there is none.
+/// The delay of an input, as `+4`; nothing if there is none.
 #[derive(Clone, Copy)]
 struct InputDelay {
     delay: u32,
@@ -109,7 +109,7 @@ fn put_edge<S: Sink>(
     (ends, label, bubble(netlist, reader, port), "];\n").put_to(out)
 }
 
-/// Where the edges of a wire begin: at the port that drives it, or at its own node.
+/// The tail of a wire's edges: the port that drives it, or its own node.
 pub(crate) fn tail<'a>(netlist: &'a Netlist, wire: WireId, driver: Driver) -> End<'a>
     ensures kind { result.id.kind.now ≡ tail_kind driver }
     ensures name { result.id.name.now ≡ tail_name netlist.now wire.0 driver }
@@ -178,7 +178,7 @@ fn tail_delay(netlist: &Netlist, driver: Driver) -> Option<u32>
     }
 }
 
-/// The name of a module, and no text where none stands.
+/// The name of a module; empty if there is none.
 fn module_name(netlist: &Netlist, part: ModuleId) -> &str
     ensures { result.now ≡ module_name (module_at netlist.now part.0) }
 {
@@ -188,7 +188,7 @@ fn module_name(netlist: &Netlist, part: ModuleId) -> &str
     }
 }
 
-/// The delay of an input port: 0 where there is no such port.
+/// The delay of an input port: 0 if there is no such port.
 fn input_delay(netlist: &Netlist, part: ModuleId, port: u32) -> u32
     ensures { result ≡ input_delay (module_at netlist.now part.0) port }
 {
@@ -201,7 +201,7 @@ fn input_delay(netlist: &Netlist, part: ModuleId, port: u32) -> u32
     }
 }
 
-/// The delay of an output port: 1, as the least, where there is no such port.
+/// The delay of an output port: 1, as the least, if there is no such port.
 fn output_delay(netlist: &Netlist, part: ModuleId, port: u32) -> u32
     ensures { result ≡ output_delay (module_at netlist.now part.0) port }
 {

@@ -104,8 +104,8 @@ fn is_module(place: Place) -> bool
     }
 }
 
-/// Puts the row of a place behind the text: its name, filled with blanks to the width of the names, `!` in each column in which
-/// something is found there, and a line feed. No blanks stand at its end.
+/// Appends the row of a place: its name, filled with blanks to the width of the names, `!` in each column with a finding there, and a line feed.
+/// There are no blanks at its end.
 pub fn push_place_row(
     row: &mut Vec<u8>,
     netlist: &Netlist,
@@ -123,7 +123,7 @@ pub fn push_place_row(
     Ok(())
 }
 
-/// The name of what stands at a place, and no text where nothing does.
+/// The name of the module or bundle at a place; empty if there is none.
 pub fn place_name(netlist: &Netlist, place: Place) -> &str
     ensures { result.now ≡ place_name netlist.now place }
 {
@@ -139,7 +139,7 @@ pub fn place_name(netlist: &Netlist, place: Place) -> &str
     }
 }
 
-/// A mark for each column: `!` where something is found at the place, and else a blank.
+/// A mark for each column: `!` if something is found at the place, and otherwise a blank.
 fn marks_of(
     alloc: Global,
     columns: Columns,

@@ -27,11 +27,10 @@ const HEAD: &str = "digraph netlist {
   edge [fontname=Helvetica fontsize=10 arrowsize=0.7];
 ";
 
-/// Writes a netlist as a graph, for `dot`: a node for each module, each wire that no port drives or no module reads, and each bundle, an
-/// edge for each read, and a dashed line to each bundle from each of its wires. `WriteFailed` comes if the sink fails: then some of what was held
-/// and of the graph, from the front, is
-/// with the sink, and nothing is held. `OutOfMemory` comes if memory runs out: then a part of the graph, from its front, is written.
-/// It takes memory for the reads of one wire.
+/// Writes a netlist as a graph, for `dot`: a node for each module, each wire that no port drives or no module reads, and each bundle, an edge for
+/// each read, and a dashed line to each bundle from each of its wires. `WriteFailed` comes if the sink fails; then the sink has a beginning of what
+/// was held and of the graph, and nothing is held. `OutOfMemory` comes if memory runs out; then a beginning of the graph is written. It takes memory
+/// for the reads of one wire.
 pub fn put_graph<S: Sink>(out: &mut Out<S>, netlist: &Netlist) -> Result<(), WriteError>
     ensures { Writes result out.old out.new (graph netlist.now) }
 {

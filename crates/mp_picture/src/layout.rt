@@ -1,4 +1,4 @@
-//! Where things stand in a picture.
+//! The layout of a picture.
 use crate::columns::Columns;
 use crate::mark::Charset;
 use crate::numerals::Numerals;

@@ -5,12 +5,12 @@ ghost use Rattle.std.specs.Fmt.{digits, digit_glyph};
 use crate::numerals::Numerals;
 use mp_streams::{Failed, Out, Sink, Text};
 
-/// The text of a level: its digits, and what stands before them.
+/// The text of a level: its digits, and the prefix before them.
 #[derive(Clone, Copy)]
 pub(crate) struct LevelText {
     prefix: &'static str,
     digits: [u8; 64],
-    /// Where in `digits` the first of them stands.
+    /// The index of the first digit in `digits`.
     start: usize,
     ghost within: { start ≤ 64 },
 }
@@ -40,7 +40,7 @@ impl LevelText {
         self.prefix.len() + self.digits().len()
     }
 
-    /// What stands before the digits.
+    /// The prefix before the digits.
     pub(crate) fn prefix(&self) -> &'static str
         ensures { result.now ≡ self.now.prefix.now }
     {
@@ -66,7 +66,7 @@ impl Text for LevelText {
     }
 }
 
-/// Puts the digits of a number at the end of some bytes, and returns where the first of them stands.
+/// Writes the digits of a number to the end of some bytes, and returns the index of the first one.
 fn put_digits(number: u64, base: u64, bytes: &mut [u8; 64]) -> usize
     requires some { 2 ≤ base }
     requires few { base ≤ 16 }

@@ -9,7 +9,7 @@ use crate::nodes::wire_name;
 use mp_model::Place;
 use mp_netlist::{Netlist, WireId};
 
-/// How many blanks stand behind the longest name.
+/// The number of blanks after the longest name.
 const GAP: usize = 2;
 
 /// The width of the names of a picture, in characters: that of the longest name of its wires and places, and two more. Without any it is two.
@@ -19,7 +19,7 @@ pub fn margin_of(netlist: &Netlist, wires: &[WireId], places: &[Place]) -> usize
     longest_wire(netlist, wires).max(longest_place(netlist, places)) + GAP
 }
 
-/// How long the longest name of a wire is, 0 where there is none.
+/// How long the longest name of a wire is, 0 if there is none.
 fn longest_wire(netlist: &Netlist, wires: &[WireId]) -> usize
     ensures value { result ≡ longest (map (wire_name netlist.now) wires.now) }
     ensures short { result < 2 ^ 63 }
@@ -31,7 +31,7 @@ fn longest_wire(netlist: &Netlist, wires: &[WireId]) -> usize
     longest
 }
 
-/// How long the longest name of a place is, 0 where there is none.
+/// How long the longest name of a place is, 0 if there is none.
 fn longest_place(netlist: &Netlist, places: &[Place]) -> usize
     ensures value { result ≡ longest (map (place_name netlist.now) places.now) }
     ensures short { result < 2 ^ 63 }

@@ -11,7 +11,7 @@ pub enum Charset {
     Ascii,
 }
 
-/// What stands in a column of a wire's row.
+/// The content of a column in a wire's row.
 #[derive(Clone, Copy, Debug, PartialEq, Eq)]
 pub(crate) enum Mark {
     Low,
@@ -27,8 +27,8 @@ impl Mark {
     ghost use Rattle.std.specs.Prelude.{◌≡◌};
     ghost use Rattle.mp_picture.specs.Marks.{mark_text, bit_mark};
 
-    /// The mark of a wire of width 1 in a column of a picture with so many units a column. Where that is one, an event needs no mark:
-    /// the new level stands in its column.
+    /// The mark of a wire of width 1 in a column of this number of units. In a column of one unit an event needs no mark: the column has the new
+    /// level.
     pub(crate) fn of(units: u32, cell: ColumnCell) -> Mark
         ensures { result ≡ bit_mark units cell }
     {

@@ -27,7 +27,7 @@ impl<'a> Text for Id<'a> {
     }
 }
 
-/// Numbers, each behind a space.
+/// Numbers, each after a space.
 #[derive(Clone, Copy)]
 struct ParamTexts<'a> {
     params: &'a [u64],
@@ -59,8 +59,8 @@ pub(crate) fn put_node<S: Sink, T: Text>(
     (start, label, "\"", (attributes, "];\n")).put_to(out)
 }
 
-/// Writes the line of a module's node, and nothing where no module stands: its name, its kind and its parameters, in the shape of its
-/// kind, with the ports of the kind where they differ.
+/// Writes the line of a module's node, and nothing if there is no module: its name, its kind and its parameters, in the shape of its kind, with the
+/// ports of the kind if they differ.
 pub(crate) fn put_module_node<S: Sink>(
     out: &mut Out<S>,
     netlist: &Netlist,
@@ -87,7 +87,7 @@ fn put_module<S: Sink>(out: &mut Out<S>, part: &ModuleRecord) -> Result<(), Fail
     put_node(out, Id { kind, name }, &label, shape_of(part.kind))
 }
 
-/// The shape of a kind, as an attribute: a box with cells where the ports of the kind differ.
+/// The shape of a kind, as an attribute: a box with cells if the ports of the kind differ.
 fn shape_of(kind: Kind) -> &'static str
     ensures { result.now ≡ shape_of kind }
 {
@@ -100,7 +100,7 @@ fn shape_of(kind: Kind) -> &'static str
     }
 }
 
-/// The name of a wire, and no text where none stands.
+/// The name of a wire; empty if there is none.
 pub(crate) fn wire_name(netlist: &Netlist, wire: WireId) -> &str
     ensures { result.now ≡ wire_name netlist.now wire }
 {

@@ -25,7 +25,7 @@ impl Numerals {
         }
     }
 
-    /// What stands before the digits.
+    /// The prefix before the digits.
     pub(crate) fn prefix(self) -> &'static str
         ensures { result.now ≡ prefix_of self }
     {

@@ -7,7 +7,7 @@ ghost use Rattle.mp_picture.specs.Rows.{padded};
 use itoa::Buffer;
 use std::alloc::AllocError;
 
-/// Puts a text so many times behind a row.
+/// Appends a text `count` times to a row.
 pub(crate) fn push_repeated(row: &mut Vec<u8>, text: &[u8], count: usize) -> Result<(), AllocError>
     ensures { OnOk result (row.new.items ≡ row.old.items ++ repeat count text.now) }
 {

@@ -35,7 +35,7 @@ const ROUND: [u32; 29] = [
     2_000_000_000,
 ];
 
-/// The least round number of units with which so many columns, from a multiple of it on, reach over a range.
+/// The least round number of units with which at most `most` columns, from a multiple of it on, cover a range.
 pub(crate) fn units_of(from: u32, to: u32, most: u32) -> u32
     ensures { result ≡ units_of from to most }
 {
@@ -54,7 +54,7 @@ fn round_numbers() -> &'static [u32]
     &ROUND
 }
 
-/// Whether so many columns of these units, from a multiple of them on, reach over a range.
+/// Whether `most` columns of this number of units, from a multiple of it on, cover a range.
 fn are_enough(from: u32, to: u32, most: u32, units: u32) -> bool
     requires { 0 < units }
     ensures { result ≡ are_enough from to most units }

@@ -17,8 +17,8 @@ use mp_netlist::{Netlist, WireId, WireRecord};
 use mp_wave::Wave;
 use std::alloc::AllocError;
 
-/// Puts the row of a wire behind the text, given the waves of its netlist, and nothing where no wire stands: its name, filled with blanks
-/// to the width of the names, a character a column, and a line feed.
+/// Puts the row of a wire behind the text, given the waves of its netlist, and nothing if there is no wire: its name, filled with blanks to the width
+/// of the names, a character a column, and a line feed.
 pub fn push_wire_line(
     row: &mut Vec<u8>,
     netlist: &Netlist,
@@ -81,7 +81,7 @@ fn push_narrow(
     Ok(())
 }
 
-/// Puts a cross for each column of a wider wire with events, and the levels between them where they fit.
+/// Puts a cross for each column of a wider wire with events, and the levels between them if they fit.
 fn push_wide(
     row: &mut Vec<u8>,
     layout: DiagramLayout,
@@ -122,7 +122,7 @@ pub fn is_still(cell: ColumnCell) -> bool
     }
 }
 
-/// Puts so many columns without an event: the level, where it fits, and then flat ones.
+/// Appends a number of columns without an event: the level if it fits, and then flat ones.
 fn push_run(
     row: &mut Vec<u8>,
     layout: DiagramLayout,

@@ -10,14 +10,14 @@ use crate::repeated::{push_number, push_padded, push_repeated};
 use itoa::Buffer;
 use std::alloc::AllocError;
 
-/// A time stands at each so many columns, or at each twice as many where it would touch the next.
+/// The distance of times, in columns; twice as much if two times would touch.
 const DISTANCE: u32 = 10;
 
-/// The least number with as many digits as columns stand between two times.
+/// The least number with as many digits as there are columns from one time to the next.
 const TEN_DIGITS: u32 = 1_000_000_000;
 
-/// Puts the line of times behind the text: at each tenth column, or at each twentieth where two would touch, the time at which it
-/// begins. No blanks stand behind the last.
+/// Appends the line of times: at each tenth column, or at each twentieth if two would touch, the time at which the column begins. There are no blanks
+/// after the last one.
 pub fn push_ruler(row: &mut Vec<u8>, layout: DiagramLayout) -> Result<(), AllocError>
     ensures { OnOk result (row.new.items ≡ row.old.items ++ ruler layout) }
 {

@@ -29,7 +29,7 @@ pub(crate) struct Spot {
     y: u64,
 }
 
-/// Writes the arrows of which both ends are in the picture; where there are no arrows at all, nothing is written.
+/// Writes the arrows of which both ends are in the picture; if there are no arrows at all, nothing is written.
 pub(crate) fn put_arrow_group<S: Sink>(
     out: &mut Out<S>,
     frame: Frame,
@@ -46,7 +46,7 @@ pub(crate) fn put_arrow_group<S: Sink>(
     }
 }
 
-/// Writes the arrows of which both ends are in the picture, and what stands before and behind them.
+/// Writes the arrows with both ends in the picture, with their group around them.
 fn put_arrow_list<S: Sink>(
     out: &mut Out<S>,
     frame: Frame,
@@ -83,7 +83,7 @@ fn put_arrows<S: Sink>(
     Ok(())
 }
 
-/// Writes an arrow, where both its ends are in the picture.
+/// Writes an arrow, if both its ends are in the picture.
 fn put_arrow<S: Sink>(
     out: &mut Out<S>,
     frame: Frame,
@@ -105,8 +105,8 @@ fn put_arrow<S: Sink>(
     }
 }
 
-/// Where a wire is at a time: at the time's edge, or in the middle of its column, and in the middle of the wire's row. It is nowhere where the
-/// wire has no row, or the time isn't in the range.
+/// The point of a wire at a time: at the time's edge, or in the middle of its column, and in the middle of the wire's row. There is none if the wire
+/// has no row, or the time isn't in the range.
 fn spot_of(frame: Frame, wires: &[WireId], point: WirePoint) -> Option<Spot>
     requires { length wires.now < 2 ^ 32 }
     ensures { result ≡ spot_of frame wires.now point }

@@ -56,7 +56,7 @@ impl<'a> Drawn<'a> {
         }
     }
 
-    /// Writes the value of the first column or of one with an event, and else nothing.
+    /// Writes the value of the first column or of one with an event, and otherwise nothing.
     fn put_value<S: Sink>(
         &self,
         out: &mut Out<S>,
@@ -116,7 +116,7 @@ impl<'a> Drawn<'a> {
     }
 }
 
-/// Writes the band of a column with more than one event, and else nothing.
+/// Writes the band of a column with more than one event, and otherwise nothing.
 fn put_band<S: Sink>(
     out: &mut Out<S>,
     lane: Lane,

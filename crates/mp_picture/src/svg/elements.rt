@@ -24,7 +24,7 @@ impl<T: Text> Text for Label<T> {
     }
 }
 
-/// Any text, as it stands in an element: what begins a tag or a reference is named, and a control character is a blank.
+/// A text as it is written in an element: a character that begins a tag or a reference by its name, and a control character as a blank.
 #[derive(Clone, Copy)]
 pub(crate) struct Escaped<'a> {
     pub(crate) bytes: &'a [u8],

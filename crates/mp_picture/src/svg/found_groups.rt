@@ -73,7 +73,7 @@ fn place_number(place: Place) -> u32
     }
 }
 
-/// Where the words of rows end, 0 where there is none.
+/// The right end of the words of rows, 0 if there is none.
 pub(crate) fn words_end(frame: Frame, rows: &[MarkRow]) -> u64
     ensures value { result ≡ words_end frame rows.now }
     ensures low { result < 2 ^ 63 }
@@ -85,7 +85,7 @@ pub(crate) fn words_end(frame: Frame, rows: &[MarkRow]) -> u64
     end
 }
 
-/// Where the word of a row ends.
+/// The right end of the word of a row.
 #[tactic(auto, using(crate::proofs::lemmas::svg::WordLemmas::word_short))]
 fn word_end(frame: Frame, row: MarkRow) -> u64
     ensures value { result ≡ word_end frame row }
@@ -116,7 +116,7 @@ pub(crate) fn put_findings<S: Sink>(
     Ok(())
 }
 
-/// The row of a finding among some rows: how many stand before it.
+/// The index of the row of a finding among some rows.
 pub(crate) fn row_among(rows: &[MarkRow], finding: Finding) -> u32
     requires { length rows.now < 2 ^ 32 }
     ensures value { result ≡ row_among rows.now finding }

@@ -1,4 +1,4 @@
-//! Where the columns of an SVG stand.
+//! The columns of an SVG.
 use crate::svg::lane::Lane;
 use crate::{Columns, Numerals, last_tick, tick_step};
 use itoa::Buffer;
@@ -17,7 +17,7 @@ impl Frame {
     ghost use Rattle.mp_picture.specs.Rows.{tick_step};
     ghost use Rattle.mp_picture.specs.svg.Frames.{column_x, lane, tick_count, end};
 
-    /// Where a column begins.
+    /// The left edge of a column.
     pub(crate) fn x(self, column: u32) -> u64
         ensures { result ≡ column_x self column }
     {
@@ -36,7 +36,7 @@ impl Frame {
         }
     }
 
-    /// At how many columns a time stands.
+    /// The number of columns with a time.
     pub(crate) fn tick_count(self) -> u32
         ensures value { result ≡ tick_count self }
         ensures some { 0 < result }
@@ -44,7 +44,7 @@ impl Frame {
         last_tick(self.columns) + 1
     }
 
-    /// The column at which a time stands.
+    /// The column of a time, by its number.
     pub(crate) fn tick_column(self, number: u32) -> u32
         requires { number < tick_count self }
         ensures value { result ≡ tick_step self.columns * number }
@@ -53,7 +53,7 @@ impl Frame {
         tick_step(self.columns) * number
     }
 
-    /// Where the columns end, or the last time where that is further.
+    /// The right end of the columns, or of the last time if that is further to the right.
     pub(crate) fn end(self) -> u64
         ensures value { result ≡ end self }
         ensures low { result < 2 ^ 63 }

@@ -12,7 +12,7 @@ use mp_streams::{Failed, Out, Sink, Text};
 /// For how many letters of a title there is room at least.
 const MOST_LETTERS: usize = 1200;
 
-/// Writes the root's begin, the style and the axis of an SVG that is so wide and has so many rows.
+/// Writes the beginning of the root, the style and the axis of an SVG with this width and number of rows.
 pub(crate) fn put_head<S: Sink>(
     out: &mut Out<S>,
     frame: Frame,
@@ -41,7 +41,7 @@ fn begins_letter(byte: u8) -> bool
     byte < 128 || byte >= 192
 }
 
-/// Where the title of the axis ends, or its first 1,200 letters.
+/// The right end of the title of the axis, or of its first 1,200 letters.
 pub(crate) fn title_end(frame: Frame, title: &str) -> u64
     ensures value { result ≡ title_end frame title.now }
     ensures low { result < 2 ^ 63 }
@@ -50,7 +50,7 @@ pub(crate) fn title_end(frame: Frame, title: &str) -> u64
     u64::from(frame.left) + 8 * letters as u64
 }
 
-/// How high an SVG with so many rows is.
+/// The height of an SVG with this number of rows.
 fn height(rows: u32) -> u64
     ensures { result ≡ height rows }
 {

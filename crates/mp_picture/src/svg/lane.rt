@@ -1,4 +1,4 @@
-//! Where the row of a wire stands in an SVG.
+//! The row of a wire in an SVG.
 use crate::Numerals;
 
 /// The row of a wire in an SVG. Rows are counted from 0. Its columns begin at the point `left` of the SVG and have `units` units of time each. Levels
@@ -16,14 +16,14 @@ impl Lane {
     ghost use Rattle.mp_picture.specs.svg.Lanes.{x_of, top, bottom, middle, base, y_of};
     ghost use Rattle.mp_picture.specs.svg.Columns.{value_x, first_room};
 
-    /// Where a column begins.
+    /// The left edge of a column.
     pub(crate) fn begin(self, column: u32) -> u64
         ensures { result ≡ x_of self column }
     {
         u64::from(self.left) + 8 * u64::from(column)
     }
 
-    /// Where a column ends.
+    /// The right edge of a column.
     pub(crate) fn end(self, column: u32) -> u64
         ensures { result ≡ x_of self (column + 1) }
     {
@@ -58,14 +58,14 @@ impl Lane {
         28 * u64::from(self.row) + 48
     }
 
-    /// The line that names and values stand on.
+    /// The base line of names and values.
     pub(crate) fn base(self) -> u64
         ensures { result ≡ base self }
     {
         28 * u64::from(self.row) + 52
     }
 
-    /// Where the level of a wider wire stands behind the cross of a column.
+    /// The x of the level of a wider wire, after the cross of a column.
     pub(crate) fn value_x(self, column: u32) -> u64
         ensures { result ≡ value_x self column }
     {
@@ -76,7 +76,8 @@ impl Lane {
         }
     }
 
-    /// How many digits the level of the first column may have, of so many columns, where so many behind it have no event.
+    /// The number of digits for which the first column has room, with this number of columns after it without an event, of this number of columns in
+    /// all.
     pub(crate) fn first_room(self, later: u32, count: u32) -> u64
         ensures { result ≡ first_room self later count }
     {

@@ -16,7 +16,7 @@ use mp_model::{Finding, Place};
 use mp_netlist::{BundleId, Input, ModuleId, Netlist, WireId};
 use mp_streams::{Failed, Out, Sink, Text};
 
-/// Where a line begins, and the wires whose rows it may lead to.
+/// The beginning of a line, and the wires whose rows it may lead to.
 #[derive(Clone, Copy)]
 struct Start<'a> {
     frame: Frame,
@@ -27,7 +27,7 @@ struct Start<'a> {
     ghost low: { x < 2 ^ 63 },
 }
 
-/// A line from a point up to the row of a wire, where it has one, with a stroke across its end.
+/// A line from a point up to the row of a wire, if it has one, with a stroke across its end.
 #[derive(Clone, Copy)]
 struct Lead<'a> {
     start: Start<'a>,
@@ -51,7 +51,7 @@ impl<'a> Text for Lead<'a> {
     }
 }
 
-/// The row of a wire among some: how many stand before it.
+/// The index of a wire among some wires.
 pub(crate) fn wire_among(wires: &[WireId], wire: WireId) -> u32
     requires { length wires.now < 2 ^ 32 }
     ensures { result ≡ wire_among wires.now wire }
@@ -123,7 +123,7 @@ fn put_lead<S: Sink>(
     out.put_text("\"/>")
 }
 
-/// Where the line of a mark in a column begins: at the column's begin where it has one unit, and else in its middle.
+/// The x of the line of a mark in a column: the left edge of the column if it has one unit, and otherwise its middle.
 pub(crate) fn lead_x(frame: Frame, column: u32) -> u64
     ensures value { result ≡ lead_x frame column }
     ensures low { result < 2 ^ 63 }

@@ -4,7 +4,7 @@ ghost use Rattle.mp_picture.specs.svg.Styles.{style};
 
 use mp_streams::{Failed, Out, Sink};
 
-/// Dark on light ground, and light on dark ground where the reader prefers that. A digit is a column wide at most.
+/// Dark on light ground, and light on dark ground if the reader prefers that. A digit is a column wide at most.
 const STYLE: &str = "<style>\
 svg{background:#fff}\
 text{font:13px Menlo,Consolas,'DejaVu Sans Mono',monospace;fill:#1f2328}\

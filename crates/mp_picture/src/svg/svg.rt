@@ -39,9 +39,9 @@ struct Sheet<'a> {
 /// of the arrows of which both ends are in the picture.
 /// Control characters of the title are blanks.
 ///
-/// `WriteFailed` comes if the sink fails: then some of what was held and of the SVG, from the front, is with the sink, and nothing
-/// is held. `OutOfMemory` comes if memory runs out, or where there are 2^32 rows or more, which no netlist has: then a part of the
-/// SVG, from its front, is written. It takes memory for the findings in the range and for the cells of one wire.
+/// `WriteFailed` comes if the sink fails; then the sink has a beginning of what was held and of the SVG, and nothing is held. `OutOfMemory` comes if
+/// memory runs out, or if there are 2^32 rows or more, which no netlist has: then a part of the SVG, from its front, is written. It takes memory for
+/// the findings in the range and for the cells of one wire.
 pub fn put_svg<S: Sink>(
     alloc: Global,
     out: &mut Out<S>,
@@ -87,7 +87,7 @@ fn are_few(wires: &[WireId], rows: &[MarkRow]) -> bool
     wires.len() + rows.len() <= u32::MAX as usize
 }
 
-/// How wide an SVG is: up to where its columns, times, title and words end, and a column more.
+/// The width of an SVG: up to the right end of its columns, times, title and words, and a column more.
 fn sheet_width(sheet: Sheet<'_>) -> u64
     ensures { result ≡ sheet_width sheet.entry.frame sheet.entry.title.now sheet.entry.rows.now }
 {
@@ -153,7 +153,7 @@ fn put_wires<S: Sink>(
     Ok(())
 }
 
-/// Writes the row of a wire, and nothing where none stands.
+/// Writes the row of a wire; nothing if there is none.
 fn put_wire<S: Sink>(
     alloc: Global,
     out: &mut Out<S>,

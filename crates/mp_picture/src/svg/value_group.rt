@@ -4,7 +4,7 @@ use crate::svg::elements::{Label, Rectangle};
 use crate::svg::lane::Lane;
 use mp_streams::{Failed, Out, Sink, Text};
 
-/// A level from a point on, where it fits into so many columns.
+/// A level from a point on, if it fits into a number of columns.
 #[derive(Clone, Copy)]
 struct Fitting {
     x: u64,
@@ -32,8 +32,7 @@ impl Text for Fitting {
     }
 }
 
-/// The value of a column with so many behind it that have no event: a frame over them, and the level from a point on, where it fits into
-/// its room.
+/// The value of a column and of the columns without an event after it: a frame over them, and the level from a point on if there is room for it.
 #[derive(Clone, Copy)]
 pub(crate) struct ValueGroup {
     pub(crate) lane: Lane,

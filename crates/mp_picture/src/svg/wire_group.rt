@@ -14,7 +14,7 @@ use mp_streams::{Failed, Out, Sink, Text};
 
 const PATH_START: &str = "<path class=\"level\" d=\"";
 
-/// Writes the row of the wire of this number: its name, a path, and bands or values. `cells` has a cell for each column. `Failed` is as that of
+/// Writes the row of the wire of this number: its name, a path, and bands or values. `cells` has a cell for each column. `Failed` comes as in
 /// `Out::put_bytes`.
 pub fn put_wire_group<S: Sink>(
     out: &mut Out<S>,
@@ -109,7 +109,7 @@ fn put_words<S: Sink>(out: &mut Out<S>, lane: Lane, cells: &[ColumnCell]) -> Res
     (values, PATH_START, path, "\"/>").put_to(out)
 }
 
-/// The first cell, and one without an event at level 0 where there is none.
+/// The first cell, and one without an event at level 0 if there is none.
 fn first_cell(cells: &[ColumnCell]) -> ColumnCell
     ensures { result ≡ cell_at cells.now 0 }
 {
@@ -122,7 +122,7 @@ fn first_cell(cells: &[ColumnCell]) -> ColumnCell
     }
 }
 
-/// The level before the first column: that of its cell, or the other one where that has one event.
+/// The level before the first column: that of its cell, or the other one if that has one event.
 fn level_before(cell: ColumnCell) -> u64
     ensures { result ≡ level_before cell.events cell.level }
 {
