@@ -1,4 +1,4 @@
-//! What questions are answered, and what is told of edits and of lines that aren't read.
+//! The answers to questions, to edits, and to lines that can't be read.
 
 mod answers;
 mod edit_answers;

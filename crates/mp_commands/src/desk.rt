@@ -49,7 +49,7 @@ impl<P: Sessions + Drop> InputCommand for DeskCommand<P> {
     }
 }
 
-/// The crew of a desk with so many designers, and its size, where that has 1 to 8 of them, 1 to 32 viewers and a valid crew.
+/// The crew and the size of a desk with this number of designers, if there are 1 to 8 of them, 1 to 32 viewers and a valid crew.
 fn desk_crew(options: &Options, designers: usize) -> Option<(Crew, DeskSize)>
     ensures valid { is_some result ≡ has_valid_desk designers options.now }
     ensures size { IfSome result (λ both. (both.1.designers ≡ designers) × (both.1.viewers ≡ options.now.viewers)) }

@@ -48,7 +48,7 @@ impl NumberedLine for Tally {
     }
 }
 
-/// The line of a viewer who saw so many edits.
+/// The line of a viewer who saw this number of edits.
 impl NumberedLine for u32 {
     ghost line = { viewer_line };
 

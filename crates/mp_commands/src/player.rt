@@ -40,7 +40,7 @@ impl<P: Sessions> Player<P> {
         Player { alloc, keeper }
     }
 
-    /// Answers each line, and passes the answer on to the sink, before it reads the next one. It ends where the source ends.
+    /// Answers each line, and passes the answer on to the sink, before it reads the next one. It ends when the source ends.
     ///
     /// `ReadFailed` comes if the source fails, after the answers to all lines that ended before. `WriteFailed` comes with a fault of the
     /// sink, and `OutOfMemory` if memory runs out: then a part of the last answer may be written.

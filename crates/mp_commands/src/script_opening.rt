@@ -12,8 +12,8 @@ use std::alloc::Global;
 use std::sync::Wait;
 use std::thread::Threads;
 
-/// Reads the text of a netlist, all that the source has, and evaluates it. `ReadFailed` comes if the source fails; then `Text` where the
-/// input is too long or the text is not read, `BadCount` where the options have no valid crew, and `OutOfMemory` if memory runs out.
+/// Reads the text of a netlist, all that the source has, and evaluates it. `ReadFailed` comes if the source fails; then `Text` if the input is too
+/// long or the text is not read, `BadCount` if the options have no valid crew, and `OutOfMemory` if memory runs out.
 pub fn open_keeper<R: Threads + Wait + Sync, S: Source, P: Sessions>(
     sessions: &P,
     rt: &R,

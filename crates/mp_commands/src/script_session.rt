@@ -58,8 +58,8 @@ impl<P: Sessions> ScriptSession<P> {
         }
     }
 
-    /// Makes the edit, and tells how many were accepted so far. A refused edit, for the first check that it fails, for a full history or for
-    /// want of memory, changes neither the netlist nor its waves and work. A batch counts as one.
+    /// Makes the edit, and returns the number of accepted edits. It is refused for the first check that it fails, for a full history or for lack of
+    /// memory; a refused edit changes neither the netlist nor its waves and work. A batch counts as one.
     pub fn change<R: Threads + Wait + Sync>(&mut self, rt: &R, edit: Edit) -> Result<u32, EditError>
         ensures ok { OnOk result (judged self.old edit ≡ Ok self.new.netlist) }
         ensures one_more { OnOk result (IsOneMore self.old edit self.new) }

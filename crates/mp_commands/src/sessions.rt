@@ -52,8 +52,8 @@ pub trait Sessions {
         ensures refused { IfErr result (RefusedBy edit (judged (Self.Session.story session.old) edit)) }
         ensures err { OnErr result (session.new ≡ session.old) };
 
-    /// Has a designer for each block submit its lines, and viewers read meanwhile, as `meet` of `mp_meeting` does. It stands here since a command
-    /// may send to other threads only a session whose type it knows.
+    /// Lets a designer for each block submit its lines while viewers read, as `meet` of `mp_desk` does. It is a method of this trait since a command
+    /// may send only a session whose type it knows to other threads.
     fn meet<R: Threads + Wait + Sync>(
         rt: &R,
         alloc: Global,

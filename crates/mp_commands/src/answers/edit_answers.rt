@@ -23,7 +23,7 @@ pub(crate) fn put_edits<T: Sink>(
     Ok(())
 }
 
-/// Writes the line of the edit in a place, and nothing where there is none.
+/// Writes the line of the edit in a place; nothing if there is none.
 fn put_edit_at<T: Sink>(out: &mut Out<T>, edits: &History, place: u32) -> Result<(), Failed>
     requires { place < max_edits }
     ensures { Writes result out.old out.new (numbered_at (place + 1) (slice_get edits.now place)) }

@@ -1,4 +1,4 @@
-//! The command that tells whether a netlist works.
+//! The command `check`.
 ghost use Rattle.std.specs.Prelude.{◌≡◌};
 ghost use Rattle.mp_commands.specs.command_runs.Clauses.{[], IfErr, IfOk, TakesInput, counted_reads, has_valid_crew};
 ghost use Rattle.mp_commands.specs.command_runs.CheckRuns.{ChecksInput, ChecksNetlist, StopsInput, StopsNetlist};
@@ -19,9 +19,9 @@ use std::thread::Threads;
 
 /// Reads the text of a netlist, all of it first, and writes its check. Returns whether anything is wrong: whether a line is written that is no note.
 ///
-/// `ReadFailed` comes if the source fails; then `Text` where the input is too long or the text is not read, `BadCount` where the options have
-/// no valid crew, and `OutOfMemory` if memory runs out: then nothing is written. `WriteFailed` comes if the sink fails: then a part of
-/// the text, from its front, is written.
+/// `ReadFailed` comes if the source fails; then `Text` if the input is too long or the text is not read, `BadCount` if the options have no valid
+/// crew, and `OutOfMemory` if memory runs out: then nothing is written. `WriteFailed` comes if the sink fails: then a part of the text, from its
+/// front, is written.
 pub fn run_check<R: Threads + Wait + Sync, S: Source, T: Sink>(
     rt: &R,
     alloc: Global,

@@ -18,7 +18,7 @@ pub trait InputCommand {
     // The texts that may be written for an input that opened with this netlist.
     ghost IsText: { Self → List ℕ → Options → Circuit → List ℕ → Type 0 };
 
-    // Whether designers and viewers sit down, so that a place may be wanting.
+    // Whether there are designers and viewers, so that `NoPlace` may come.
     ghost seats: { Bool };
 
     /// Opens the input, which is no longer than an input may be, and writes the command's text. A command lets its input go when it needs
@@ -39,10 +39,10 @@ pub trait InputCommand {
 
 /// Reads an input, all of it first, and writes what the command makes of it.
 ///
-/// `ReadFailed` comes if the source fails; then `Text` where the input is too long or the netlist's text is not read;
-/// `BadCount` where the options have no valid crew, and for a desk where there are not 1 to 8 blocks or not 1 to 32 viewers; and
-/// `NoPlace` where a designer or a viewer finds no place at a desk: then nothing is written. `WriteFailed` comes with a fault of the
-/// sink, and `OutOfMemory` if memory runs out: then nothing, or a part of the text from its front, is written.
+/// `ReadFailed` comes if the source fails; then `Text` if the input is too long or the netlist's text is not read; `BadCount` if the options have no
+/// valid crew, and for a desk if there are not 1 to 8 blocks or not 1 to 32 viewers; and `NoPlace` if a designer or a viewer finds no place at a
+/// desk: then nothing is written. `WriteFailed` comes with a fault of the sink, and `OutOfMemory` if memory runs out: then nothing, or a part of the
+/// text from its front, is written.
 pub fn run_command<R: Threads + Wait + Sync, S: Source, T: Sink, C: InputCommand>(
     rt: &R,
     alloc: Global,
@@ -61,7 +61,7 @@ pub fn run_command<R: Threads + Wait + Sync, S: Source, T: Sink, C: InputCommand
     match command.answer(rt, alloc, out, input, options) {
         Ok(()) => Ok(out.flush()?),
         Err(RunFault::OutOfMemory) => {
-            // what was written before memory was wanting is seen
+            // what was written before memory ran out is seen
             out.flush()?;
             Err(RunFault::OutOfMemory)
         }

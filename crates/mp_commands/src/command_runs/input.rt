@@ -7,8 +7,8 @@ use mp_streams::{Source, TakeError, take_all};
 use mp_text::{MAX_SHORT_TEXT, TextCode, TextError, text_limit};
 use std::alloc::Global;
 
-/// Reads an input, all that the source has. `ReadFailed` comes if the source fails, `Text` where the input is longer than its format
-/// allows, and `OutOfMemory` if memory runs out.
+/// Reads an input, all that the source has. `ReadFailed` comes if the source fails, `Text` if the input is longer than its format allows, and
+/// `OutOfMemory` if memory runs out.
 pub(crate) fn read_input<S: Source>(alloc: Global, source: &mut S) -> Result<Vec<u8>, RunFault>
     ensures input { IfOk result (λ input. IsInput (S.left source.old) input.items) }
     ensures within { IfOk result (λ input. length input.items ≤ text_limit input.items) }
@@ -28,8 +28,8 @@ pub(crate) fn read_input<S: Source>(alloc: Global, source: &mut S) -> Result<Vec
     Ok(input)
 }
 
-/// Takes the input of a run: all that the source has, but no more than as many bytes as a text may have that begins so, and one more, by which
-/// it is known to be too long. `Failed` comes with the first fault of the source, `OutOfMemory` where the memory for the bytes is refused.
+/// Takes the input of a run: all that the source has, but no more than as many bytes as a text may have that begins so, and one more, by which it is
+/// known to be too long. `Failed` comes with the first fault of the source, `OutOfMemory` if the memory for the bytes is refused.
 #[tactic(auto, using(crate::proofs::lemmas::command_runs::InputLemmas::take_steps))]
 fn take_input<S: Source>(alloc: Global, source: &mut S) -> Result<Vec<u8>, TakeError>
     ensures within { IfOk result (λ input. length input.items ≤ text_limit input.items + 1) }

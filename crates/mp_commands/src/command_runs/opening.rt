@@ -9,8 +9,8 @@ use mp_streams::Source;
 use mp_text::read_lines;
 use std::alloc::Global;
 
-/// Reads the text of a netlist, all that the source has. `ReadFailed` comes if the source fails; then `Text` where the input is too long
-/// or the text is not read, `BadCount` where there is no crew, and `OutOfMemory` if memory runs out.
+/// Reads the text of a netlist, all that the source has. `ReadFailed` comes if the source fails; then `Text` if the input is too long or the text is
+/// not read, `BadCount` if there is no crew, and `OutOfMemory` if memory runs out.
 pub fn read_opening<S: Source, C: Drop>(
     alloc: Global,
     source: &mut S,
@@ -26,7 +26,7 @@ pub fn read_opening<S: Source, C: Drop>(
     opened_input(alloc, input, crew)
 }
 
-/// The netlist of a text, with a crew for it. Where there is none `BadCount` comes, after the faults of the text.
+/// The netlist of a text, with a crew for it. If there is none `BadCount` comes, after the faults of the text.
 pub fn opened<C: Drop>(
     alloc: Global,
     text: &[u8],

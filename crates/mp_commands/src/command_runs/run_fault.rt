@@ -23,7 +23,7 @@ pub enum RunFault {
     /// A write of the output failed.
     #[error("write failed")]
     WriteFailed,
-    /// Memory was wanting.
+    /// Memory ran out.
     #[error("out of memory")]
     OutOfMemory,
     /// A designer or a viewer found no place at a desk.
@@ -34,7 +34,7 @@ pub enum RunFault {
     NoSuchWire(usize),
 }
 
-/// Want of memory in a text is told as that of a run.
+/// `OutOfMemory` of a text becomes that of the run.
 impl From<TextError> for RunFault {
     ghost from_gives = { λ error fault. fault ≡ fault_of_text error };
 
@@ -84,8 +84,7 @@ impl From<AllocError> for RunFault {
     }
 }
 
-/// The status with which the program ends: 1 for what was asked of it, 3 for a device, 4 for want
-/// of memory or of a place.
+/// The status with which the program ends: 1 for what was asked of it, 3 for a device, 4 for lack of memory or of a place.
 pub fn exit_status(fault: &RunFault) -> u8
     ensures { result ≡ status_of fault.now }
 {
@@ -96,7 +95,7 @@ pub fn exit_status(fault: &RunFault) -> u8
     }
 }
 
-/// The line that tells of the fault, without its line feed. The wires are those that were asked for, as they were given.
+/// The line that reports the fault, without its line feed. `wires` are the names of the wires in the request, as they were given.
 pub fn fault_line(alloc: Global, fault: &RunFault, wires: &[&str]) -> Result<Vec<u8>, AllocError>
     ensures { IfOk result (λ line. line.items ≡ line_of fault.now (map (λ wire. wire.now) wires.now)) }
 {
@@ -111,7 +110,7 @@ pub fn fault_line(alloc: Global, fault: &RunFault, wires: &[&str]) -> Result<Vec
     }
 }
 
-/// The wire at this place, and no text where there is none.
+/// The wire at this place; empty if there is none.
 fn wire_at<'a>(wires: &[&'a str], place: usize) -> &'a str
     ensures { result.now ≡ slice_index_or (map (λ wire. wire.now) wires.now) place [] }
 {

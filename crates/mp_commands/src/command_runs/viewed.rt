@@ -17,9 +17,9 @@ use std::mem::forget;
 use std::sync::Wait;
 use std::thread::Threads;
 
-/// The command that writes a view of the netlist whose text its input is. There is no view where a number that it was given is out of its
-/// range: then `BadCount` comes, after the faults of the text. A wire of the view that doesn't stand comes last, as `NoSuchWire` with its
-/// place among the wires of the view; then nothing is written.
+/// The command that writes a view of the netlist whose text its input is. There is no view if one of its numbers is out of range; then `BadCount`
+/// comes, after the faults of the text. A wire of the view that doesn't exist comes last, as `NoSuchWire` with its place among the wires of the view;
+/// then nothing is written.
 #[derive(Drop)]
 pub struct Viewed<'a> {
     pub view: Option<View<'a>>,

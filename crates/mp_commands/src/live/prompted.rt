@@ -4,8 +4,8 @@ use mp_streams::{Failed, Sink, Source, put_all};
 /// What is written before each line that somebody types.
 const PROMPT: &[u8] = b"> ";
 
-/// A source that writes a prompt to a sink before it takes bytes. A prompt that can't be written is left out: the answer behind it tells the
-/// fault.
+/// A source that writes a prompt to a sink before it takes bytes. A prompt that can't be written is left out; the write of the answer after it then
+/// fails.
 #[derive(Drop)]
 pub struct Prompted<S: Source, T: Sink> {
     source: S,

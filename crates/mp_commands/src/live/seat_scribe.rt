@@ -17,7 +17,7 @@ use std::sync::Wait;
 use std::thread::Threads;
 
 /// Writes the replies of seats as `play` writes them, with the crew that looks at versions. A version doesn't keep what was evaluated for its last
-/// edit: the question `work` is answered `refused 23 NoWork`. An edit where none is made is answered `refused 22 NotADesigner`.
+/// edit: the question `work` is answered `refused 23 NoWork`. An edit at a seat that can't edit is answered `refused 22 NotADesigner`.
 #[derive(Clone, Copy)]
 pub struct SeatScribe {
     pub alloc: Global,

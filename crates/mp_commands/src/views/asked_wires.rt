@@ -16,7 +16,7 @@ pub fn missing_at(netlist: &Netlist, names: &[Name]) -> Option<usize>
         .position(|name| is_missing(netlist, name.as_str()))
 }
 
-/// The place 0 if no wire has the name, and else `None`.
+/// The place 0 if no wire has the name, and otherwise `None`.
 pub fn missing_wire(netlist: &Netlist, name: &Name) -> Option<usize>
     ensures { result ≡ missing_at netlist.now (name.now ∷ []) }
 {

@@ -65,7 +65,7 @@ fn shown(names: &[Name]) -> &[Name]
     }
 }
 
-/// The arrows of the chain of causes of the level that the first of these wires has at a time; none where it doesn't stand.
+/// The arrows of the chain of causes of the level that the first of these wires has at a time; none if it doesn't exist.
 fn arrows_of(
     alloc: Global,
     of: &Evaluated<'_>,

@@ -15,7 +15,7 @@ pub enum Drawing<'a> {
 impl<'a> Drawing<'a> {
     ghost use Rattle.mp_commands.specs.views.Pictures.{columns_drawn};
 
-    /// How many columns a picture that is drawn so has at most, where so many are asked for.
+    /// The greatest number of columns of a picture in this form, if `asked` are asked for.
     pub(crate) fn columns(self, asked: u32) -> u32
         requires { 0 < asked }
         ensures value { result ≡ columns_drawn self.entry asked }

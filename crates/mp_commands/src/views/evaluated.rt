@@ -15,7 +15,7 @@ pub struct Evaluated<'a> {
 }
 
 impl<'a> Evaluated<'a> {
-    /// How many threads make what is asked for: one alone where there are fewer modules than the crew shares out.
+    /// How many threads make what is asked for: one alone if there are fewer modules than the crew shares out.
     pub(crate) fn threads(&self) -> usize {
         if self.netlist.module_slots() < self.crew.least() {
             return 1;

@@ -7,8 +7,8 @@ use mp_questions::{Moment, put_path};
 use mp_streams::{Out, Sink, WriteError};
 use std::alloc::Global;
 
-/// Where the time went of the chain of causes of the level that the wire of this name has at a time, in units from 0. It may be at or above the
-/// horizon.
+/// How the time of a chain of causes divides among the modules: the chain of the level that the wire of this name has at a time, in units from 0. It
+/// may be at or above the horizon.
 #[derive(Clone, Copy)]
 pub struct PathLines<'a> {
     pub wire: &'a Name,

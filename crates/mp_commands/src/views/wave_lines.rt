@@ -42,7 +42,7 @@ pub fn put_wave_lines<T: Sink>(out: &mut Out<T>, of: &Evaluated<'_>) -> Result<(
     Ok(())
 }
 
-/// Writes the line of the wire of this number, and nothing where none stands.
+/// Writes the line of the wire of this number; nothing if there is none.
 pub fn put_wave_line<T: Sink>(
     out: &mut Out<T>,
     of: &Evaluated<'_>,
