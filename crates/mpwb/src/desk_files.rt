@@ -32,7 +32,7 @@ impl DeskFiles {
         })
     }
 
-    /// What the journal has; nothing where there is none. `Failed` comes where it can't be read or is too long, and `OutOfMemory` if memory runs out.
+    /// What the journal has; nothing if there is none. `Failed` comes if it can't be read or is too long, and `OutOfMemory` if memory runs out.
     pub(crate) fn read_edits(
         &self,
         files: &HostRuntime,
@@ -55,7 +55,7 @@ impl DeskFiles {
         }
     }
 
-    /// The journal, to append to; it is made where there is none. None where it can't be opened.
+    /// The journal, to append to; it is made if there is none. None if it can't be opened.
     pub(crate) fn open_edits(&self, files: &HostRuntime) -> Option<File> {
         OpenOptions::new()
             .append(true)
@@ -64,7 +64,7 @@ impl DeskFiles {
             .ok()
     }
 
-    /// Writes the netlist. It is written beside the old one first, which stays where that fails. False where it can't be written.
+    /// Writes the netlist. It is written beside the old one first, which stays if that fails. False if it can't be written.
     pub(crate) fn write_netlist(
         &self,
         files: &HostRuntime,

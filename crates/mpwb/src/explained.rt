@@ -6,7 +6,7 @@ use mp_streams::{Out, Sink, WriteError, WriteSink};
 use std::alloc::Global;
 use std::io;
 
-/// Tells what the word means, or what can be explained where there is none.
+/// Tells what the word means, or what can be explained if there is none.
 pub(crate) fn explain<R: Print + Eprint + AllocGlobal>(
     rt: &R,
     word: Option<&str>,
@@ -20,7 +20,7 @@ pub(crate) fn explain<R: Print + Eprint + AllocGlobal>(
     }
 }
 
-/// Writes what the word means, or what can be explained where there is none, and returns whether it means something.
+/// Writes what the word means, or what can be explained if there is none, and returns whether it means something.
 fn put_explained<T: Sink>(
     alloc: Global,
     out: &mut Out<T>,

@@ -23,7 +23,7 @@ pub(crate) enum FileFault {
     Run(RunFault),
 }
 
-/// The file, to be read. Where the system tells no cause that is known, `ReadFailed` or `OutOfMemory` comes.
+/// Opens the file for reading. If the system gives no known cause for a failure, `ReadFailed` or `OutOfMemory` comes.
 pub(crate) fn open_file<R: Files>(rt: &R, path: &str) -> Result<R::File, FileFault> {
     let file = match File::open(rt, path) {
         Ok(file) => file,
@@ -71,7 +71,7 @@ impl FileCause {
     }
 }
 
-/// The line that tells why the file of this name can't be read, without its line feed.
+/// The line that says why the file of this name can't be read, without its line feed.
 pub(crate) fn unread_line(alloc: Global, name: &str, cause: FileCause) -> Result<String, AllocError>
     ensures { IfOk result (λ line. string_bytes line ≡ unread_line name.now cause) }
 {

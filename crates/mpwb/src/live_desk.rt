@@ -38,8 +38,8 @@ struct LiveDesk<'a> {
 }
 
 /// Reads the netlist, makes the edits of the folder's journal again, serves those who come to the pipes of the folder, and answers the lines of
-/// standard input meanwhile. Then it writes what `desk` writes, and the netlist into the folder, and returns the status with which the program ends.
-/// Where a pipe isn't there it tells its path, and runs nothing.
+/// standard input meanwhile. Then it writes what `desk` writes, and the netlist into the folder, and returns the exit status. If a pipe is missing,
+/// it reports the path and runs nothing.
 pub(crate) fn run_live_desk<R: Runtime + Threads + Wait + Sync + AllocGlobal, S: Source>(
     files: &HostRuntime,
     rt: &R,
@@ -75,7 +75,7 @@ fn cant_open<R: Eprint>(rt: &R, path: &str) -> u8 {
     CANT_OPEN
 }
 
-/// Makes the edits of the journal again, and serves the desk behind them. Where that can't be done it tells why, and runs nothing.
+/// Makes the edits of the journal again, and then serves the desk. If that can't be done, it reports why and runs nothing.
 fn open_desk<R: Runtime + Threads + Wait + Sync + AllocGlobal>(
     rt: &R,
     desk: &LiveDesk<'_>,
@@ -148,7 +148,7 @@ fn serve_lines<R: Eprint + Threads + Wait + Sync + AllocGlobal, I: Source, T: Si
     }
 }
 
-/// Whether the netlist could be written into the folder. Where not, that is told.
+/// Writes the netlist into the folder, and returns whether that succeeded. A failure is reported.
 fn is_netlist_written<R: Eprint + AllocGlobal>(
     rt: &R,
     desk: &LiveDesk<'_>,
@@ -162,7 +162,7 @@ fn is_netlist_written<R: Eprint + AllocGlobal>(
     is_written
 }
 
-/// The crew of the options, where there are 1 to 8 designers and at most 24 viewers.
+/// The crew of the options, if there are 1 to 8 designers and at most 24 viewers.
 fn crew_of(options: &Options, designers: u32) -> Option<Crew>
     ensures designers { IfSome result (λ crew. (0 < designers) × (designers ≤ 8)) }
     ensures viewers { IfSome result (λ crew. options.now.viewers ≤ 24) }

@@ -10,8 +10,8 @@ use std::rt::Runtime;
 use std::sync::Wait;
 use std::thread::Threads;
 
-/// Edits the netlist of the file by a script that is standard input, and answers each line before it reads the next one, with a prompt before
-/// each where somebody types them.
+/// Edits the netlist of the file by a script that is standard input, and answers each line before it reads the next one, with a prompt before each if
+/// somebody types them.
 pub(crate) fn run_live_play<R: Runtime + Threads + Wait + Sync + AllocGlobal, S: Source>(
     rt: &R,
     file: &mut S,

@@ -73,7 +73,7 @@ fn answer_words<R: Runtime + Threads + Wait + Sync + AllocGlobal>(
     }
 }
 
-/// Opens the input and runs the command, tells the fault where there is one, and returns the status with which the program ends.
+/// Opens the input and runs the command, reports the fault if there is one, and returns the exit status.
 fn run_told<R: Runtime + Threads + Wait + Sync + AllocGlobal>(
     files: &HostRuntime,
     rt: &R,
@@ -97,7 +97,7 @@ fn run_told<R: Runtime + Threads + Wait + Sync + AllocGlobal>(
     }
 }
 
-/// The status with which the program ends after a run, whose fault is told where it has one.
+/// The exit status after a run. If the run has a fault, it is reported.
 fn ended<R: Runtime + AllocGlobal>(rt: &R, request: &Request<'_>, run: Result<u8, RunFault>) -> u8 {
     match run {
         Ok(status) => status,
@@ -109,7 +109,7 @@ fn ended<R: Runtime + AllocGlobal>(rt: &R, request: &Request<'_>, run: Result<u8
     }
 }
 
-/// Shows the line of FILE at which its text isn't read, where it was to be checked.
+/// Shows the line of FILE at which its text isn't read, if it was to be checked.
 fn show_if_checked<R: Runtime + AllocGlobal>(rt: &R, fault: &RunFault, request: &Request<'_>) {
     if !matches!(request.command, Command::Check) {
         return;

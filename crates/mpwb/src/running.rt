@@ -14,7 +14,7 @@ use std::io;
 use std::sync::Wait;
 use std::thread::Threads;
 
-/// The status with which the program ends where a netlist was checked and something is wrong.
+/// The status with which the program ends if a netlist was checked and something is wrong.
 const WRONG: u8 = 5;
 
 /// Runs the command on the source, and returns the status with which the program ends.

@@ -10,8 +10,8 @@ use std::str;
 /// How many bytes a netlist's text may have, in any format.
 const TEXT_BYTES: usize = 1_073_741_824;
 
-/// Shows the line of a file that isn't read, with the word at fault and what the fault means, where the memory for it can be had. A file that
-/// isn't regular can't be read once more, and nothing is shown.
+/// Shows the line of a file that isn't read, with the word at fault and what the fault means, if the memory for it can be had. A file that isn't
+/// regular can't be read once more, and nothing is shown.
 pub(crate) fn show_fault<R: Files + Eprint + AllocGlobal>(rt: &R, path: &str, error: TextError) {
     let Some(text) = text_of(rt, path, error) else {
         return;
@@ -23,7 +23,7 @@ pub(crate) fn show_fault<R: Files + Eprint + AllocGlobal>(rt: &R, path: &str, er
     }
 }
 
-/// The text of a regular file, and none where it can't be read. No text is wanted for line 0, which is none.
+/// The text of a regular file, and none if it can't be read. No text is wanted for line 0, which is none.
 fn text_of<R: Files + AllocGlobal>(rt: &R, path: &str, error: TextError) -> Option<Vec<u8>> {
     if error.line == 0 {
         return Some(Vec::new(rt.alloc()));

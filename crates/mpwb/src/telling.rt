@@ -1,10 +1,10 @@
-//! What is told on standard error.
+//! Messages on standard error.
 use crate::input_file::{FileCause, unread_line};
 use mp_commands::{RunFault, fault_line};
 use mp_request::TellError;
 use std::str;
 
-/// The fault of a run that couldn't tell what it had to.
+/// The fault of a run that couldn't print its message.
 pub(crate) fn fault_of_telling(error: TellError) -> RunFault {
     match error {
         TellError::OutOfMemory => RunFault::OutOfMemory,
@@ -12,7 +12,7 @@ pub(crate) fn fault_of_telling(error: TellError) -> RunFault {
     }
 }
 
-/// Writes the fault's line, where the memory for it can be had. The wires are those that were asked for.
+/// Writes the fault's line, if the memory for it can be had. The wires are those that were asked for.
 pub(crate) fn tell_fault<R: Eprint + AllocGlobal>(rt: &R, fault: &RunFault, wires: &[&str]) {
     if let Ok(line) = fault_line(rt.alloc(), fault, wires) {
         if let Ok(text) = str::from_utf8(line.as_slice()) {
@@ -21,7 +21,7 @@ pub(crate) fn tell_fault<R: Eprint + AllocGlobal>(rt: &R, fault: &RunFault, wire
     }
 }
 
-/// Writes why the file of this name can't be read, where the memory for it can be had.
+/// Writes why the file of this name can't be read, if the memory for it can be had.
 pub(crate) fn tell_unread<R: Eprint + AllocGlobal>(rt: &R, name: &str, cause: FileCause) {
     if let Ok(line) = unread_line(rt.alloc(), name, cause) {
         let _ = rt.eprintln(line.as_str());
