@@ -2,19 +2,18 @@
 ghost use Rattle.mp_laws.specs.Batches.{BatchesAreReplays, BatchesAreRefusedInPlace, BatchesHaveSizes, BatchesAreRefusedSo};
 ghost use Rattle.mp_laws.specs.Numbers.{EditsUseNumbersOnce, ReplaysUseNumbersOnce};
 
-/// A batch is accepted exactly where it has 1 to 256 edits and these are accepted one after the
-/// other; and it gives the netlist that they give.
+/// A batch is accepted exactly if it has 1 to 256 edits and these are accepted one after the other; and it gives the netlist that they give.
 pub fn batches_are_replays()
     ensures { BatchesAreReplays }
 {}
 
-/// A batch is refused for a place, with a number, exactly where it has 1 to 256 edits, those before
-/// the place are accepted one after the other, and the one there is then refused with that number.
+/// A batch is refused for a place, with a number, exactly if it has 1 to 256 edits, those before the place are accepted one after the other, and the
+/// one there is then refused with that number.
 pub fn batches_are_refused_in_place()
     ensures { BatchesAreRefusedInPlace }
 {}
 
-/// A batch is refused for its size exactly where it doesn't have 1 to 256 edits.
+/// A batch is refused for its size exactly if it doesn't have 1 to 256 edits.
 pub fn batches_have_sizes()
     ensures { BatchesHaveSizes }
 {}

@@ -1,4 +1,4 @@
-//! A phase in which memory is wanting, and the one behind it.
+//! A phase in which memory runs out, and the one behind it.
 use mp_netlist::ModuleId;
 use mp_phase::{Crew, Gate, OpenGate, Plan, Work, Workers};
 use std::alloc::{AllocError, Global};

@@ -1,4 +1,4 @@
-//! The plain waves of a netlist, and a copy of one, where there is memory.
+//! The plain waves of a netlist, and a copy of one, if there is memory.
 use mp_model::plain_waves;
 use mp_netlist::Netlist;
 use mp_text::read_netlist;

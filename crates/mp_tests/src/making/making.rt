@@ -172,7 +172,7 @@ impl PlannedNetlist<'_> {
         true
     }
 
-    /// The netlist, where there is memory and no edit is refused.
+    /// The netlist, if there is memory and no edit is refused.
     pub fn netlist(&self, alloc: Global) -> Option<Netlist> {
         let mut netlist = Netlist::empty(alloc, Format::Standard, self.horizon).ok()?;
         if self.fills(alloc, &mut netlist) {

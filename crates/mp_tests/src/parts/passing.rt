@@ -106,7 +106,7 @@ fn workers_pass_each_entry(rt: HostRuntime) -> Result<(), Fail> {
     assert_exact(&rt, rt.alloc(), 4, &Crew::new(2, 2)?, &reaches)
 }
 
-/// Where two modules are reached at once, each of two parts is evaluated again on a thread of its own.
+/// If two modules are reached at once, each of two parts is evaluated again on a thread of its own.
 #[test]
 fn parts_pass_each_entry(rt: HostRuntime) -> Result<(), Fail> {
     let reaches = [Reach(&ONE, 1), Reach(&HALF, 2), Reach(&MOST, 4)];

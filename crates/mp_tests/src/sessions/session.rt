@@ -209,7 +209,7 @@ fn passes(
     takes(rt, alloc, session, change) && counter.last_passed(session.last_work()) == Some(modules)
 }
 
-/// The changes reach one module of the five, two of them, and four; where two are reached at once, part by part.
+/// The changes reach one module of the five, two of them, and four; if two are reached at once, part by part.
 #[test]
 fn each_entry_is_passed(rt: HostRuntime) -> Result<(), Fail> {
     let alloc = rt.alloc();

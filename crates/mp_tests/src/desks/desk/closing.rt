@@ -63,7 +63,7 @@ fn takes_one_more<L: DeskName, R: Threads + Wait + Sync + Drop>(
         && number_read(viewer) == Some(2)
 }
 
-/// Whether the desk isn't closed where a designer is missing, and is closed with all of them.
+/// Whether a desk can't be closed while a designer is missing, and can be with all of them.
 fn closes_with_all<L: DeskName, R: Wait + Drop>(
     rt: &R,
     staffed: Staffed<Session<OpenGate>, L, R>,
@@ -95,7 +95,7 @@ fn closes_after_refusal<L: DeskName, R: Wait + Drop>(
     }
 }
 
-/// The desk and the designers, where it isn't closed with these.
+/// The desk and the designers, if it isn't closed with these.
 fn handed_back<L: DeskName, R: Wait + Drop>(
     rt: &R,
     desk: Desk<Session<OpenGate>, L, R>,
@@ -110,7 +110,7 @@ fn handed_back<L: DeskName, R: Wait + Drop>(
     Some((desk, designers))
 }
 
-/// The items with one more, where there is one and memory for it.
+/// The items with one more, if there is one and memory for it.
 fn with<T: Drop>(items: Vec<T>, item: Option<T>) -> Option<Vec<T>> {
     let mut items = items;
     items.push(item?).ok()?;
