@@ -19,25 +19,25 @@ pub enum EditError {
     NoSuchModule,
     #[error("no such bundle")]
     NoSuchBundle,
-    #[error("the width is not 1 to 64")]
+    #[error("the width isn't 1 to 64")]
     BadWidth,
-    #[error("the level does not fit the width")]
+    #[error("the level doesn't fit the width")]
     BadLevel,
-    #[error("an output's delay is not 1 to 65535, or an input's is above 65535")]
+    #[error("an output's delay isn't 1 to 65535, or an input's is above 65535")]
     BadDelay,
     #[error("no such port")]
     BadPort,
-    #[error("not the ports of this kind")]
+    #[error("more or fewer inputs or outputs than the kind has")]
     WrongPorts,
-    #[error("not the parameters of this kind")]
+    #[error("a parameter or setup out of its range, or more or fewer parameters than the kind has")]
     BadParam,
-    #[error("a wire has not the width of its port")]
+    #[error("a wire with another width than its port")]
     WidthMismatch,
-    #[error("a wire is driven already")]
+    #[error("the wire already has a driver")]
     AlreadyDriven,
     #[error("the wire is still used")]
     StillUsed,
-    #[error("not a stimulus of this wire")]
+    #[error("a time that is out of range or doesn't rise, or a level that doesn't fit the width")]
     BadStimulus,
     #[error("the wire has no stimulus")]
     NoStimulus,

@@ -12,7 +12,7 @@ pub enum TextCode {
     /// What is wrong with the line by itself, or that memory ran out.
     #[error("{0}")]
     Line(LineError),
-    #[error("no horizon before it")]
+    #[error("`horizon` has to come first")]
     NoHorizon,
     #[error("a second horizon")]
     SecondHorizon,
@@ -20,7 +20,7 @@ pub enum TextCode {
     Refused(EditError),
     #[error("the text is too long")]
     TooLong,
-    #[error("no such format, or not on the first line with words")]
+    #[error("an unknown format, or one that isn't on the first line with words")]
     BadFormat,
 }
 

@@ -10,11 +10,11 @@ use thiserror::Error;
 pub enum LineError {
     #[error("a byte that is not allowed")]
     NotAscii,
-    #[error("not a statement, or not a kind of module")]
+    #[error("an unknown statement, or an unknown kind of module")]
     UnknownStatement,
-    #[error("not the words of this statement")]
+    #[error("too few or too many words, or one that doesn't belong there")]
     WordCount,
-    #[error("a word is not the number, or the pair with a number, that it should be")]
+    #[error("a number in its range, or a pair such as `y/3` or `5=1`, is expected here")]
     BadNumber,
     #[error("out of memory")]
     OutOfMemory,
