@@ -47,7 +47,7 @@ pub(crate) fn xor_text() -> &'static str
     ensures { result.now ≡ xor_text }
 {
     "
-// XOR: y is 1 if a and b differ, and otherwise 0.
+// XOR: y is 1 if a and b differ, and else 0.
 module mp_xor #(parameter y_delay = 1, y_initial = 0) (input a, input b, output reg y);
   initial begin
     y = y_initial;
