@@ -4,7 +4,6 @@ ghost use Rattle.std.specs.List.{flat_map};
 ghost use Rattle.mp_streams.specs.Outgoing.{Writes};
 ghost use Rattle.mp_netlist.specs.Circuit.{module_at};
 ghost use Rattle.mp_model.specs.Waves.{AreWavesOf, level};
-ghost use Rattle.mp_text.specs.Written.{wire_name};
 ghost use Rattle.mp_questions.specs.timing.Events.{since};
 ghost use Rattle.mp_check.specs.CheckLines.{check_text, deadlock_line, late_line, name_in, next_text, stands_since, wait_text, waits_text};
 ghost use Rattle.mp_check.specs.Checks.{IsCheckOf};
@@ -18,6 +17,7 @@ use crate::wait::Wait;
 use mp_model::Waves;
 use mp_netlist::{ModuleId, Netlist, WireId};
 use mp_questions::Late;
+use mp_questions::timing::wire_name;
 use mp_report::put_report;
 use mp_streams::{Failed, Out, Sink, Text};
 
@@ -149,16 +149,6 @@ fn module_name(netlist: &Netlist, id: ModuleId) -> &str
     ensures { result.now ≡ name_in (module_at netlist.now id.0) }
 {
     match netlist.module(id) {
-        Some(found) => found.name.as_str(),
-        None => "",
-    }
-}
-
-/// The name of a wire; empty if there is none.
-fn wire_name(netlist: &Netlist, wire: WireId) -> &str
-    ensures { result.now ≡ wire_name netlist.now wire }
-{
-    match netlist.wire(wire) {
         Some(found) => found.name.as_str(),
         None => "",
     }

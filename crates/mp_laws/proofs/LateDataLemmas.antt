@@ -12,15 +12,18 @@ use Rattle.mp_model.specs.Waves.{level}
 use Rattle.mp_model.proofs.MemberLemmas.{contains_cases, flat_map_contains, range_contains}
 use Rattle.mp_questions.specs.declared.causes.wire_change.WireChange.{WireChange}
 use Rattle.mp_questions.specs.declared.causes.input_event.InputEvent.{InputEvent}
-use Rattle.mp_questions.specs.causes.Changes.{change_at, last_event, last_change}
+use Rattle.mp_questions.specs.causes.Changes.{change_at, last_change}
+use Rattle.mp_questions.specs.timing.Events.{last_event}
 use Rattle.mp_questions.specs.causes.Causes.{DrivingPort, Outside, Start, Events, driving_port, hears, event_at, events_at, cause_by, cause_of}
 use Rattle.mp_questions.specs.causes.Laws.{IsChange, Explains}
 use Rattle.mp_questions.specs.late.Sources.{has_memory, sources, sources_by, leading}
 use Rattle.mp_questions.specs.late.Lateness.{is_outside, is_excused, units_behind, late_units, late_by, late_in, late_at, all_late}
 use Rattle.mp_questions.specs.late.Searching.{source_at}
 use Rattle.mp_questions.specs.declared.late.late.Late.{Late}
-use Rattle.mp_questions.proofs.lemmas.causes.EventLemmas.{hears_is}
+use Rattle.mp_questions.proofs.lemmas.causes.EventLemmas.{hears_is, last_event_is}
 use Rattle.mp_questions.proofs.lemmas.causes.ChainLemmas.{has_cause}
+use Rattle.mp_questions.proofs.lemmas.late.LastLemmas.{event_is_last}
+use Rattle.mp_questions.proofs.lemmas.timing.LawLemmas.{filter_map_contains}
 use Rattle.mp_questions.proofs.lemmas.late.SourceLemmas.{Before, sources_before, sources_are, excused_step}
 use Rattle.mp_laws.specs.LateData.{LeadsAreNoLater, StimuliAreNeverLate, OnlyStartsAreLateAlone}
 
@@ -55,18 +58,6 @@ leads_are_no_later n c d ok h = no_later n ok c.time c d h
 
 -- ---- what holds of late data
 
-filter_map_contains : {X Y : Type 0} (f : X → Option Y) (y : Y) (xs : List X) → Contains (filter_map f xs) y → (x : X) × Contains xs x × (f x ≡ Some y)
-filter_map_contains f y [] h = absurd (omega (arith, h.1))
-filter_map_contains {X} {Y} f y (x ∷ xs) h = by (f x) refl h (filter_map_contains f y xs)
-  where
-    first : (z : Y) → f x ≡ Some z → (z ≡ y) ⊎ Contains (filter_map f xs) y → (Contains (filter_map f xs) y → (a : X) × Contains xs a × (f a ≡ Some y)) → (a : X) × Contains (x ∷ xs) a × (f a ≡ Some y)
-    first z is (inl same) later = (x, (0, omega arith, refl), is ∙ ap Some same)
-    first z is (inr behind) later = let found = later behind in (found.0, (suc found.1.0, omega (arith, found.1.1), found.1.2), found.2)
-
-    by : (o : Option Y) → f x ≡ o → Contains (cons_option o (filter_map f xs)) y → (Contains (filter_map f xs) y → (a : X) × Contains xs a × (f a ≡ Some y)) → (a : X) × Contains (x ∷ xs) a × (f a ≡ Some y)
-    by None is at later = let found = later at in (found.0, (suc found.1.0, omega (arith, found.1.1), found.1.2), found.2)
-    by (Some z) is at later = first z is (contains_cases y z (filter_map f xs) at) later
-
 -- the data of a bundle change at a time from 1 on, and have no excuse behind the last request before
 record IsUnexcused (n : Circuit) (b : BundleRecord) (t : ℕ) : Type 0 where
   pub from : 1 ≤ t
@@ -74,14 +65,6 @@ record IsUnexcused (n : Circuit) (b : BundleRecord) (t : ℕ) : Type 0 where
   pub request : ℕ
   pub before : request < t
   pub none : is_excused n b.request.0 request (change_at n b.payload t) ≡ false
-
-last_within : (f : ℕ → ℕ) (t r : ℕ) → last_event f t ≡ Some r → r ≤ t
-last_within f zero r is = absurd (none-some r is)
-last_within f (suc t) r is = by (has_event f (suc t)) is (last_within f t r)
-  where
-    by : (b : Bool) → cond b (Some (suc t)) (last_event f t) ≡ Some r → (last_event f t ≡ Some r → r ≤ t) → r ≤ suc t
-    by true at earlier = omega (arith, same_Some (suc t) r at)
-    by false at earlier = omega (arith, earlier at)
 
 module _ (n : Circuit) (b : BundleRecord) (t : ℕ) (from : 1 ≤ t) where
   unexcused : (units : ℕ) → late_units n b t ≡ Some units → IsUnexcused n b t
@@ -91,7 +74,7 @@ module _ (n : Circuit) (b : BundleRecord) (t : ℕ) (from : 1 ≤ t) where
           → cond e None (Some (t - r)) ≡ Some units → IsUnexcused n b t
       tested r at changes true excuse e = absurd (none-some units e)
       tested r at changes false excuse e =
-          record { from = from; changes = changes; request = r; before = omega (arith, from, last_within (level n b.request.0) (t - 1) r at); none = excuse }
+          record { from = from; changes = changes; request = r; before = omega (arith, from, (last_event_is (level n b.request.0) (t - 1) r at).within); none = excuse }
 
       behind : (o : Option ℕ) → last_event (level n b.request.0) (t - 1) ≡ o → has_event (level n b.payload.0) t ≡ true → units_behind n b t o ≡ Some units → IsUnexcused n b t
       behind None at changes e = absurd (none-some units e)
@@ -145,17 +128,13 @@ stimuli_are_never_late n c ok late outside =
 
 -- ---- what comes from nothing
 
-event_last : (f : ℕ → ℕ) (t : ℕ) → has_event f t ≡ true → last_event f t ≡ Some t
-event_last f zero has = absurd (true≢false (sym has))
-event_last f (suc t) has = ap (λ b. cond b (Some (suc t)) (last_event f t)) has
-
 module _ (n : Circuit) (ok : IsCircuit n) (kind : Kind) (u : ℕ) where
   -- an input that hears an event has a source
   has_source : (i : Input) → hears n u i ≡ true → (c : WireChange) × (source_at n kind u i ≡ Some c)
   has_source i has = by (has_memory kind) refl
     where
       last : last_change n i.wire (u - i.delay) ≡ Some (change_at n i.wire (u - i.delay))
-      last = ap (option_map (change_at n i.wire)) (event_last (level n i.wire.0) (u - i.delay) (sym (hears_is n ok u i) ∙ has))
+      last = ap (option_map (change_at n i.wire)) (event_is_last (level n i.wire.0) (u - i.delay) (sym (hears_is n ok u i) ∙ has))
 
       by : (b : Bool) → has_memory kind ≡ b → (c : WireChange) × (source_at n kind u i ≡ Some c)
       by true keeps = (change_at n i.wire (u - i.delay), ap (λ b. cond b (last_change n i.wire (u - i.delay)) (cond (hears n u i) (Some (event_at n u i).change) None)) keeps ∙ last)

@@ -9,6 +9,7 @@ use crate::edge_port::{input_cells, output_cells};
 use mp_modules::Kind;
 use mp_netlist::{ModuleId, ModuleRecord, Netlist, WireId};
 use mp_streams::{Failed, Out, Sink, Text};
+use mp_text::Spaced;
 
 /// The node of a module, a wire or a bundle, between quotes.
 #[derive(Clone, Copy)]
@@ -24,25 +25,6 @@ impl<'a> Text for Id<'a> {
 
     fn put_to<S: Sink>(&self, out: &mut Out<S>) -> Result<(), Failed> {
         ("\"", self.kind, self.name, "\"").put_to(out)
-    }
-}
-
-/// Numbers, each after a space.
-#[derive(Clone, Copy)]
-struct ParamTexts<'a> {
-    params: &'a [u64],
-}
-
-impl<'a> Text for ParamTexts<'a> {
-    ghost use Rattle.mp_picture.specs.Graphs.{params_text};
-
-    ghost text = { λ numbers. params_text numbers.params.now };
-
-    fn put_to<S: Sink>(&self, out: &mut Out<S>) -> Result<(), Failed> {
-        for &param in self.params {
-            (" ", param).put_to(out)?;
-        }
-        Ok(())
     }
 }
 
@@ -78,8 +60,8 @@ fn put_module<S: Sink>(out: &mut Out<S>, part: &ModuleRecord) -> Result<(), Fail
     ensures { Writes result out.old out.new (module_node (Some part.now)) }
 {
     let (kind, name) = ("module ", part.name.as_str());
-    let params = ParamTexts {
-        params: part.params.as_slice(),
+    let params = Spaced {
+        items: part.params.as_slice(),
     };
     let inputs = input_cells(part.kind);
     let outputs = output_cells(part.kind);

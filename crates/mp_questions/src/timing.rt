@@ -21,8 +21,10 @@ mod waits;
 
 pub use delayed_input::DelayedInput;
 pub use extremes::Extremes;
+pub use lines::wire_name;
 pub use measure::put_measure;
 pub use missing::missing_input;
 pub use range::TimeRange;
+pub(crate) use range::read_time;
 pub use wait_moment::WaitMoment;
 pub use waits::put_waits;

@@ -1,5 +1,4 @@
 pub mod EventLemmas
-pub mod WaveLemmas
 pub mod ExtremeLemmas
 pub mod PutLemmas
 pub mod TrailLemmas

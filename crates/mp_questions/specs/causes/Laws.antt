@@ -9,7 +9,8 @@ use Rattle.mp_questions.specs.declared.causes.wire_change.WireChange.{WireChange
 use Rattle.mp_questions.specs.declared.causes.input_event.InputEvent.{InputEvent}
 use Rattle.mp_questions.specs.declared.causes.module_share.ModuleShare.{ModuleShare}
 use Rattle.mp_questions.specs.declared.causes.moment.Moment.{Moment}
-use Rattle.mp_questions.specs.causes.Changes.{last_change, read_time}
+use Rattle.mp_questions.specs.causes.Changes.{last_change}
+use Rattle.mp_questions.specs.timing.Ranges.{read_time}
 use Rattle.mp_questions.specs.causes.Causes.{Cause, Outside, Start, Events, cause_of}
 use Rattle.mp_questions.specs.causes.Chains.{chain}
 use Rattle.mp_questions.specs.causes.Paths.{path}
@@ -73,5 +74,5 @@ begin_of n (c ∷ d ∷ cs) = begin_of n (d ∷ cs)
 
 -- the units of all shares are the time from the begin of the chain to its last change
 abbrev pub AddsUp : Type 0
-AddsUp = (n : Circuit) → IsCircuit n → (moment : Moment) (c : WireChange) → last_change n moment.wire (read_time n moment.time) ≡ Some c →
-    begin_of n (chain n moment.wire (read_time n moment.time)) + sum_by (λ (s : ModuleShare). s.units) (path n moment) ≡ c.time
+AddsUp = (n : Circuit) → IsCircuit n → (moment : Moment) (c : WireChange) → last_change n moment.wire (read_time n.horizon moment.time) ≡ Some c →
+    begin_of n (chain n moment.wire (read_time n.horizon moment.time)) + sum_by (λ (s : ModuleShare). s.units) (path n moment) ≡ c.time

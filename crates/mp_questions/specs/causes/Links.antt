@@ -6,7 +6,7 @@ use Rattle.mp_questions.specs.declared.causes.cause_link.CauseLink.{CauseLink}
 use Rattle.mp_questions.specs.declared.causes.input_event.InputEvent.{InputEvent}
 use Rattle.mp_questions.specs.declared.causes.moment.Moment.{Moment}
 use Rattle.mp_questions.specs.declared.causes.wire_change.WireChange.{WireChange}
-use Rattle.mp_questions.specs.causes.Changes.{read_time}
+use Rattle.mp_questions.specs.timing.Ranges.{read_time}
 use Rattle.mp_questions.specs.causes.Causes.{Cause, Outside, Start, Events, cause_of}
 use Rattle.mp_questions.specs.causes.Chains.{chain}
 
@@ -24,4 +24,4 @@ links_to n c = links_by c (cause_of n c)
 
 -- those of the whole chain of causes of a wire's level at a time
 unfoldable pub links : Circuit → Moment → List CauseLink
-links n moment = flat_map (links_to n) (chain n moment.wire (read_time n moment.time))
+links n moment = flat_map (links_to n) (chain n moment.wire (read_time n.horizon moment.time))

@@ -6,7 +6,7 @@ use Rattle.mp_records.specs.declared.module_record.ModuleRecord.{ModuleRecord}
 use Rattle.mp_netlist.specs.Circuit.{Circuit, module_at}
 use Rattle.mp_questions.specs.declared.causes.module_share.ModuleShare.{ModuleShare}
 use Rattle.mp_questions.specs.declared.causes.moment.Moment.{Moment}
-use Rattle.mp_questions.specs.causes.Changes.{read_time}
+use Rattle.mp_questions.specs.timing.Ranges.{read_time}
 use Rattle.mp_questions.specs.causes.Chains.{chain}
 use Rattle.mp_questions.specs.causes.Shares.{shares, has_steps, by_units}
 
@@ -20,7 +20,7 @@ share_line n s = share_text (module_at n s.id.0) s
 
 -- the shares of the modules in the chain of a wire's last change at or before a time, the greatest first
 unfoldable pub path : Circuit → Moment → List ModuleShare
-path n moment = by_units (filter has_steps (shares n (chain n moment.wire (read_time n moment.time))))
+path n moment = by_units (filter has_steps (shares n (chain n moment.wire (read_time n.horizon moment.time))))
 
 unfoldable pub path_text : Circuit → Moment → List ℕ
 path_text n moment = flat_map (share_line n) (path n moment)

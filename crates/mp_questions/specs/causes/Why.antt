@@ -9,7 +9,7 @@ use Rattle.mp_text.specs.Written.{wire_name, delay_text}
 use Rattle.mp_questions.specs.declared.causes.wire_change.WireChange.{WireChange}
 use Rattle.mp_questions.specs.declared.causes.input_event.InputEvent.{InputEvent}
 use Rattle.mp_questions.specs.declared.causes.moment.Moment.{Moment}
-use Rattle.mp_questions.specs.causes.Changes.{read_time}
+use Rattle.mp_questions.specs.timing.Ranges.{read_time}
 use Rattle.mp_questions.specs.causes.Causes.{DrivingPort, Cause, Outside, Start, Events, cause_of}
 use Rattle.mp_questions.specs.causes.Chains.{chain}
 
@@ -46,4 +46,4 @@ chain_text n steps without (c ∷ cs) = flat_map (step_line n) (take steps (c �
 
 -- the last steps that led to the level of a wire at a time, the last first
 unfoldable pub why_text : Circuit → Moment → ℕ → List ℕ
-why_text n moment steps = chain_text n steps (declared_line (wire_at n moment.wire.0)) (chain n moment.wire (read_time n moment.time))
+why_text n moment steps = chain_text n steps (declared_line (wire_at n moment.wire.0)) (chain n moment.wire (read_time n.horizon moment.time))

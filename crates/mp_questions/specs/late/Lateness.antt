@@ -6,7 +6,8 @@ use Rattle.mp_records.specs.declared.bundle_record.BundleRecord.{BundleRecord}
 use Rattle.mp_netlist.specs.Circuit.{Circuit, bundle_at}
 use Rattle.mp_model.specs.Waves.{level}
 use Rattle.mp_questions.specs.declared.causes.wire_change.WireChange.{WireChange}
-use Rattle.mp_questions.specs.causes.Changes.{change_at, last_event}
+use Rattle.mp_questions.specs.causes.Changes.{change_at}
+use Rattle.mp_questions.specs.timing.Events.{last_event}
 use Rattle.mp_questions.specs.causes.Causes.{Cause, Outside, Start, Events, cause_of}
 use Rattle.mp_questions.specs.late.Sources.{leads}
 use Rattle.mp_questions.specs.declared.late.late.Late.{Late}

@@ -1,6 +1,5 @@
 -- What is late, bundle by bundle.
-use Rattle.std.specs.Prelude.{ℕ, Bool, ◌&&◌, List, map, nat_le, nat_lt, Option, Some, None, if◌then◌else◌}
-use Rattle.std.specs.List.{filter_map}
+use Rattle.std.specs.Prelude.{ℕ, ◌&&◌, List, map, nat_le, nat_lt, Option, Some, None, if◌then◌else◌}
 use Rattle.mp_netlist.specs.Circuit.{Circuit}
 use Rattle.mp_questions.specs.declared.late.late.Late.{Late}
 use Rattle.mp_questions.specs.late.Searching.{bundle_numbers, late_over}

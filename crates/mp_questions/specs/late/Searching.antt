@@ -10,8 +10,8 @@ use Rattle.mp_records.specs.declared.bundle_record.BundleRecord.{BundleRecord}
 use Rattle.mp_netlist.specs.Circuit.{Circuit}
 use Rattle.mp_model.specs.Waves.{level}
 use Rattle.mp_questions.specs.declared.causes.wire_change.WireChange.{WireChange}
-use Rattle.mp_questions.specs.declared.causes.input_event.InputEvent.{InputEvent}
-use Rattle.mp_questions.specs.causes.Changes.{change_at, last_change, last_event}
+use Rattle.mp_questions.specs.causes.Changes.{change_at, last_change}
+use Rattle.mp_questions.specs.timing.Events.{last_event}
 use Rattle.mp_questions.specs.causes.Causes.{hears, event_at}
 use Rattle.mp_questions.specs.late.Sources.{has_memory}
 use Rattle.mp_questions.specs.late.Lateness.{is_excused, late_at, late_by, units_behind}

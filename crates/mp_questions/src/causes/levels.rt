@@ -4,6 +4,7 @@ ghost use Rattle.mp_model.specs.Waves.{AreWavesOf};
 use crate::causes::input_event::InputEvent;
 use crate::causes::moment::Moment;
 use crate::causes::wire_change::WireChange;
+use crate::timing::read_time;
 use mp_model::Waves;
 use mp_netlist::{Input, Netlist, WireId};
 
@@ -19,7 +20,8 @@ impl<'a> Levels<'a> {
     ghost use Rattle.std.specs.Prelude.{◌≡◌, ◌<◌, IfSome, if◌then◌else◌, Some, None};
     ghost use Rattle.mp_netlist.specs.Circuit.{IsCircuit};
     ghost use Rattle.mp_model.specs.Waves.{AreWavesOf};
-    ghost use Rattle.mp_questions.specs.causes.Changes.{read_time, change_if, last_change};
+    ghost use Rattle.mp_questions.specs.causes.Changes.{change_if, last_change};
+    ghost use Rattle.mp_questions.specs.timing.Ranges.{read_time};
     ghost use Rattle.mp_questions.specs.causes.Causes.{hears, event_at};
 
     /// A netlist and its waves.
@@ -72,11 +74,11 @@ impl<'a> Levels<'a> {
 
     /// The last change of a wire at or before a time, found by search.
     pub(crate) fn last_change(self, moment: Moment) -> Option<WireChange>
-        ensures value { result ≡ last_change self.entry.netlist.now moment.wire (read_time self.entry.netlist.now moment.time) }
+        ensures value { result ≡ last_change self.entry.netlist.now moment.wire (read_time self.entry.netlist.now.horizon moment.time) }
         ensures from { IfSome result (λ change. 0 < change.time) }
         ensures within { IfSome result (λ change. change.time < self.entry.netlist.now.horizon) }
     {
-        let end = moment.time.min(u64::from(self.netlist.horizon() - 1)) as u32 + 1;
+        let end = read_time(self.netlist.horizon(), moment.time) + 1;
         match self.waves.of(moment.wire) {
             Some(wave) => match wave.changes_between(0, end).last() {
                 Some((time, level)) => Some(WireChange {

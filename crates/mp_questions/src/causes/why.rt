@@ -5,7 +5,6 @@ ghost use Rattle.mp_streams.specs.Outgoing.{Writes as WritesTo};
 ghost use Rattle.mp_streams.specs.WriteErrors.{Writes};
 ghost use Rattle.mp_netlist.specs.Circuit.{IsCircuit, wire_at};
 ghost use Rattle.mp_model.specs.Waves.{AreWavesOf};
-ghost use Rattle.mp_text.specs.Written.{wire_name};
 ghost use Rattle.mp_questions.specs.causes.Causes.{cause_of, cause_seen, port_seen};
 ghost use Rattle.mp_questions.specs.causes.Chains.{chain_from};
 ghost use Rattle.mp_questions.specs.causes.Why.{cause_text, change_text, declared_line, event_text, port_text, step_line, why_text};
@@ -17,6 +16,7 @@ use crate::causes::levels::Levels;
 use crate::causes::moment::Moment;
 use crate::causes::tracer::Tracer;
 use crate::causes::wire_change::WireChange;
+use crate::timing::wire_name;
 use mp_model::Waves;
 use mp_netlist::{Netlist, WireId};
 use mp_streams::{Failed, Out, Sink, Text, WriteError};
@@ -159,14 +159,4 @@ fn put_event<S: Sink>(out: &mut Out<S>, netlist: &Netlist, event: InputEvent) ->
         return Ok(());
     }
     ("/", event.delay).put_to(out)
-}
-
-/// The name of a wire; empty if there is none.
-fn wire_name(netlist: &Netlist, wire: WireId) -> &str
-    ensures { result.now ≡ wire_name netlist.now wire }
-{
-    match netlist.wire(wire) {
-        Some(found) => found.name.as_str(),
-        None => "",
-    }
 }

@@ -5,7 +5,7 @@ ghost use Rattle.mp_records.specs.declared.ids.BundleId.{BundleId as Id};
 ghost use Rattle.mp_netlist.specs.Circuit.{IsBundle, IsCircuit, bundle_at};
 ghost use Rattle.mp_model.specs.Waves.{level};
 ghost use Rattle.mp_wave.specs.WaveChanges.{changes_in};
-ghost use Rattle.mp_questions.specs.causes.Changes.{last_event};
+ghost use Rattle.mp_questions.specs.timing.Events.{last_event};
 ghost use Rattle.mp_questions.specs.late.Lateness.{all_late, units_behind};
 ghost use Rattle.mp_questions.specs.late.Lists.{late_lists};
 ghost use Rattle.mp_questions.specs.late.Searching.{bundle_numbers, late_over, late_then};
@@ -158,7 +158,7 @@ fn units_behind(
 {
     let before = time.saturating_sub(1);
     let Some(asked) = search
-        .places
+        .counts
         .last_between(search.of, bundle.request, 1, before)
     else {
         return Ok(None);

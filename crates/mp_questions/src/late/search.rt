@@ -5,8 +5,8 @@ ghost use Rattle.mp_records.specs.Outputs.{delay_of};
 ghost use Rattle.mp_questions.specs.late.Sources.{has_memory};
 ghost use Rattle.mp_questions.specs.late.Searching.{from_on, key, source_at, wire_numbers};
 
+use crate::late::change_counts::ChangeCounts;
 use crate::late::driven::Driven;
-use crate::late::places::Places;
 use mp_modules::Kind;
 use mp_netlist::{Driver, Input, ModuleRecord, WireId};
 use std::alloc::{AllocError, Global};
@@ -26,7 +26,7 @@ pub(crate) struct WireTime {
 #[derive(Drop)]
 pub(crate) struct Search<'a> {
     pub(crate) of: Driven<'a>,
-    pub(crate) places: Places,
+    pub(crate) counts: ChangeCounts,
     /// Each change by its time and, behind that, its wire.
     pending: BTreeSet<u64>,
 }
@@ -48,7 +48,7 @@ impl<'a> Search<'a> {
     {
         Search {
             of,
-            places: Places::new(),
+            counts: ChangeCounts::new(),
             pending: BTreeSet::new(alloc),
         }
     }
@@ -126,7 +126,7 @@ impl<'a> Search<'a> {
         let heard = time.saturating_sub(delay);
         for &input in part.inputs.as_slice() {
             let found = source_from(
-                &mut self.places,
+                &mut self.counts,
                 self.of,
                 part.kind,
                 input,
@@ -156,7 +156,7 @@ impl<'a> Search<'a> {
 
 /// When the change was that an input heard at a time, or with memory the last one up to it; nothing where that was before a time from 1 on.
 fn source_from(
-    places: &mut Places,
+    counts: &mut ChangeCounts,
     of: Driven<'_>,
     kind: Kind,
     input: Input,
@@ -173,7 +173,7 @@ fn source_from(
     } else {
         from.max(upto)
     };
-    places.last_between(of, input.wire, least, upto)
+    counts.last_between(of, input.wire, least, upto)
 }
 
 /// Whether a wire's change at a time, if there is one, is the request.

@@ -38,7 +38,7 @@ pub(crate) fn put_input<S: Sink>(
 }
 
 /// The name of a wire; empty if there is none.
-pub(crate) fn wire_name(netlist: &Netlist, wire: WireId) -> &str
+pub fn wire_name(netlist: &Netlist, wire: WireId) -> &str
     ensures { result.now ≡ wire_name netlist.now wire }
 {
     match netlist.wire(wire) {

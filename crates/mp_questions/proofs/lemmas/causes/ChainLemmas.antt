@@ -25,7 +25,8 @@ use Rattle.mp_model.proofs.EvaluationLemmas.{delay_positive, port_level_is}
 use Rattle.mp_model.proofs.QuietLemmas.{same_inputs}
 use Rattle.mp_questions.specs.declared.causes.wire_change.WireChange.{WireChange}
 use Rattle.mp_questions.specs.declared.causes.input_event.InputEvent.{InputEvent}
-use Rattle.mp_questions.specs.causes.Changes.{change_at, last_event, last_change}
+use Rattle.mp_questions.specs.causes.Changes.{change_at, last_change}
+use Rattle.mp_questions.specs.timing.Events.{last_event}
 use Rattle.mp_questions.specs.causes.Causes.{DrivingPort, Cause, Outside, Start, Events, port_at, port_by, driving_port, hears, event_at, events_at, cause_by, cause_of, first_change, followed}
 use Rattle.mp_questions.specs.causes.Chains.{chain_from, chain}
 use Rattle.mp_questions.specs.causes.Shares.{time_of}

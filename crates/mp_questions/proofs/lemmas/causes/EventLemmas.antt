@@ -23,7 +23,8 @@ use Rattle.mp_model.proofs.BehaviourLemmas.{satisfies}
 use Rattle.mp_model.proofs.InputLemmas.{input_is}
 use Rattle.mp_questions.specs.declared.causes.input_event.InputEvent.{InputEvent}
 use Rattle.mp_questions.specs.declared.causes.wire_change.WireChange.{WireChange}
-use Rattle.mp_questions.specs.causes.Changes.{change_at, change_if, last_event, last_change}
+use Rattle.mp_questions.specs.causes.Changes.{change_at, change_if, last_change}
+use Rattle.mp_questions.specs.timing.Events.{last_event}
 use Rattle.mp_questions.specs.causes.Causes.{hears, event_at, events_at}
 
 -- ---- events of a level
@@ -81,8 +82,8 @@ wave_is n waves w found are at = by (wire_at n w) (sym (are w) ∙ at)
     by None e = cc
     by (Some r) e = cc
 
-pub wave_level : (n : Circuit) → IsCircuit n → (waves : List (Option Waveform)) (w : ℕ) (found : Waveform) → AreWavesOf n waves → slot_at waves w ≡ Some found → (t : ℕ) → t < n.horizon → level_of found t ≡ level n w t
-wave_level n ok waves w found are at t below =
+pub wave_level : (n : Circuit) (waves : List (Option Waveform)) (w : ℕ) (found : Waveform) → AreWavesOf n waves → slot_at waves w ≡ Some found → (t : ℕ) → t < n.horizon → level_of found t ≡ level n w t
+wave_level n waves w found are at t below =
     ap (λ (x : Waveform). level_of x t) (wave_is n waves w found are at) ∙ levels_of_wave (level n w) (n.horizon - 1) t (omega (arith, below))
 
 -- a wire that nothing drives keeps its level
@@ -191,14 +192,14 @@ no_last f none (suc t) = let no = none (suc t) in rw no (no_last f none t)
 pub wave_stays : (n : Circuit) → IsCircuit n → (waves : List (Option Waveform)) (wire : WireId) (found : Waveform) (t : ℕ) → AreWavesOf n waves → slot_at waves wire.0 ≡ Some found → t < n.horizon
     → level_of found (t - 1) ≡ level_of found t → None ≡ change_if n wire t
 wave_stays n ok waves wire found t are at below same =
-    no_change n wire t (no_event_at (level n wire.0) t (sym (wave_level n ok waves wire.0 found are at (t - 1) (omega (arith, below))) ∙ same ∙ wave_level n ok waves wire.0 found are at t below))
+    no_change n wire t (no_event_at (level n wire.0) t (sym (wave_level n waves wire.0 found are at (t - 1) (omega (arith, below))) ∙ same ∙ wave_level n waves wire.0 found are at t below))
 
 pub wave_changes : (n : Circuit) → IsCircuit n → (waves : List (Option Waveform)) (wire : WireId) (found : Waveform) (t v : ℕ) → AreWavesOf n waves → slot_at waves wire.0 ≡ Some found → t < n.horizon → 0 < t
     → level_of found (t - 1) ≢ level_of found t → v ≡ level_of found t → Some (record { wire = wire; time = t; level = v }) ≡ change_if n wire t
 wave_changes n ok waves wire found t v are at below some differ is =
     let f = level n wire.0 in
-    let before = wave_level n ok waves wire.0 found are at (t - 1) (omega (arith, below)) in
-    let now = wave_level n ok waves wire.0 found are at t below in
+    let before = wave_level n waves wire.0 found are at (t - 1) (omega (arith, below)) in
+    let now = wave_level n waves wire.0 found are at t below in
     a_change n wire t v (event_by f t some ∙ ap not (ne_eqb (f (t - 1)) (f t) (λ e. differ (before ∙ e ∙ sym now)))) (is ∙ now)
 
 pub heard_none : (n : Circuit) → IsCircuit n → (t : ℕ) (i : Input) → None ≡ change_if n i.wire (t - i.delay) → None ≡ cond (hears n t i) (Some (event_at n t i)) None

@@ -12,7 +12,8 @@ use Rattle.mp_model.proofs.SlotLemmas.{slot_within}
 use Rattle.mp_questions.specs.declared.causes.wire_change.WireChange.{WireChange}
 use Rattle.mp_questions.specs.declared.causes.module_share.ModuleShare.{ModuleShare}
 use Rattle.mp_questions.specs.declared.causes.moment.Moment.{Moment}
-use Rattle.mp_questions.specs.causes.Changes.{last_change, read_time}
+use Rattle.mp_questions.specs.causes.Changes.{last_change}
+use Rattle.mp_questions.specs.timing.Ranges.{read_time}
 use Rattle.mp_questions.specs.causes.Causes.{DrivingPort, Cause, Outside, Start, Events, driving_port, events_at, cause_by, cause_of, followed, port_of}
 use Rattle.mp_questions.specs.causes.Chains.{chain_from, chain}
 use Rattle.mp_questions.specs.causes.Shares.{time_of, units_of, is_port_of, is_step_in, steps_in, share, shares, has_steps, by_units}
@@ -275,7 +276,7 @@ chain_sum n ok (suc k) c some le = by (followed (cause_of n c)) refl (λ d has l
 pub adds_up : AddsUp
 unfolding path
 adds_up n ok moment c is =
-    let t = read_time n moment.time in
+    let t = read_time n.horizon moment.time in
     let changes = chain n moment.wire t in
     let last = last_change_is n moment.wire t c is in
     let sum : sum_by (λ (s : ModuleShare). s.units) (by_units (filter has_steps (shares n changes))) ≡ sum_by (ported n) changes
@@ -290,12 +291,12 @@ none_kept : (n : Circuit) (a k : ℕ) → filter has_steps (map (share n []) (ra
 none_kept n a zero = refl
 none_kept n a (suc k) = none_kept n (a + 1) k
 
-pub no_path : (n : Circuit) → IsCircuit n → (moment : Moment) → None ≡ last_change n moment.wire (read_time n moment.time) → path n moment ≡ []
+pub no_path : (n : Circuit) → IsCircuit n → (moment : Moment) → None ≡ last_change n moment.wire (read_time n.horizon moment.time) → path n moment ≡ []
 unfolding path
 no_path n ok moment none =
-    ap (λ cs. by_units (filter has_steps (shares n cs))) (chain_is n ok moment.wire (read_time n moment.time) None (sym none)) ∙ ap by_units (none_kept n 0 (length n.modules))
+    ap (λ cs. by_units (filter has_steps (shares n cs))) (chain_is n ok moment.wire (read_time n.horizon moment.time) None (sym none)) ∙ ap by_units (none_kept n 0 (length n.modules))
 
-pub path_is : (n : Circuit) → IsCircuit n → (moment : Moment) (c : WireChange) → Some c ≡ last_change n moment.wire (read_time n moment.time)
+pub path_is : (n : Circuit) → IsCircuit n → (moment : Moment) (c : WireChange) → Some c ≡ last_change n moment.wire (read_time n.horizon moment.time)
     → path n moment ≡ by_units (filter has_steps (shares n (chain_from n c.time (Some c))))
 unfolding path
-path_is n ok moment c some = ap (λ cs. by_units (filter has_steps (shares n cs))) (chain_is n ok moment.wire (read_time n moment.time) (Some c) (sym some))
+path_is n ok moment c some = ap (λ cs. by_units (filter has_steps (shares n cs))) (chain_is n ok moment.wire (read_time n.horizon moment.time) (Some c) (sym some))

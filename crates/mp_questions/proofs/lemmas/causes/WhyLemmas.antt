@@ -7,7 +7,8 @@ use Rattle.mp_streams.specs.Outgoing.{Outgoing, Puts}
 use Rattle.mp_streams.proofs.OutLemmas.{puts_next, puts_stopped}
 use Rattle.mp_questions.specs.declared.causes.moment.Moment.{Moment}
 use Rattle.mp_questions.specs.declared.causes.wire_change.WireChange.{WireChange}
-use Rattle.mp_questions.specs.causes.Changes.{last_change, read_time}
+use Rattle.mp_questions.specs.causes.Changes.{last_change}
+use Rattle.mp_questions.specs.timing.Ranges.{read_time}
 use Rattle.mp_questions.specs.causes.Chains.{chain_from}
 use Rattle.mp_questions.specs.causes.Why.{chain_text, declared_line, step_line, why_text}
 use Rattle.mp_questions.proofs.lemmas.causes.ChainLemmas.{IsStepAt, chain_is, first_step, first_within, rest_step}
@@ -31,18 +32,18 @@ pub chain_over : (n : Circuit) (xs : List WireChange) (k : ℕ) {S T E : Type 0}
 chain_over n xs k {T = T} {E = E} {f = f} {done = done} {a = a} {b = b} over first = subst (Puts f (Ok done) a b) (ap (flat_map (step_line n)) (take_all k xs over)) first
 
 -- the text of a chain, and of none
-pub why_is : (n : Circuit) → IsCircuit n → (moment : Moment) (steps : ℕ) (c : WireChange) → Some c ≡ last_change n moment.wire (read_time n moment.time) → 0 < c.time
+pub why_is : (n : Circuit) → IsCircuit n → (moment : Moment) (steps : ℕ) (c : WireChange) → Some c ≡ last_change n moment.wire (read_time n.horizon moment.time) → 0 < c.time
     → flat_map (step_line n) (take steps (chain_from n c.time (Some c))) ≡ why_text n moment steps
 unfolding why_text
 why_is n ok moment steps c some from =
     let without = declared_line (wire_at n moment.wire.0) in
     let whole = rest_step n ok c from in
     ap (λ cs. flat_map (step_line n) (take steps cs)) whole
-    ∙ sym (ap (chain_text n steps without) (chain_is n ok moment.wire (read_time n moment.time) (Some c) (sym some) ∙ whole))
+    ∙ sym (ap (chain_text n steps without) (chain_is n ok moment.wire (read_time n.horizon moment.time) (Some c) (sym some) ∙ whole))
 
-pub declared_is : (n : Circuit) → IsCircuit n → (moment : Moment) (steps : ℕ) → None ≡ last_change n moment.wire (read_time n moment.time) → declared_line (wire_at n moment.wire.0) ≡ why_text n moment steps
+pub declared_is : (n : Circuit) → IsCircuit n → (moment : Moment) (steps : ℕ) → None ≡ last_change n moment.wire (read_time n.horizon moment.time) → declared_line (wire_at n moment.wire.0) ≡ why_text n moment steps
 unfolding why_text
-declared_is n ok moment steps none = sym (ap (chain_text n steps (declared_line (wire_at n moment.wire.0))) (chain_is n ok moment.wire (read_time n moment.time) None (sym none)))
+declared_is n ok moment steps none = sym (ap (chain_text n steps (declared_line (wire_at n moment.wire.0))) (chain_is n ok moment.wire (read_time n.horizon moment.time) None (sym none)))
 
 -- ---- texts under other names
 

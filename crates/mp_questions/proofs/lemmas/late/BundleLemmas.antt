@@ -1,5 +1,5 @@
 -- What is late at a bundle.
-use Rattle.std.proofs.Common.{◌≡◌, ℕ, ◌+◌, ◌-◌, ◌<◌, ◌≤◌, ◌==◌, Bool, true, false, not, cond, List, [], ◌∷◌, ◌++◌, length, get_or, map, take, filter, Option, Some, None, option_map, zero, suc, refl, ap, sym, ◌∙◌, arith, append-nil}
+use Rattle.std.proofs.Common.{◌≡◌, ℕ, ◌+◌, ◌-◌, ◌<◌, ◌==◌, Bool, true, false, not, cond, List, [], ◌∷◌, ◌++◌, length, get_or, map, take, filter, Some, None, option_map, zero, suc, refl, ap, sym, ◌∙◌, arith, append-nil}
 use Rattle.std.specs.List.{All, filter_map, cons_option, range_with_len}
 use Rattle.std.proofs.lemmas.List.{take_more, map-append, length-map}
 use Rattle.std.proofs.lemmas.List.Elements.{All-append, filter-append, filter_map-append}
@@ -9,7 +9,7 @@ use Rattle.mp_records.specs.declared.ids.BundleId.{BundleId}
 use Rattle.mp_records.specs.declared.bundle_record.BundleRecord.{BundleRecord}
 use Rattle.mp_netlist.specs.Circuit.{Circuit, bundle_at}
 use Rattle.mp_model.specs.Waves.{level}
-use Rattle.mp_questions.specs.causes.Changes.{last_event}
+use Rattle.mp_questions.specs.timing.Events.{last_event}
 use Rattle.mp_questions.specs.late.Lateness.{late_by, late_units, late_in, late_at, units_behind}
 use Rattle.mp_questions.specs.late.Searching.{late_then, late_over}
 use Rattle.mp_questions.specs.declared.late.late.Late.{Late}

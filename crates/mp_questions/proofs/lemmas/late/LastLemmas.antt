@@ -1,5 +1,5 @@
 -- The last change of a wire from one time on and up to another.
-use Rattle.std.proofs.Common.{◌≡◌, ℕ, ◌+◌, ◌-◌, ◌<◌, ◌≤◌, ◌==◌, Bool, true, false, cond, List, length, max, take, Option, Some, None, option_map, nat_lt, zero, suc, refl, ap, sym, subst, ◌∙◌, inl, inr, arith, append-nil}
+use Rattle.std.proofs.Common.{◌≡◌, ℕ, ◌+◌, ◌-◌, ◌<◌, ◌≤◌, Bool, true, false, cond, List, length, max, take, Option, Some, None, option_map, nat_lt, zero, suc, refl, ap, sym, ◌∙◌, inl, inr, arith}
 use Rattle.std.proofs.lemmas.Bool.{cases_lt, lt-ltb, le-ltb}
 use Rattle.std.proofs.lemmas.List.{take_more}
 use Rattle.mp_wave.specs.Faults.{pair_at}
@@ -9,9 +9,10 @@ use Rattle.mp_modules.specs.Histories.{has_event}
 use Rattle.mp_records.specs.declared.ports.Input.{Input}
 use Rattle.mp_netlist.specs.Slots.{slot_at}
 use Rattle.mp_netlist.specs.Circuit.{Circuit, IsCircuit}
-use Rattle.mp_model.specs.Waves.{level, wave, AreWavesOf}
+use Rattle.mp_model.specs.Waves.{level, AreWavesOf}
 use Rattle.mp_questions.specs.declared.causes.wire_change.WireChange.{WireChange}
-use Rattle.mp_questions.specs.causes.Changes.{change_at, last_event, last_change}
+use Rattle.mp_questions.specs.causes.Changes.{change_at}
+use Rattle.mp_questions.specs.timing.Events.{last_event}
 use Rattle.mp_questions.specs.causes.Causes.{hears, event_at}
 use Rattle.mp_questions.proofs.lemmas.causes.EventLemmas.{change_of, earlier_changes, last_of, last_more, last_changes, last_event_is, no_last, no_wave, wave_is, hears_is, event_later}
 use Rattle.mp_questions.specs.late.Sources.{has_memory}
@@ -74,7 +75,7 @@ no_found n ok waves w from t are none = sym (ap (from_on from) (no_last (level n
 abbrev pub change_time : Option WireChange → Option ℕ
 change_time o = option_map (λ (c : WireChange). c.time) o
 
-event_is_last : (f : ℕ → ℕ) (u : ℕ) → has_event f u ≡ true → last_event f u ≡ Some u
+pub event_is_last : (f : ℕ → ℕ) (u : ℕ) → has_event f u ≡ true → last_event f u ≡ Some u
 event_is_last f zero has = let never : ⊥ = cc in absurd never
 event_is_last f (suc u) has = ap (λ b. cond b (Some (suc u)) (last_event f u)) has
 

@@ -1,5 +1,5 @@
 -- What is still to be looked at.
-use Rattle.std.proofs.Common.{◌≡◌, ◌≢◌, ℕ, ◌+◌, ◌-◌, ◌*◌, ◌/◌, ◌%◌, ◌<◌, ◌≤◌, ◌^◌, ◌==◌, ◌||◌, ◌&&◌, Bool, true, false, cond, List, [], ◌∷◌, ◌++◌, length, get_or, take, max, All, Option, Some, None, option_map, IfSome, nat_lt, zero, suc, refl, ap, sym, subst, ◌∙◌, arith}
+use Rattle.std.proofs.Common.{◌≡◌, ℕ, ◌+◌, ◌-◌, ◌/◌, ◌%◌, ◌<◌, ◌≤◌, ◌^◌, ◌==◌, ◌||◌, ◌&&◌, Bool, true, false, cond, List, [], ◌∷◌, ◌++◌, length, get_or, take, max, All, Option, Some, None, option_map, IfSome, nat_lt, zero, suc, refl, ap, sym, subst, ◌∙◌, arith}
 use Rattle.std.specs.List.{list_any, cons_option, filter_map}
 use Rattle.std.specs.BTreeSet.{insert_key}
 use Rattle.std.specs.Ordering.{nat_cmp, match_ordering}
@@ -16,10 +16,11 @@ use Rattle.mp_records.specs.declared.ports.Input.{Input}
 use Rattle.mp_netlist.specs.Circuit.{Circuit, IsCircuit}
 use Rattle.mp_model.specs.Waves.{level}
 use Rattle.mp_questions.specs.declared.causes.wire_change.WireChange.{WireChange}
-use Rattle.mp_questions.specs.causes.Changes.{change_at, last_event, last_change}
+use Rattle.mp_questions.specs.causes.Changes.{change_at, last_change}
+use Rattle.mp_questions.specs.timing.Events.{last_event}
 use Rattle.mp_questions.specs.causes.Causes.{DrivingPort, Cause, Outside, Start, Events, driving_port, hears, event_at, events_at, cause_by, cause_of}
 use Rattle.mp_questions.specs.late.Sources.{has_memory, sources, sources_by}
-use Rattle.mp_questions.specs.late.Lateness.{is_outside, is_excuse, is_excused}
+use Rattle.mp_questions.specs.late.Lateness.{is_outside, is_excused}
 use Rattle.mp_questions.specs.late.Searching.{wire_numbers, key, change_by, any_excused, source_at, from_on, with_key}
 use Rattle.mp_questions.proofs.lemmas.late.SourceLemmas.{excused_step, early_unexcused, source_before}
 use Rattle.mp_questions.proofs.lemmas.late.LastLemmas.{change_time}

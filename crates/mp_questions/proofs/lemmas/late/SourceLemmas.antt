@@ -1,18 +1,17 @@
 -- What leads to a change.
-use Rattle.std.proofs.Common.{◌≡◌, ℕ, ◌+◌, ◌-◌, ◌<◌, ◌≤◌, ◌==◌, ◌||◌, ◌&&◌, Bool, true, false, not, cond, List, [], ◌∷◌, ◌++◌, map, filter, Option, Some, None, option_map, nat_lt, zero, suc, refl, ap, sym, subst, ◌∙◌, arith}
+use Rattle.std.proofs.Common.{◌≡◌, ℕ, ◌-◌, ◌<◌, ◌≤◌, ◌==◌, ◌||◌, ◌&&◌, Bool, true, false, cond, List, [], ◌∷◌, ◌++◌, map, filter, Option, Some, None, nat_lt, zero, suc, refl, ap, sym, subst, ◌∙◌, arith}
 use Rattle.std.specs.List.{flat_map, filter_map, list_any, cons_option}
 use Rattle.std.proofs.lemmas.Bool.{ne_eqb, le-ltb}
 use Rattle.std.proofs.lemmas.Option.{same_Some}
 use Rattle.std.proofs.lemmas.List.Folds.{list_any-append}
 use Rattle.mp_modules.specs.declared.kind.Kind.{Kind}
-use Rattle.mp_modules.specs.Histories.{has_event}
 use Rattle.mp_records.specs.declared.ports.Input.{Input}
 use Rattle.mp_netlist.specs.Circuit.{Circuit, IsCircuit}
 use Rattle.mp_model.specs.Waves.{level}
 use Rattle.mp_questions.specs.declared.causes.wire_change.WireChange.{WireChange}
 use Rattle.mp_questions.specs.declared.causes.input_event.InputEvent.{InputEvent}
-use Rattle.mp_questions.specs.causes.Changes.{change_at, last_change}
-use Rattle.mp_questions.specs.causes.Causes.{DrivingPort, Cause, Outside, Start, Events, driving_port, hears, event_at, events_at, cause_by, cause_of}
+use Rattle.mp_questions.specs.causes.Changes.{last_change}
+use Rattle.mp_questions.specs.causes.Causes.{DrivingPort, Start, Events, driving_port, hears, event_at, events_at, cause_by, cause_of}
 use Rattle.mp_questions.proofs.lemmas.causes.EventLemmas.{event_later, hears_is}
 use Rattle.mp_questions.proofs.lemmas.causes.ChainLemmas.{port_delay, last_change_is}
 use Rattle.mp_questions.specs.late.Sources.{has_memory, sources_by, sources, leading, leads}

@@ -27,6 +27,7 @@ use Rattle.mp_questions.specs.timing.Extremes.{extremes}
 use Rattle.mp_questions.specs.timing.Measures.{stood_for}
 use Rattle.mp_questions.specs.timing.Waits.{given}
 use Rattle.mp_questions.specs.timing.TimingLaws.{KeepsOutput, TellsShortSetups, StaysFrom, first_level, second_level, least_setup}
+use Rattle.mp_questions.proofs.lemmas.causes.EventLemmas.{event_later, last_event_is}
 use Rattle.mp_questions.proofs.lemmas.timing.EventLemmas.{same_true}
 
 -- ---- a C that waits
@@ -119,15 +120,15 @@ contains_filter_map g x y (z ∷ zs) has is = ⊎_elim first (λ later. behind (
     first : z ≡ x → Contains (filter_map g (z ∷ zs)) y
     first same = let here : g z ≡ Some y = ap g same ∙ is in rw here (contains_here y (filter_map g zs))
 
-filter_map_contains : (g : ℕ → Option ℕ) (y : ℕ) (xs : List ℕ) → Contains (filter_map g xs) y → (x : ℕ) × Contains xs x × (g x ≡ Some y)
-filter_map_contains g y [] has = absurd (omega (arith, has.1))
-filter_map_contains g y (z ∷ zs) has =
-    by (λ there. let found = filter_map_contains g y zs there in (found.0, contains_there found.0 z zs found.1, found.2)) (g z) refl has
+pub filter_map_contains : {X Y : Type 0} (f : X → Option Y) (y : Y) (xs : List X) → Contains (filter_map f xs) y → (x : X) × Contains xs x × (f x ≡ Some y)
+filter_map_contains f y [] has = absurd (omega (arith, has.1))
+filter_map_contains {X} {Y} f y (z ∷ zs) has =
+    by (λ there. let found = filter_map_contains f y zs there in (found.0, contains_there found.0 z zs found.1, found.2)) (f z) refl has
   where
-    by : (Contains (filter_map g zs) y → (x : ℕ) × Contains (z ∷ zs) x × (g x ≡ Some y)) → (o : Option ℕ) → g z ≡ o → Contains (cons_option o (filter_map g zs)) y
-        → (x : ℕ) × Contains (z ∷ zs) x × (g x ≡ Some y)
+    by : (Contains (filter_map f zs) y → (x : X) × Contains (z ∷ zs) x × (f x ≡ Some y)) → (o : Option Y) → f z ≡ o → Contains (cons_option o (filter_map f zs)) y
+        → (x : X) × Contains (z ∷ zs) x × (f x ≡ Some y)
     by later None is there = later there
-    by later (Some v) is there = ⊎_elim (λ same. (z, contains_here z zs, is ∙ ap (λ k. let o : Option ℕ = Some k in o) same)) later (contains_cases y v (filter_map g zs) there)
+    by later (Some v) is there = ⊎_elim (λ same. (z, contains_here z zs, is ∙ ap Some same)) later (contains_cases y v (filter_map f zs) there)
 
 filter_from : (p : ℕ → Bool) (x : ℕ) (xs : List ℕ) → Contains (filter p xs) x → Contains xs x
 filter_from p x [] has = has
@@ -138,21 +139,6 @@ filter_from p x (y ∷ ys) has = by (filter_from p x ys) (p y) has
     by from false there = contains_there x y ys (from there)
 
 -- ---- the last event
-
-record IsLast (f : ℕ → ℕ) (t u : ℕ) : Type 0 where
-  some : 1 ≤ u
-  upto : u ≤ t
-  event : has_event f u ≡ true
-
-last_at : (f : ℕ → ℕ) (t u : ℕ) → last_event f t ≡ Some u → IsLast f t u
-last_at f zero u is = let none : ⊥ = cc in absurd none
-last_at f (suc t) u is = by (last_at f t u) (has_event f (suc t)) refl is
-  where
-    by : (last_event f t ≡ Some u → IsLast f t u) → (b : Bool) → has_event f (suc t) ≡ b → cond b (Some (suc t)) (last_event f t) ≡ Some u → IsLast f (suc t) u
-    by earlier true event same =
-        let at : suc t ≡ u = cc in
-        record { some = omega (arith, at); upto = omega (arith, at); event = subst (λ (k : ℕ). has_event f k ≡ true) at event }
-    by earlier false none same = let before = earlier same in record { some = before.some; upto = omega (arith, before.upto); event = before.event }
 
 -- where there is an event up to a time, the last one isn't before it
 last_since : (f : ℕ → ℕ) (t q : ℕ) → has_event f t ≡ true → t ≤ q → (u : ℕ) × (last_event f q ≡ Some u) × (t ≤ u) × (u ≤ q)
@@ -209,14 +195,14 @@ module _ (n : Circuit) (k : ℕ) (b : BundleRecord) (at : bundle_at n k ≡ Some
   reported q s has stood low =
       let from = stood_from f q s stood in
       let u = from.0 in
-      let last = last_at f q u from.1 in
+      let last = last_event_is f q u from.1 in
       let inside = range_contains 0 (n.horizon - 0) q (filter_from (has_event g) q (range_with_len 0 (n.horizon - 0)) has) in
       let request = filter_contains (has_event g) q (range_with_len 0 (n.horizon - 0)) has in
       let below : q < n.horizon = omega (arith, inside.1) in
-      let upto = last.upto in
+      let upto = last.within in
       let units = from.2 in
       let soon : IsRequestedSoon n b u = record { at = q; since = upto; until = omega (arith, units, low, upto); within = below; event = differs g q request } in
-      (u, (finds_by_rule n (record { time = u; place = bundle_place k; code = Setup })).1 (last.some, omega (arith, upto, below), (b, at, (differs f u last.event, soon))))
+      (u, (finds_by_rule n (record { time = u; place = bundle_place k; code = Setup })).1 (event_later f u last.event, omega (arith, upto, below), (b, at, (differs f u last.event, soon))))
 
   short_if : (numbers : List ℕ) (s : ℕ) → numbers ≡ filter_map (stood_for f) times → least_of numbers ≡ Some s → s ≤ b.setup
       → (t : ℕ) × Contains (findings n) (record { time = t; place = bundle_place k; code = Setup })

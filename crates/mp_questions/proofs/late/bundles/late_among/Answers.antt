@@ -1,7 +1,7 @@
-use Rattle.std.proofs.Common.{◌≡◌, ◌-◌, ◌<◌, ℕ, length, Vec, Global, sym, ap, subst, ◌∙◌, arith}
+use Rattle.std.proofs.Common.{◌≡◌, ◌-◌, ◌<◌, length, Vec, Global, sym, ap, subst, ◌∙◌, arith}
 use Rattle.mp_wave.specs.WaveChanges.{changes_in}
 use Rattle.mp_model.specs.Waves.{level}
-use Rattle.mp_questions.specs.causes.Changes.{last_event}
+use Rattle.mp_questions.specs.timing.Events.{last_event}
 use Rattle.mp_questions.specs.declared.late.driven.Driven.{Driven}
 use Rattle.mp_questions.specs.declared.late.late.Late.{Late}
 use Rattle.mp_questions.specs.late.Lateness.{units_behind}

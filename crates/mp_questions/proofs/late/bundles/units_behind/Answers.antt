@@ -1,6 +1,6 @@
 use Rattle.std.proofs.Common.{◌≡◌, ◌-◌, Some, sym, ap, ◌∙◌, arith}
 use Rattle.mp_model.specs.Waves.{level}
-use Rattle.mp_questions.specs.causes.Changes.{last_event}
+use Rattle.mp_questions.specs.timing.Events.{last_event}
 use Rattle.mp_questions.proofs.lemmas.causes.EventLemmas.{last_event_is}
 use Rattle.mp_questions.specs.late.Lateness.{units_behind}
 use Rattle.mp_questions.specs.late.Searching.{from_on}

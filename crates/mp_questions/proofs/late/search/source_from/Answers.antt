@@ -1,6 +1,6 @@
-use Rattle.std.proofs.Common.{◌≡◌, ◌-◌, max, sym, ap, ◌∙◌}
+use Rattle.std.proofs.Common.{◌-◌, max, sym, ap, ◌∙◌}
 use Rattle.mp_model.specs.Waves.{level}
-use Rattle.mp_questions.specs.causes.Changes.{last_event}
+use Rattle.mp_questions.specs.timing.Events.{last_event}
 use Rattle.mp_questions.specs.late.Searching.{from_on}
 use Rattle.mp_questions.proofs.lemmas.late.LastLemmas.{source_with_memory, source_without}
 use Rattle.mp_questions.proofs.late.search.source_from.Goals as goal

@@ -7,7 +7,7 @@ use Rattle.mp_wave.proofs.PrefixLemmas.{AreChanges-between}
 use Rattle.mp_model.specs.Waves.{level}
 use Rattle.mp_questions.specs.timing.Events.{times_of}
 use Rattle.mp_questions.proofs.lemmas.timing.EventLemmas.{times_within, between_below}
-use Rattle.mp_questions.proofs.lemmas.timing.WaveLemmas.{wave_is, wave_levels}
+use Rattle.mp_questions.proofs.lemmas.causes.EventLemmas.{wave_level}
 use Rattle.mp_questions.proofs.timing.events.events_within.Goals as goal
 
 pub returns-clause-times : goal.returns-clause-times
@@ -15,10 +15,9 @@ returns-clause-times c =
     let n = c.args.netlist.now in
     let w = c.args.wire.0 in
     let v = c.in-Some.wave.now in
-    let is = wave_is n w c.args.waves.now v c.requires.waves c.in-Some.ensures in
     let within = c.requires.within in
     ap times_of (c.changes_between.ensures.value ∙ ap (λ a. between a c.args.units.to v.changes) c.saturating_sub.ensures)
-    ∙ times_within (level n w) v c.args.units.from c.args.units.to c.changes_between.ensures.form (λ t below. wave_levels n w v t is (omega (arith, below, within)))
+    ∙ times_within (level n w) v c.args.units.from c.args.units.to c.changes_between.ensures.form (λ t below. wave_level n c.args.waves.now w v c.requires.waves (sym c.in-Some.ensures) t (omega (arith, below, within)))
 
 pub returns-clause-rising : goal.returns-clause-rising
 returns-clause-rising c =

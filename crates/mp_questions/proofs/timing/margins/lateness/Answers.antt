@@ -1,4 +1,4 @@
-use Rattle.std.proofs.Common.{◌≡◌, ◌+◌, ◌<◌, length, drop, Option, sym, ap, ◌∙◌}
+use Rattle.std.proofs.Common.{◌+◌, drop, Option, sym, ap, ◌∙◌}
 use Rattle.std.proofs.lemmas.List.{at_drop_more}
 use Rattle.mp_questions.specs.declared.timing.extremes.Extremes.{Extremes}
 use Rattle.mp_questions.specs.declared.late.late.Late.{Late}

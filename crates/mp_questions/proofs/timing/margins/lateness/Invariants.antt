@@ -1,6 +1,5 @@
-use Rattle.std.proofs.Common.{◌≡◌, length, drop}
+use Rattle.std.proofs.Common.{◌≡◌, drop}
 use Rattle.mp_questions.specs.timing.Measures.{lateness}
-use Rattle.mp_questions.specs.late.Lists.{units_within}
 use Rattle.mp_questions.proofs.lemmas.timing.ExtremeLemmas.{widened_late}
 use Rattle.mp_questions.proofs.timing.margins.lateness.Given as goal
 

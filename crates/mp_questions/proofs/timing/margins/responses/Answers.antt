@@ -6,7 +6,7 @@ use Rattle.mp_questions.specs.timing.Events.{first_event}
 use Rattle.mp_questions.specs.timing.Extremes.{widened_by}
 use Rattle.mp_questions.specs.timing.Measures.{answered_after}
 use Rattle.mp_questions.specs.declared.timing.extremes.Extremes.{Extremes}
-use Rattle.mp_questions.specs.timing.Trails.{IsTrail, last_upto, next_after}
+use Rattle.mp_questions.specs.timing.Trails.{IsTrail, next_after}
 use Rattle.mp_questions.proofs.lemmas.timing.EventLemmas.{next_of_wave}
 use Rattle.mp_questions.proofs.lemmas.timing.ExtremeLemmas.{widened_by_each, each_extreme}
 use Rattle.mp_questions.proofs.lemmas.timing.TrailLemmas.{trail_later, next_high}

@@ -6,7 +6,7 @@ use Rattle.mp_questions.specs.timing.Events.{last_event}
 use Rattle.mp_questions.specs.timing.Extremes.{widened_by}
 use Rattle.mp_questions.specs.timing.Measures.{stood_for}
 use Rattle.mp_questions.specs.declared.timing.extremes.Extremes.{Extremes}
-use Rattle.mp_questions.specs.timing.Trails.{IsTrail, last_upto, next_after}
+use Rattle.mp_questions.specs.timing.Trails.{IsTrail, last_upto}
 use Rattle.mp_questions.proofs.lemmas.timing.EventLemmas.{last_of_wave}
 use Rattle.mp_questions.proofs.lemmas.timing.ExtremeLemmas.{widened_by_each, each_extreme}
 use Rattle.mp_questions.proofs.lemmas.timing.TrailLemmas.{trail_later, last_low}

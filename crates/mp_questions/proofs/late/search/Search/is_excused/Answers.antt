@@ -1,5 +1,4 @@
-use Rattle.std.proofs.Common.{◌≡◌, ◌<◌, ◌≤◌, ◌||◌, ◌/◌, ◌%◌, ◌++◌, ℕ, List, [], ◌∷◌, All, sym, ap, subst, ◌∙◌, arith}
-use Rattle.mp_records.specs.declared.ids.WireId.{WireId}
+use Rattle.std.proofs.Common.{◌≡◌, ◌<◌, ◌≤◌, ◌||◌, ◌%◌, ◌++◌, ℕ, List, [], ◌∷◌, All, sym, ap, subst, ◌∙◌, arith}
 use Rattle.mp_questions.specs.causes.Changes.{change_at}
 use Rattle.mp_questions.specs.declared.late.driven.Driven.{Driven}
 use Rattle.mp_questions.specs.late.Lateness.{is_excused}

@@ -1,8 +1,8 @@
 use Rattle.std.proofs.Common.{arith}
 use Rattle.mp_wave.specs.WaveChanges.{changes_in}
 use Rattle.mp_questions.proofs.lemmas.late.PlaceLemmas.{higher, lower, met}
-use Rattle.mp_questions.proofs.late.places.count_upto.Goals as goal
-use Rattle.mp_questions.proofs.late.places.count_upto.Goals.{then-time_at-time, else-time_at-time}
+use Rattle.mp_questions.proofs.late.change_counts.count_upto.Goals as goal
+use Rattle.mp_questions.proofs.late.change_counts.count_upto.Goals.{then-time_at-time, else-time_at-time}
 
 pub loop-low-preserved : goal.loop-low-preserved
 loop-low-preserved c =

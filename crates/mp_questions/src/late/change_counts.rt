@@ -1,4 +1,4 @@
-//! Where the changes of waves up to a time end.
+//! How many changes wires had up to the times that were asked for last.
 ghost use Rattle.std.specs.Prelude.{◌≡◌, ℕ, ◌+◌, ◌<◌, ◌≤◌, length, take};
 ghost use Rattle.std.specs.List.Sorted.{IsNonDecreasingBy};
 ghost use Rattle.mp_wave.specs.Waveform.{earlier_than};
@@ -8,26 +8,26 @@ use crate::late::driven::Driven;
 use mp_netlist::WireId;
 use mp_wave::WaveChanges;
 
-/// How many places are kept.
-const PLACES: usize = 64;
+/// How many counts are kept.
+const COUNTS: usize = 64;
 
 /// How many changes a wire had up to the time that was asked for last, kept by the last digits of the wire's number. What is asked for next is mostly near.
 #[derive(Drop)]
-pub(crate) struct Places {
-    counts: [usize; PLACES],
+pub(crate) struct ChangeCounts {
+    counts: [usize; COUNTS],
 }
 
-impl Places {
+impl ChangeCounts {
     ghost use Rattle.std.specs.Prelude.{◌≡◌, ◌<◌};
     ghost use Rattle.mp_netlist.specs.Circuit.{IsCircuit};
-    ghost use Rattle.mp_questions.specs.causes.Changes.{last_event};
+    ghost use Rattle.mp_questions.specs.timing.Events.{last_event};
     ghost use Rattle.mp_model.specs.Waves.{level};
     ghost use Rattle.mp_questions.specs.late.Searching.{from_on};
 
     /// Nothing was asked for yet.
     pub(crate) fn new() -> Self {
-        Places {
-            counts: [0; PLACES],
+        ChangeCounts {
+            counts: [0; COUNTS],
         }
     }
 
@@ -45,7 +45,7 @@ impl Places {
     {
         let wave = of.waves.of(wire)?;
         let changes = wave.changes();
-        let slot = wire.0 as usize % PLACES;
+        let slot = wire.0 as usize % COUNTS;
         let count = count_upto(changes, self.counts[slot], upto);
         self.counts[slot] = count;
         if count == 0 {

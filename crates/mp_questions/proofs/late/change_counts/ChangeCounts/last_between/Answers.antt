@@ -1,8 +1,8 @@
-use Rattle.std.proofs.Common.{◌≡◌, ℕ, List, sym, subst, ◌∙◌, arith}
+use Rattle.std.proofs.Common.{ℕ, List, sym, subst, ◌∙◌, arith}
 use Rattle.std.specs.List.Sorted.{IsNonDecreasingBy}
 use Rattle.mp_wave.proofs.WaveformLemmas.{IsNonDecreasingBy-changes}
 use Rattle.mp_questions.proofs.lemmas.late.LastLemmas.{last_before, last_found, no_found, none_upto}
-use Rattle.mp_questions.proofs.late.places.Places.last_between.Goals as goal
+use Rattle.mp_questions.proofs.late.change_counts.ChangeCounts.last_between.Goals as goal
 
 pub count_upto-count-requires : goal.count_upto-count-requires
 count_upto-count-requires c =

@@ -1,7 +1,7 @@
 use Rattle.std.proofs.Common.{◌-◌}
 use Rattle.mp_wave.specs.WaveChanges.{changes_in}
 use Rattle.mp_questions.proofs.lemmas.late.PlaceLemmas.{Bounds}
-use Rattle.mp_questions.proofs.late.places.count_upto.Given as goal
+use Rattle.mp_questions.proofs.late.change_counts.count_upto.Given as goal
 
 -- the place lies between the two
 abbrev pub invariant-loop-low : goal.invariant-loop-low
