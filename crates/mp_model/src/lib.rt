@@ -5,6 +5,7 @@ mod cell;
 mod evaluation;
 pub mod examples;
 mod finding;
+mod inputs;
 pub mod laws;
 mod track;
 mod wave_list;

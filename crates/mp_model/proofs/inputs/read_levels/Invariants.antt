@@ -1,7 +1,7 @@
 use Rattle.std.proofs.Common.{◌≡◌, map, take, length}
 use Rattle.mp_records.specs.declared.ports.Input.{Input}
 use Rattle.mp_model.specs.Evaluations.{present_at}
-use Rattle.mp_model.proofs.evaluation.read_levels.Given as goal
+use Rattle.mp_model.proofs.inputs.read_levels.Given as goal
 
 -- the levels so far are those of the inputs so far
 abbrev pub invariant-loop-p : goal.invariant-loop-p
