@@ -1,6 +1,6 @@
 -- The ports of a module that is to be added, at the wires that it names.
 use Rattle.std.specs.Prelude.{◌≡◌, ℕ, ◌+◌, Bool, true, ◌==◌, IsTrue, List, [], ◌∷◌, map, Option, Some, None, option_map, min}
-use Rattle.std.specs.List.{list_all, enumerate_from}
+use Rattle.std.specs.List.{list_all}
 use Rattle.mp_modules.specs.declared.kind.Kind.{Kind}
 use Rattle.mp_modules.specs.Kinds.{input_width, output_width}
 use Rattle.mp_records.specs.declared.ids.WireId.{WireId}

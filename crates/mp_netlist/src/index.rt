@@ -27,6 +27,21 @@ impl Index {
         Index { numbers: None }
     }
 
+    /// An index without names. It has room for this number of names, if there is memory for it.
+    pub fn with_room(alloc: Global, room: usize) -> Index
+        ensures { (name : List ℕ) → number_in result name ≡ None }
+    {
+        if room == 0 {
+            return Index::new();
+        }
+        match empty_map(alloc, room) {
+            Ok(numbers) => Index {
+                numbers: Some(numbers),
+            },
+            Err(_) => Index { numbers: None },
+        }
+    }
+
     /// The number of this name.
     pub fn get(&self, name: &Name) -> Option<u32>
         ensures { result ≡ number_in self.now name.now }
@@ -61,6 +76,13 @@ impl Index {
             None => Ok(Index { numbers: None }),
         }
     }
+}
+
+/// An empty map with room for this number of names.
+fn empty_map(alloc: Global, room: usize) -> Result<Arc<IndexMap<Name, u32>, Global>, AllocError>
+    ensures { IfOk result (λ shared. (name : List ℕ) → get bytes_eq (arc_value shared) name ≡ None) }
+{
+    Ok(Arc::new(alloc, IndexMap::with_capacity(alloc, room)?)?)
 }
 
 /// Sets the number of a name, in a copy if others share the index.

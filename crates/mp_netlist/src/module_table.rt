@@ -37,13 +37,17 @@ impl ModuleTable {
     ghost use Rattle.mp_netlist.specs.Drivers.{driver_from, port_of};
     ghost use Rattle.mp_netlist.specs.Slots.{slot_at, number_named};
 
-    /// An empty table.
-    pub fn new(alloc: Global) -> ModuleTable
+    /// An empty table. It has room for this number of modules, and as many wires, if there is memory for it.
+    pub fn with_room(alloc: Global, room: usize) -> ModuleTable
         ensures { result ≡ [] }
     {
+        let driven = match Vec::with_capacity(alloc, room) {
+            Ok(driven) => driven,
+            Err(_) => Vec::new(alloc),
+        };
         ModuleTable {
-            table: Table::new(alloc),
-            driven: Vec::new(alloc),
+            table: Table::with_room(alloc, room),
+            driven,
         }
     }
 

@@ -64,14 +64,28 @@ impl Netlist {
         ensures allowed { IsOk result ↔ ((1 ≤ horizon) × (horizon ≤ horizon_limit format)) }
         ensures refused { IfErr result (λ error. error ≡ BadHorizon) }
     {
+        Netlist::with_room(alloc, format, horizon, 0)
+    }
+
+    /// An empty netlist, as `empty` returns it. It has room for this number of wires and as many modules, if there is memory for it.
+    pub fn with_room(
+        alloc: Global,
+        format: Format,
+        horizon: u64,
+        room: usize,
+    ) -> Result<Netlist, NewError>
+        ensures ok { IfOk result (λ netlist. netlist ≡ empty_circuit format horizon) }
+        ensures allowed { IsOk result ↔ ((1 ≤ horizon) × (horizon ≤ horizon_limit format)) }
+        ensures refused { IfErr result (λ error. error ≡ BadHorizon) }
+    {
         if horizon == 0 || horizon > format.max_horizon() {
             return Err(NewError::BadHorizon);
         }
         Ok(Netlist {
             format,
             horizon: horizon as u32,
-            wires: Table::new(alloc),
-            modules: ModuleTable::new(alloc),
+            wires: Table::with_room(alloc, room),
+            modules: ModuleTable::with_room(alloc, room),
             bundles: Table::new(alloc),
         })
     }

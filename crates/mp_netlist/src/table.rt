@@ -1,11 +1,25 @@
 //! Things by number and by name.
-ghost use Rattle.std.specs.Prelude.{◌≡◌, ◌<◌, List, ℕ, None, is_some, option_map, slice_index_or, slice_set, vec_len};
+ghost use Rattle.std.specs.Prelude.{◌≡◌, ◌<◌, List, ℕ, true, None, IfSome, is_some, option_map, slice_index_or, slice_set, vec_len};
 ghost use Rattle.mp_netlist.specs.Slots.{slot_at, has_name};
 
 use crate::index::Index;
 use mp_records::Name;
 use std::alloc::{AllocError, Global};
 use std::marker::Model;
+
+/// Where a name is looked for around a number, the likeliest place first: 1 above, here, 1 below, 2 above, and so on.
+const STEPS: [u32; 10] = [
+    1,
+    0,
+    u32::MAX,
+    2,
+    u32::MAX - 1,
+    3,
+    u32::MAX - 2,
+    4,
+    u32::MAX - 3,
+    5,
+];
 
 /// A thing with a name. Its clones are equal to it.
 pub trait Named: Clone + Drop {
@@ -63,6 +77,19 @@ impl<R: Named> Table<R> {
         }
     }
 
+    /// An empty table. It has room for this number of things, if there is memory for it.
+    pub fn with_room(alloc: Global, room: usize) -> Table<R>
+        ensures { result ≡ [] }
+    {
+        match Vec::with_capacity(alloc, room) {
+            Ok(slots) => Table {
+                slots,
+                index: Index::with_room(alloc, room),
+            },
+            Err(_) => Table::new(alloc),
+        }
+    }
+
     /// The thing of this number, if it exists.
     pub fn get(&self, number: u32) -> Option<&R>
         ensures { option_copied result ≡ slot_at self.now number }
@@ -83,20 +110,14 @@ impl<R: Named> Table<R> {
         }
     }
 
-    /// The number of the thing that has this name. The numbers `near` and the next one are tried first, which costs less if it is one of them.
+    /// The number of the thing that has this name. The numbers around `near` are tried first, which costs less if it is one of them.
     pub fn number_near(&self, name: &Name, near: u32) -> Option<u32>
         ensures { result ≡ number_named R.name_of self.now name.now }
     {
-        let slots = self.slots.as_slice();
-        let text = name.as_str();
-        if has_name(slots, near, text) {
-            return Some(near);
+        match number_around(self.slots.as_slice(), near, name.as_str()) {
+            Some(number) => Some(number),
+            None => self.number_named(name),
         }
-        let next = near.wrapping_add(1);
-        if has_name(slots, next, text) {
-            return Some(next);
-        }
-        self.number_named(name)
     }
 
     /// The number of the thing whose name is this text. If there is no memory for a long text, each thing is looked at.
@@ -183,6 +204,19 @@ impl<R: Named> Table<R> {
     pub fn allocator(&self) -> Global {
         *self.slots.allocator()
     }
+}
+
+/// The number of the thing of this name, if it is at most 4 below or 5 above this number.
+fn number_around<R: Named>(slots: &[Option<R>], near: u32, name: &str) -> Option<u32>
+    ensures { IfSome result (λ number. has_name R.name_of name.now (slot_at slots.now number) ≡ true) }
+{
+    for step in STEPS {
+        let number = near.wrapping_add(step);
+        if has_name(slots, number, name) {
+            return Some(number);
+        }
+    }
+    None
 }
 
 /// Whether the thing of this number exists and has this name.

@@ -1,32 +1,11 @@
 -- A line that is written is read as its words.
 use Rattle.mp_text.proofs.Names.{◌≡◌, ◌+◌, ◌<◌, ◌==◌, ◌∷◌, ◌++◌, ℕ, true, false, suc, List, [], append_assoc, length, filter, All, Ok, refl, ap, arith, position_or_len, list_all, nat_tests, append-nil, All-head, All-tail, All-cons, All-nil, list_all-append, spaced, written_line, IsPlain, is_plain_byte, plain_allowed, plain_no_gap, plain_no_hash, All-passing, list_all-passing, lines_of, is_line_feed, is_allowed, line_words, words_of, statement_part, is_word, is_gap}
-use Rattle.std.proofs.lemmas.List.Splits.{slice_split_at, slice_split_none}
+use Rattle.mp_text.proofs.lemmas.lexing.LineWordLemmas.{words_of-gap, words_of-last}
 use Rattle.mp_text.proofs.lemmas.lexing.LineLemmas.{lines_of-line as lines_of-ended}
-
-no_hash : (w : List ℕ) → IsPlain w → All (λ b. (b == 35) ≡ false) w
-no_hash w plain = All-passing is_plain_byte (λ b. (b == 35) ≡ false) plain_no_hash w plain.plain
-
-no_gap : (w : List ℕ) → IsPlain w → All (λ b. is_gap b ≡ false) w
-no_gap w plain = All-passing is_plain_byte (λ b. is_gap b ≡ false) plain_no_gap w plain.plain
-
-part-append : (w rest : List ℕ) → All (λ b. (b == 35) ≡ false) w → statement_part (w ++ rest) ≡ w ++ statement_part rest
-part-append [] rest all = refl
-part-append (b ∷ w) rest all =
-    let one : 1 + position_or_len (λ b. b == 35) (w ++ rest) ≡ suc (position_or_len (λ b. b == 35) (w ++ rest)) = omega arith in
-    rw (All-head (λ b. (b == 35) ≡ false) b w all, one) (ap (λ l. b ∷ l) (part-append w rest (All-tail (λ b. (b == 35) ≡ false) b w all)))
-
-word_kept : (w : List ℕ) (parts : List (List ℕ)) → 0 < length w → filter is_word (w ∷ parts) ≡ w ∷ filter is_word parts
-word_kept w parts some = grind (arith, nat_tests)
 
 -- a word and a space in front of a line
 pub words_of-cons : (w line : List ℕ) → IsPlain w → words_of (w ++ 32 ∷ line) ≡ w ∷ words_of line
-unfolding words_of
-words_of-cons w line plain = grind (arith, nat_tests, part-append, All-cons, All-nil, no_hash, slice_split_at, no_gap, word_kept)
-
--- a last word
-pub words_of-last : (w : List ℕ) → IsPlain w → words_of w ≡ w ∷ []
-unfolding words_of
-words_of-last w plain = grind (arith, append-nil, (part-append w [] (no_hash w plain)), (slice_split_none is_gap w (no_gap w plain)), word_kept)
+words_of-cons w line plain = words_of-gap w 32 line plain refl
 
 -- the words of a line as it is written
 pub words_of-spaced : (first : List ℕ) (words : List (List ℕ)) → IsPlain first → All IsPlain words → words_of (first ++ spaced words) ≡ first ∷ words

@@ -11,6 +11,9 @@ use crate::text_state::TextState;
 use mp_netlist::Netlist;
 use std::alloc::Global;
 
+/// The bytes of text for which there is room for a wire and a module, before the text is read. Few texts have more wires or modules.
+const BYTES_OF_A_MODULE: usize = 64;
+
 /// Reads a netlist from a text of statements, one on each line: the empty netlist of the statement `horizon`, after the edits of the statements
 /// `wire`, `module`, `stim` and `bundle` in turn. A statement `format` may come first.
 ///
@@ -46,11 +49,12 @@ pub fn read_lines(alloc: Global, text: &[u8]) -> Result<Netlist, TextError>
     let mut state = TextState::Fresh;
     let mut number = 0;
     let mut words = Vec::new(alloc);
+    let room = text.len() / BYTES_OF_A_MODULE;
     let mut rest = text;
     while !rest.is_empty() {
         let (front, others) = first_line(rest);
         number += 1;
-        match line(alloc, &mut state, &mut words, front) {
+        match line(alloc, &mut state, &mut words, front, room) {
             Ok(()) => rest = others,
             Err(code) => return Err(TextError { line: number, code }),
         }

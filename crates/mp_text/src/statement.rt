@@ -14,21 +14,28 @@ use mp_netlist::{Edit, EditError, Netlist, NewError};
 use std::alloc::Global;
 
 /// Applies a line to the state of the text so far. `words` is reused from line to line. The state is lent and not passed by value, since its owner
-/// would have to drop it at each place that reports a fault.
+/// would have to drop it at each place that reports a fault. A netlist that begins here has room for `room` wires and as many modules, if there is
+/// memory for it.
 pub fn line<'a>(
     alloc: Global,
     state: &mut TextState,
     words: &mut Vec<&'a [u8]>,
     line: &'a [u8],
+    room: usize,
 ) -> Result<(), TextCode>
     ensures { Gives (Line OutOfMemory) (λ _. state.new) result (after_line state.old line.now) }
 {
     read_line_words(words, line)?;
-    statement(alloc, state, words.as_slice())
+    statement(alloc, state, words.as_slice(), room)
 }
 
 /// Applies the words of a line to the state of the text so far.
-fn statement(alloc: Global, state: &mut TextState, words: &[&[u8]]) -> Result<(), TextCode>
+fn statement(
+    alloc: Global,
+    state: &mut TextState,
+    words: &[&[u8]],
+    room: usize,
+) -> Result<(), TextCode>
     requires { AreAscii words.now }
     ensures { Gives (Line OutOfMemory) (λ _. state.new) result (after_statement state.old (statement_of (texts words.now))) }
 {
@@ -40,7 +47,7 @@ fn statement(alloc: Global, state: &mut TextState, words: &[&[u8]]) -> Result<()
         return format(state, others);
     }
     if word == b"horizon".as_slice() {
-        return start(alloc, state, others);
+        return start(alloc, state, others, room);
     }
     match EditWord::from_word(word) {
         Some(first) => change(alloc, state, first, others),
@@ -61,7 +68,7 @@ fn format(state: &mut TextState, words: &[&[u8]]) -> Result<(), TextCode>
 }
 
 /// Begins a netlist with the horizon that the words state.
-fn start(alloc: Global, state: &mut TextState, words: &[&[u8]]) -> Result<(), TextCode>
+fn start(alloc: Global, state: &mut TextState, words: &[&[u8]], room: usize) -> Result<(), TextCode>
     ensures { Gives (Line OutOfMemory) (λ _. state.new) result (after_statement state.old (Start (stated_number (texts words.now)))) }
 {
     let format = match state {
@@ -70,18 +77,23 @@ fn start(alloc: Global, state: &mut TextState, words: &[&[u8]]) -> Result<(), Te
         TextState::Open(_) => return Err(TextCode::SecondHorizon),
     };
     let horizon = stated_number(words)?;
-    *state = TextState::Open(empty_netlist(alloc, format, horizon)?);
+    *state = TextState::Open(empty_netlist(alloc, format, horizon, room)?);
     Ok(())
 }
 
 /// The empty netlist of a horizon that a text of this format may state.
-fn empty_netlist(alloc: Global, format: TextFormat, horizon: u64) -> Result<Netlist, TextCode>
+fn empty_netlist(
+    alloc: Global,
+    format: TextFormat,
+    horizon: u64,
+    room: usize,
+) -> Result<Netlist, TextCode>
     ensures { Gives (Line OutOfMemory) (λ netlist. Open netlist) result (begun format horizon) }
 {
     if horizon < 1 || horizon > format.max_horizon() {
         return Err(TextCode::Line(LineError::BadNumber));
     }
-    match Netlist::empty(alloc, format.netlist(), horizon) {
+    match Netlist::with_room(alloc, format.netlist(), horizon, room) {
         Ok(netlist) => Ok(netlist),
         Err(NewError::BadHorizon) => Err(TextCode::Line(LineError::BadNumber)),
         Err(NewError::OutOfMemory) => Err(TextCode::Line(LineError::OutOfMemory)),

@@ -32,9 +32,8 @@ impl Netlist {
         ensures stand { is_some result ≡ (inputs_stand self.now new.now.inputs && list_all (stands self.now) (driven_names new.now.outputs)) }
         ensures ports { IfSome result (AreNamedPorts self.now new.now) }
     {
-        let near = self.last_driven();
-        let inputs = self.named_inputs(&new.inputs, near)?;
-        let outputs = self.named_outputs(&new.outputs, near)?;
+        let inputs = self.named_inputs(&new.inputs, self.last_driven())?;
+        let outputs = self.named_outputs(&new.outputs, last_read(inputs.as_slice()))?;
         Some(NewPorts { inputs, outputs })
     }
 
@@ -45,9 +44,11 @@ impl Netlist {
         ensures inputs { IfSome result (λ inputs. inputs ≡ map (named_input self.now) names.now) }
     {
         let mut ports = ArrayVec::new();
+        let mut last = near;
         for port in names.as_slice() {
+            last = self.standing_wire(&port.wire, last)?;
             ports.push(Input {
-                wire: self.standing_wire(&port.wire, near)?,
+                wire: last,
                 delay: kept_delay(port.delay),
             });
         }
@@ -74,7 +75,7 @@ impl Netlist {
         Some(Outputs::new(ports))
     }
 
-    /// The number of the wire that has the name, if there is one. It costs less if this wire or the next one has it.
+    /// The number of the wire that has the name, if there is one. It costs less if a wire around this one has it.
     fn standing_wire(&self, name: &Name, near: WireId) -> Option<WireId>
         ensures stand { is_some result ≡ stands self.now name.now }
         ensures wire { IfSome result (λ wire. wire ≡ wire_id self.now name.now) }
@@ -188,6 +189,14 @@ fn first_driven(outputs: &[Output]) -> WireId {
             ..
         ] => *wire,
         _ => WireId(0),
+    }
+}
+
+/// The wire at the last input, if there is one.
+fn last_read(inputs: &[Input]) -> WireId {
+    match inputs {
+        [.., last] => last.wire,
+        [] => WireId(0),
     }
 }
 

@@ -7,4 +7,5 @@ pub mod WordListLemmas
 pub mod DivisionLemmas
 pub mod DividedLemmas
 pub mod PlainLemmas
+pub mod LineWordLemmas
 pub mod ReadBackLemmas

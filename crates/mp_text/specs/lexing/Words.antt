@@ -1,10 +1,14 @@
 -- The words of a line.
-use Rattle.std.specs.Prelude.{◌||◌, ◌==◌}
-use Rattle.mp_text.specs.lexing.Names.{ℕ, Bool, not, List, length, filter, map, All, IsAscii, Bor, byte, slice_split, before_first}
+use Rattle.std.specs.Prelude.{◌||◌, ◌&&◌, ◌==◌}
+use Rattle.mp_text.specs.lexing.Names.{ℕ, Bool, not, List, length, filter, map, All, IsAscii, Bor, byte, nat_le, nat_lt, slice_split, before_first}
 
 -- a space, a tab or a carriage return
 abbrev pub is_gap : ℕ → Bool
 is_gap b = b == 32 || (b == 9 || b == 13)
+
+-- printed, and neither a space nor the start of a comment
+abbrev pub is_word_byte : ℕ → Bool
+is_word_byte b = nat_lt 32 b && (nat_le b 126 && not (b == 35))
 
 abbrev pub is_word : List ℕ → Bool
 is_word part = not (length part == 0)

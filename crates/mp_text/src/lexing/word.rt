@@ -58,7 +58,8 @@ pub fn word_count(line: &[u8]) -> usize
         .count()
 }
 
-fn is_gap(byte: u8) -> bool
+/// Whether a byte separates words.
+pub fn is_gap(byte: u8) -> bool
     ensures { result ≡ is_gap byte }
 {
     byte == b' ' || byte == b'\t' || byte == b'\r'

@@ -1,4 +1,4 @@
-use Rattle.std.proofs.Common.{◌≡◌, ◌<◌, ◌≤◌, Bool, if◌then◌else◌, ap, sym, arith}
+use Rattle.std.proofs.Common.{◌<◌, ◌≤◌, Bool, if◌then◌else◌, ap, sym, arith}
 use Rattle.std.proofs.lemmas.Bool.{le-leb, lt-leb}
 use Rattle.mp_netlist.specs.Limits.{checkpoint_units}
 use Rattle.mp_netlist.proofs.checkpoint.checkpoint_units.Goals as goal

@@ -1,10 +1,9 @@
 -- Words as they are written.
-use Rattle.mp_text.proofs.lemmas.lexing.Names.{◌≡◌, ◌^◌, ◌<◌, ◌==◌, ◌&&◌, ◌∷◌, ◌++◌, ℕ, Bool, true, false, not, List, [], length, All, nat_lt, decimal, arith, nat_le, is_ascii_digit, list_all, decimal_nonempty, nat_tests, length-append, All-weaker, and_parts, AllPass-from_list_all, list_all-from_AllPass, list_all-append, is_allowed, is_gap, is_name, is_name_byte}
+use Rattle.mp_text.proofs.lemmas.lexing.Names.{◌≡◌, ◌^◌, ◌<◌, ◌==◌, ◌∷◌, ◌++◌, ℕ, Bool, true, false, List, [], length, All, decimal, arith, is_ascii_digit, list_all, decimal_nonempty, nat_tests, length-append, All-weaker, and_parts, AllPass-from_list_all, list_all-from_AllPass, list_all-append, is_allowed, is_gap, is_word_byte, is_name, is_name_byte}
 use Rattle.mp_text.proofs.lemmas.lexing.DecimalLemmas.{decimal_digits}
 
--- printed, and neither a space nor `#`
 abbrev pub is_plain_byte : ℕ → Bool
-is_plain_byte b = nat_lt 32 b && (nat_le b 126 && not (b == 35))
+is_plain_byte b = is_word_byte b
 
 -- some bytes without a gap, a line feed or a comment
 pub record IsPlain (word : List ℕ) : Type 0 where
