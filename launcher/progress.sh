@@ -1,7 +1,7 @@
 # shellcheck shell=bash
-# At a terminal a run of more than two seconds says how long it has run, in one line of standard error that is taken away before the answer. How far it
-# is in the netlist's time it can't say: the program tells nothing before its answer. Where the answer goes to a file, it says how much of it is
-# written, and of a dump up to which time.
+# At a terminal a run of more than two seconds says how far it is, in one line of standard error that is taken away before the answer: how many units of
+# the netlist's time are over, and how often wires have changed. The program writes that into a file with no name. Before it does, the line has only
+# how long the run takes. If the answer goes to a file, the line says how much of it is written, and of a dump up to which time.
 
 quiet_seconds=2
 teller="" # the process that says it
@@ -18,6 +18,7 @@ run_told() {
     local status=0 said before
     exec 6>&1 7>&2
     before=$(bytes_written)
+    open_progress
     tell_progress "$2" &
     teller=$!
     said=$(run_below "$@" 2>&1) || status=$?
@@ -43,15 +44,36 @@ pass_answer() {
     fi
 }
 
+# opens the file into which the program writes how far it is, and removes its name
+open_progress() {
+    local file
+    if file=$(mktemp 2>/dev/null); then
+        exec 8<>"$file"
+        rm -f "$file"
+        export MPWB_PROGRESS=/dev/fd/8
+    fi
+}
+
 tell_progress() {
     local nothing
     exec {nothing}<> <(:)
     wait_for "$quiet_seconds"
     while kill -0 "$$" 2>/dev/null; do
-        say "$1 has run for $SECONDS seconds$(tell_written "$1")"
+        say "$(tell_run "$1")"
         wait_for 1
     done
 }
+
+# what is said of the run: how much of its answer is in a file, or else how far it is, or else for how long it runs
+tell_run() {
+    local written units
+    written=$(tell_written "$1")
+    units=$(tell_units)
+    if [ -z "$written" ] && [ -n "$units" ]; then echo "$units, $SECONDS seconds"; else echo "$1 has run for $SECONDS seconds$written"; fi
+}
+
+# the last line of the program, if it is whole, with a comma before each three digits
+tell_units() { tail -n 1 /dev/fd/8 2>/dev/null | sed -nE '/ changes$/!d; :again; s/([0-9])([0-9]{3})([ ,])/\1,\2\3/; t again; p'; }
 
 # how many bytes the file has that the answer goes to, nothing where it is no file
 bytes_written() { if [ -f /dev/fd/6 ]; then stat -L -c %s /dev/fd/6; fi; }

@@ -1,6 +1,8 @@
 //! A partition of a divided netlist, which a thread of its own runs.
 
 use crate::messages::{Channels, GivenUp, Subject, Window};
+use crate::part_progress::PartProgress;
+use crate::progress::{Progress, stretch_of};
 use crate::region_runs::RegionRun;
 use mp_netlist::Netlist;
 use mp_partition::{Division, PartRun, Region, heard_by};
@@ -9,21 +11,23 @@ use std::alloc::Global;
 use std::sync::Wait;
 use std::thread::Promise;
 
-/// A netlist that is divided, and whether states are to be kept of its modules.
+/// A netlist that is divided, whether states are to be kept of its modules, and where its run writes how far it is.
 #[derive(Clone, Copy)]
 pub(crate) struct Divided<'a> {
     pub netlist: &'a Netlist,
     pub division: &'a Division,
     pub keeps: bool,
+    pub progress: Option<&'a Progress>,
 }
 
-/// A part of a netlist that is divided, and whether states are to be kept of its modules.
+/// A part of a netlist that is divided, whether states are to be kept of its modules, and where the run writes how far it is.
 #[derive(Clone, Copy)]
 pub(crate) struct PartOf<'a> {
     pub netlist: &'a Netlist,
     pub division: &'a Division,
     pub part: u32,
     pub keeps: bool,
+    pub progress: Option<&'a Progress>,
 }
 
 impl<'a> Promise<Result<PartRun, GivenUp>> for PartOf<'a> {
@@ -55,12 +59,15 @@ impl<'a> PartOf<'a> {
             division,
             part,
             keeps,
+            progress,
         } = self;
         let horizon = netlist.horizon();
-        let span = division.delay;
+        let stretch = stretch_of(progress, netlist);
+        let span = division.delay.min(stretch);
         let heard = heard_by(division.heard.as_slice(), part);
         let region = Region::new(netlist, division.homes.as_slice(), part, heard);
         let mut run = RegionRun::begin(rt, alloc, netlist, &region, gate, keeps)?;
+        let mut progress = PartProgress::new(self, stretch);
         let mut from = 1;
         while from < horizon {
             let until = from.saturating_add(span).min(horizon);
@@ -68,6 +75,7 @@ impl<'a> PartOf<'a> {
             channels.send(rt, alloc, division, &run.simulation, window)?;
             run.receive(channels.receive(rt, alloc, window)?);
             run.run_units(rt, &region, gate, from, until)?;
+            progress.pass(alloc, &run, until);
             from = until;
         }
         let done = run.finish(alloc, &region)?;

@@ -50,6 +50,7 @@ fn run_apart<J: Subject + Send + Sync, R: Threads + Wait + Sync, G: Gate + Sync>
         netlist,
         division,
         keeps,
+        progress,
     } = divided;
     let mut lines = Lines::<J>::between(alloc, netlist, division, lookers(rt))?;
     let first = PartOf {
@@ -57,6 +58,7 @@ fn run_apart<J: Subject + Send + Sync, R: Threads + Wait + Sync, G: Gate + Sync>
         division,
         part: 0,
         keeps,
+        progress,
     };
     thread::scope(
         thread::scope_env(),

@@ -24,8 +24,8 @@ use std::sync::{Arc, Wait};
 #[derive(Drop)]
 pub struct RegionRun {
     pub simulation: NetlistSimulation,
-    stimuli: Stimuli,
-    heard: HeardChanges,
+    pub(crate) stimuli: Stimuli,
+    pub(crate) heard: HeardChanges,
     history: Option<StateHistory>,
 }
 

@@ -1,4 +1,4 @@
-use Rattle.std.proofs.Common.{◌≡◌, ℕ, ◌+◌, ◌-◌, Bool, List, refl, sym, ap, ◌∙◌, subst, arith}
+use Rattle.std.proofs.Common.{◌≡◌, ℕ, ◌+◌, ◌-◌, Bool, List, sym, ap, ◌∙◌, subst, arith}
 use Rattle.mp_netlist.specs.Circuit.{Circuit}
 use Rattle.mp_simulation.specs.units.NetlistSimulations.{IsSimulated}
 use Rattle.mp_partition.specs.runs.Marks.{is_marked}
@@ -38,7 +38,8 @@ loop-from-init g c =
       later = omega arith;
       within = low;
       horizon = c.horizon-horizon.ensures.value;
-      span = refl;
+      some = (let shorter = c.min-span.ensures in let stretch = c.stretch_of-stretch.ensures in let delay = c.requires.channels.0.crossing.some in omega (arith, shorter, stretch, delay));
+      span = (let shorter = c.min-span.ensures in omega (arith, shorter));
       channels = c.requires.channels.1;
       under_way = c.in_ok-run.ensures heard 1 (subst (λ (r : Circuit). HasStimuli n r heard) (sym here) (has_stimuli n homes part heard)) (λ w marked. (c.requires.channels.0.division.heard part w marked).unset) (λ w marked. omega arith);
     }
@@ -141,6 +142,7 @@ loop-from-preserved g c =
       later = omega (arith, later, low, sum, some);
       within = omega (arith, low);
       horizon = before.horizon;
+      some = before.some;
       span = before.span;
       channels = c.in_ok-receive.ensures.same.0 ∙ c.send.ensures.same.0 ∙ before.channels;
       under_way = c.in_ok-run_units.ensures c.args.self.keeps (is_marked heard) until (omega arith) over;
@@ -149,13 +151,12 @@ loop-from-preserved g c =
 pub loop-from-smaller : goal.loop-from-smaller
 loop-from-smaller g c =
     let before = c.loop-from.invariant in
-    let span = before.span in
     let some = c.loop-from-test.true in
     let low = c.min-until.ensures in
     let sum = c.saturating_add.ensures in
     let high = c.horizon-horizon.type_inv in
-    let delay = c.requires.channels.0.crossing.some in
-    omega (arith, span, some, low, sum, high, delay)
+    let step = before.some in
+    omega (arith, step, some, low, sum, high)
 
 pub finish-requires-clause-simulated : goal.finish-requires-clause-simulated
 finish-requires-clause-simulated g c =

@@ -10,7 +10,8 @@ invariant-loop-from g l = record {
   later : 0 < l.from;
   within : l.from ≤ l.horizon;
   horizon : l.horizon ≡ l.self.netlist.now.horizon;
-  span : l.span ≡ l.division.delay;
+  some : 0 < l.span;
+  span : l.span ≤ l.division.delay;
   channels : l.channels.part ≡ l.self.part;
   under_way : IsUnderWay l.region l.keeps (is_marked (heard_by l.division.heard.items l.part)) (l.from - 1) l.from l.run;
 }

@@ -1,0 +1,75 @@
+//! How far the run of a partition is.
+
+use crate::part_of::PartOf;
+use crate::region_runs::RegionRun;
+use mp_simulation::NetlistSimulation;
+use mp_wave::WaveBuilder;
+use std::alloc::Global;
+
+/// The lines that the run of a partition writes. Each partition counts the changes of the wires that it drives. The first one also counts those that
+/// stimuli set. The time of a line is the mean over all partitions.
+#[derive(Drop)]
+pub(crate) struct PartProgress<'a> {
+    of: PartOf<'a>,
+    stretch: u32,
+    passed: u32,
+    counted: usize,
+}
+
+impl<'a> PartProgress<'a> {
+    /// The lines of the run of a partition, with this many units from one to the next. It is at time 0.
+    pub(crate) fn new(of: PartOf<'a>, stretch: u32) -> PartProgress<'a> {
+        PartProgress {
+            of,
+            stretch,
+            passed: 0,
+            counted: 0,
+        }
+    }
+
+    /// A window is over that ends at a time.
+    pub(crate) fn pass(&mut self, alloc: Global, run: &RegionRun, time: u32) {
+        let Some(progress) = self.of.progress else {
+            return;
+        };
+        self.counted = self.counted.saturating_add(run.heard.list.len());
+        let horizon = self.of.netlist.horizon();
+        if time < self.passed.saturating_add(self.stretch).min(horizon) {
+            return;
+        }
+        let count = self.count_changes(run);
+        let (units, changes) = progress.add(
+            time.saturating_sub(self.passed),
+            count.saturating_sub(self.counted),
+        );
+        self.counted = count;
+        self.passed = time;
+        let parts = u64::from(self.of.division.parts.max(1));
+        progress.write_line(alloc, units / parts, horizon, changes);
+    }
+
+    /// How often wires have changed that the partition drives, and inbound ones; in the first partition also those that stimuli set.
+    fn count_changes(&self, run: &RegionRun) -> usize {
+        let count = count_all(&run.simulation);
+        if self.of.part == 0 {
+            count
+        } else {
+            count.saturating_sub(run.stimuli.place)
+        }
+    }
+}
+
+/// How often the wires of a simulation have changed.
+fn count_all(simulation: &NetlistSimulation) -> usize {
+    let toggles = simulation.bits.simulator.waves.count_toggles();
+    toggles.saturating_add(count_levels(&simulation.wires.waves))
+}
+
+/// How many changes these waves have so far.
+fn count_levels(waves: &[WaveBuilder]) -> usize {
+    let mut count = 0usize;
+    for wave in waves {
+        count = count.saturating_add(wave.wave().changes().len());
+    }
+    count
+}
