@@ -89,6 +89,8 @@ def begun_again(at, edits, netlist=NETLIST):
         expect("the edits in play", [f"accepted {k + 1}\n" for k in range(edits)], played[:edits])
         expect("the waves", (0, "".join(played[edits:]), ""), run("ask", at, "viewer-1", "waves"))
         expect("the next edit", (0, f"accepted {edits + 1}\n", ""), run("ask", at, "designer-1", "delay c1 0 7"))
+        told = "".join(f"{k + 1} {line}" for k, line in enumerate(kept.splitlines(keepends=True)))
+        expect("who made them", (0, f"{told}{edits + 1} delay c1 0 7 # designer-1\n", ""), run("ask", at, "viewer-1", "edits 1"))
         desk.terminal.end_input()
         expect("the end", 0, desk.terminal.end()[1])
     lines = read(f"{at}/edits").splitlines(keepends=True)

@@ -96,7 +96,7 @@ def check_makers(logs, makers):
                 continue
             for edit in reply:
                 place, signed = int(edit.split()[0]), edit.partition(" # ")[2]
-                if signed and signed != makers.get(place, signed):
+                if signed != makers.get(place, signed):
                     raise Wrong(f"{name}: {edit} was made by {makers.get(place)}")
 
 

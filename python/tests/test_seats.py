@@ -26,6 +26,7 @@ class Seats(Case):
                 self.assertEqual(1, one.edit("delay c1 0 4"))
                 self.assertEqual(2, other.batch("delay c2 0 6", "stim ack 16=1"))
                 self.assertEqual(["1 delay c1 0 4", "2 batch delay c2 0 6 ; stim ack 16=1"], [str(edit) for edit in viewer.edits()])
+                self.assertEqual(["designer-1", "designer-2"], [edit.who for edit in viewer.edits()])
                 self.assertEqual(one.waves(), viewer.waves())
                 self.assertEqual(other.text(), desk.text())
                 self.assertIn("<svg", viewer.svg().text)

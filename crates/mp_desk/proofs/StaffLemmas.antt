@@ -1,5 +1,5 @@
 -- Lists from whose end one is taken, or to which one is added.
-use Rattle.std.proofs.Common.{◌≡◌, ◌+◌, ◌<◌, ℕ, zero, suc, List, [], ◌∷◌, ◌++◌, All, refl, subst, length, length-append, slice_index_or, arith, ◌∙◌, ap}
+use Rattle.std.proofs.Common.{◌≡◌, ◌+◌, ◌<◌, ℕ, zero, suc, List, [], ◌∷◌, ◌++◌, All, subst, length, length-append, slice_index_or, arith, ◌∙◌, ap}
 use Rattle.std.proofs.lemmas.List.{get_or_append_left}
 use Rattle.mp_version.specs.Stories.{Story}
 use Rattle.mp_desk.specs.Holders.{Working, fresh_designer, AreFresh}

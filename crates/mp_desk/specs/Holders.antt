@@ -1,5 +1,5 @@
 -- What contracts see of a desk, and of those who work at it.
-use Rattle.std.specs.Prelude.{◌≡◌, ◌⊎◌, ◌<◌, ◌∷◌, ◌++◌, [], ℕ, ◌+◌, List, length, slice_index_or}
+use Rattle.std.specs.Prelude.{◌≡◌, ◌⊎◌, ◌<◌, ◌∷◌, ◌++◌, [], ℕ, ◌+◌, List, length, slice_index_or, All}
 use mathlib.Core.List.{IsPrefix}
 use Rattle.logbook.specs.Pages.{Book}
 use Rattle.mp_records.specs.declared.edit.Edit.{Edit}
@@ -10,14 +10,20 @@ use Rattle.mp_version.specs.Stories.{Story, judged}
 use Rattle.mp_desk.specs.Extending.{Extends}
 use Rattle.mp_desk.specs.Chronicles.{unsigned}
 
--- a viewer: the version that was read last, the longest of those that were learnt of, and all versions that were read at this place, the newest first
+-- a story whose edits have these authors goes on from an earlier one, of whose edits these authors were known
+pub record GoesOn (now : Story) (authors : List ℕ) (before : Story) (known : List ℕ) : Type 0 where
+  pub extends : Extends now before
+  pub begins : IsPrefix known authors
+
+-- a viewer: the version that was read last, the longest of those that were learnt of, all versions that were read at this place, the newest first, and the
+-- authors of the last one's edits
 pub record Seeing : Type 0 where
   pub last : Story
   pub learnt : Story
   pub reads : List Story
+  pub signed : List ℕ
 
--- a designer: the version that was seen last, how many edits were accepted, the designer's number, and the authors of all edits up to the last one that
--- was accepted
+-- a designer: the version that was seen last, how many edits were accepted, the designer's number, and the authors of that version's edits
 pub record Working : Type 0 where
   pub seen : Story
   pub accepted : ℕ
@@ -55,13 +61,14 @@ Signs old new story = (before : List ℕ) × IsPrefix old.signed before × (leng
 
 -- a viewer who has just come
 abbrev pub fresh_viewer : Story → Seeing
-fresh_viewer s = record { last = s; learnt = s; reads = s ∷ [] }
+fresh_viewer s = record { last = s; learnt = s; reads = s ∷ []; signed = unsigned s }
 
--- these viewers have read last and learnt of what those in their places had
+-- these viewers have read last and learnt of what those in their places had, and know the same authors
 abbrev pub HaveSeenTheSame : List Seeing → List Seeing → Type 0
 HaveSeenTheSame old new =
     (length new ≡ length old)
-    × ((k : ℕ) (v : Seeing) → ((slice_index_or new k v).last ≡ (slice_index_or old k v).last) × ((slice_index_or new k v).learnt ≡ (slice_index_or old k v).learnt))
+    × ((k : ℕ) (v : Seeing) → ((slice_index_or new k v).last ≡ (slice_index_or old k v).last) × ((slice_index_or new k v).learnt ≡ (slice_index_or old k v).learnt)
+    × ((slice_index_or new k v).signed ≡ (slice_index_or old k v).signed))
 
 -- the story extends what each designer has seen
 abbrev pub ExtendsEach : Story → List Working → Type 0
@@ -78,6 +85,7 @@ abbrev pub BeginWithEach : List ℕ → List Working → Type 0
 BeginWithEach authors [] = Unit {0}
 BeginWithEach authors (d ∷ ds) = IsPrefix d.signed authors × BeginWithEach authors ds
 
--- an author for each edit of the story, as each designer has signed
-abbrev pub IsSigned : Story → List Working → Type 0
-IsSigned now designers = (authors : List ℕ) × (length authors ≡ length now.edits) × BeginWithEach authors designers
+-- an author for each edit of the story, as each designer has signed; and what each viewer has read, with its authors, is a beginning
+abbrev pub IsSigned : Story → List Working → List Seeing → Type 0
+IsSigned now designers viewers =
+    (authors : List ℕ) × (length authors ≡ length now.edits) × BeginWithEach authors designers × All (λ v. GoesOn now authors v.last v.signed) viewers

@@ -21,3 +21,26 @@ impl Model for Authors {
 
     ghost invariant = { λ a. 0 < length a.seen.log };
 }
+
+impl Authors {
+    ghost use Rattle.std.specs.Prelude.{◌≡◌, ◌≤◌, length};
+    ghost use mathlib.Core.List.{IsPrefix};
+
+    /// Another handle of the same authors.
+    pub(crate) fn again(&self) -> Authors
+        ensures { result ≡ self.now }
+    {
+        Authors {
+            seen: self.seen.again(),
+        }
+    }
+
+    /// The authors begin with those that were known earlier.
+    pub(crate) fn begins_with(&self, earlier: &Authors)
+        requires { earlier.now.book ≡ self.now.book }
+        ensures { length earlier.now.authors ≤ length self.now.authors → IsPrefix earlier.now.authors self.now.authors }
+    {
+        let mut both = self.seen.again();
+        both.learn(&earlier.seen);
+    }
+}

@@ -5,9 +5,12 @@ ghost use Rattle.mp_desk.specs.Chronicles.{unsigned};
 
 use crate::desk_refused::DeskCause;
 use crate::desk_size::DeskSize;
+use crate::edit_authors::EditAuthors;
 use crate::log_writer::{LogWriter, begun};
 use crate::pass::Pass;
 use crate::publication::Publication;
+use crate::publishing::Published;
+use crate::signatures::Signatures;
 use mp_version::Version;
 use std::alloc::{AllocError, Global};
 use std::sync::{Arc, Wait};
@@ -39,7 +42,8 @@ pub(crate) fn begin<R: Wait + Drop>(
     // A history that nobody else holds can be begun, so lack of memory is the only error.
     let writer = begun(version).ok_or(AllocError)?;
     let readers = size.designers + size.viewers;
-    let mut publication = Publication::new(rt, alloc, version, &writer.prefix(), readers)?;
+    let first = first_published(alloc, version, &writer)?;
+    let mut publication = Publication::new(rt, alloc, first, readers)?;
     let designers = publication.places(for_designers, size.designers)?;
     let viewers = publication.places(for_viewers, size.viewers)?;
     Ok(Beginning {
@@ -48,4 +52,20 @@ pub(crate) fn begin<R: Wait + Drop>(
         designers,
         viewers,
     })
+}
+
+/// What is published first: the version with which the history begins, whose edits nobody at the desk made.
+fn first_published(
+    alloc: Global,
+    version: &Arc<Version>,
+    writer: &LogWriter,
+) -> Result<Published, AllocError>
+    requires story { writer.now.story ≡ arc_value version.now }
+    requires authors { writer.now.authors ≡ unsigned (arc_value version.now) }
+    ensures { IfOk result (λ p. p ≡ record { book = writer.now.book; story = arc_value version.now }) }
+{
+    let list = EditAuthors::unsigned(alloc, version.number())?;
+    let signatures = Signatures::of(list, writer);
+    let version = Arc::try_clone(version)?;
+    Ok(Published::new(version, writer.prefix(), signatures))
 }

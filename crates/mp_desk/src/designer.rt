@@ -6,13 +6,14 @@ use crate::name::DeskName;
 use crate::pass::{Pass, ReadError};
 use crate::publication::Publication;
 use crate::showing::show;
-use mp_version::Version;
+use crate::signatures::Signatures;
+use crate::signed_version::SignedVersion;
 use std::marker::Model;
+use std::sync::Wait;
 use std::sync::ledger::{Book, Share};
-use std::sync::{Arc, Wait};
 
-/// Submits edits. A contract sees the version that was seen last, how many edits were accepted, the designer's number, and the authors of all edits
-/// up to the last one that was accepted.
+/// Submits edits. A contract sees the version that was seen last, how many edits were accepted, the designer's number, and the authors of
+/// that version's edits.
 #[derive(Drop)]
 pub struct Designer<L: DeskName> {
     pub(crate) pass: Pass,
@@ -20,13 +21,13 @@ pub struct Designer<L: DeskName> {
     pub(crate) seen: LogPrefix,
     pub(crate) accepted: u32,
     pub(crate) number: usize,
-    /// Who made the history up to the last edit that was accepted.
+    /// Who made the history that was seen last.
     pub(crate) signed: Authors,
     pub(crate) share: Share<L>,
 }
 
 impl<L: DeskName> Model for Designer<L> {
-    ghost use Rattle.std.specs.Prelude.{◌≡◌, ◌≤◌, length};
+    ghost use Rattle.std.specs.Prelude.{◌≡◌, length};
     ghost use Rattle.mp_desk.specs.Knowing.{Has};
     ghost use Rattle.mp_desk.specs.Holders.{Working};
 
@@ -34,30 +35,40 @@ impl<L: DeskName> Model for Designer<L> {
 
     ghost view = { λ d. record { seen = d.seen.story; accepted = d.accepted; number = d.number; signed = d.signed.authors } };
 
-    ghost invariant = { λ d. Has d.pass d.seen × (d.seen.book ≡ L.history) × (d.signed.book ≡ L.history) × (length d.signed.authors ≤ length d.seen.story.edits) × (d.share.parts ≡ 1) × (d.share.amount ≡ d.accepted) };
+    ghost invariant = { λ d. Has d.pass d.seen × (d.seen.book ≡ L.history) × (d.signed.book ≡ L.history) × (length d.signed.authors ≡ length d.seen.story.edits) × (d.share.parts ≡ 1) × (d.share.amount ≡ d.accepted) };
 }
 
 impl<L: DeskName> Designer<L> {
-    ghost use Rattle.std.specs.Prelude.{◌≡◌, ◌<◌, ◌≤◌, ◌+◌, length, IfOk, OnErr};
+    ghost use Rattle.std.specs.Prelude.{◌≡◌, ◌<◌, ◌+◌, length, IfOk, OnErr};
     ghost use Rattle.std.specs.Arc.{arc_value};
     ghost use mathlib.Core.List.{IsPrefix};
     ghost use Rattle.mp_version.specs.Limits.{max_edits};
     ghost use Rattle.mp_desk.specs.Extending.{Extends};
 
-    /// Reads the published version, without waiting: the one that was seen last, or a later one. `Closed` comes if the desk is closed, and
-    /// `OutOfMemory` if memory runs out; then the version seen last stays.
-    pub fn read(&mut self) -> Result<Arc<Version>, ReadError>
-        ensures later { IfOk result (λ v. Extends (arc_value v) self.old.seen) }
-        ensures seen { IfOk result (λ v. self.new.seen ≡ arc_value v) }
-        ensures err { OnErr result (self.new.seen ≡ self.old.seen) }
-        ensures same { (self.new.accepted ≡ self.old.accepted) × (self.new.number ≡ self.old.number) × (self.new.signed ≡ self.old.signed) }
+    /// Reads the published version, without waiting: the one that was seen last, or a later one. Its authors begin with those that were known before.
+    /// `Closed` comes if the desk is closed, and `OutOfMemory` if memory runs out; then the version seen last stays.
+    pub fn read(&mut self) -> Result<SignedVersion, ReadError>
+        ensures later { IfOk result (λ v. Extends (arc_value v.version) self.old.seen) }
+        ensures seen { IfOk result (λ v. self.new.seen ≡ arc_value v.version) }
+        ensures authors { IfOk result (λ v. (self.new.signed ≡ v.authors) × IsPrefix self.old.signed v.authors) }
+        ensures err { OnErr result ((self.new.seen ≡ self.old.seen) × (self.new.signed ≡ self.old.signed)) }
+        ensures each { length self.new.signed ≡ length self.new.seen.edits }
+        ensures same { (self.new.accepted ≡ self.old.accepted) × (self.new.number ≡ self.old.number) }
     {
         let published = self.pass.enter()?;
-        self.seen = published.prefix().again();
-        Ok(published.into_version())
+        let prefix = published.prefix().again();
+        let (version, signatures) = published.into_parts();
+        let Signatures { list, authors } = signatures;
+        authors.begins_with(&self.signed);
+        self.seen = prefix;
+        self.signed = authors;
+        Ok(SignedVersion {
+            version,
+            authors: list,
+        })
     }
 
-    /// Sees what is published, and that its authors begin with those that were known earlier.
+    /// Sees what is published, with its authors, who begin with those that were known earlier.
     pub(crate) fn catch_up<H: Wait, R: Wait + Drop>(
         &mut self,
         rt: &H,
@@ -69,26 +80,24 @@ impl<L: DeskName> Designer<L> {
         ensures seen { self.new.seen ≡ publication.now.story }
         ensures extends { Extends publication.now.story self.old.seen }
         ensures begins { IsPrefix self.old.signed writer.now.authors }
-        ensures same { (self.new.accepted ≡ self.old.accepted) × (self.new.number ≡ self.old.number) × (self.new.signed ≡ self.old.signed) }
+        ensures signed { self.new.signed ≡ writer.now.authors }
+        ensures same { (self.new.accepted ≡ self.old.accepted) × (self.new.number ≡ self.old.number) }
     {
         show(rt, publication, &mut self.pass);
         writer.begins_with(&self.signed);
         self.seen = publication.published().prefix().again();
+        self.signed = writer.authors();
     }
 
-    /// Signs the history, whose last edit is this designer's, and counts that edit in the book.
-    pub(crate) fn sign(&mut self, writer: &LogWriter, book: &mut Book<L>)
-        requires history { writer.now.book ≡ L.history }
-        requires authors { length writer.now.authors ≤ length self.old.seen.edits }
+    /// Counts an edit of this designer in the book.
+    pub(crate) fn count(&mut self, book: &mut Book<L>)
         requires room { book.old.total < max_edits }
-        ensures signed { self.new.signed ≡ writer.now.authors }
         ensures counted { (self.new.accepted ≡ self.old.accepted + 1) × (book.new.total ≡ book.old.total + 1) }
-        ensures same { (self.new.seen ≡ self.old.seen) × (self.new.number ≡ self.old.number) }
+        ensures same { (self.new.seen ≡ self.old.seen) × (self.new.number ≡ self.old.number) × (self.new.signed ≡ self.old.signed) }
     {
         book.add(&mut self.share, 1);
         book.audit(&mut self.share);
         self.accepted += 1;
-        self.signed = writer.authors();
     }
 
     /// How many edits of this designer were accepted.

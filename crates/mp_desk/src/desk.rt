@@ -69,12 +69,7 @@ impl<S: EditSession, L: DeskName, R: Wait + Drop> Desk<S, L, R> {
         book.add(&mut share, session.version().number() as u64);
         let (Ok(designers), Ok(viewers)) = (
             designers_at(alloc, for_designers, &writer, &mut share),
-            viewers_at(
-                alloc,
-                for_viewers,
-                session.version(),
-                publication.published().prefix(),
-            ),
+            viewers_at(alloc, for_viewers, session.version(), &writer),
         ) else {
             return Err(DeskRefused::new(DeskCause::OutOfMemory, session));
         };
@@ -125,7 +120,7 @@ impl<S: EditSession, L: DeskName, R: Wait + Drop> Desk<S, L, R> {
         ensures seen { IfOk result (λ s. ExtendsEach (S.story s) designers.items) }
         ensures read { IfOk result (λ s. All (λ v. Extends (S.story s) v.last) viewers.old) }
         ensures counted { IfOk result (λ s. length (S.story s).edits ≡ self.opening + accepted_by designers.items) }
-        ensures signed { IfOk result (λ s. IsSigned (S.story s) designers.items) }
+        ensures signed { IfOk result (λ s. IsSigned (S.story s) designers.items viewers.old) }
         ensures complete { IfOk result (λ _. vec_len designers ≡ self.designers) }
         ensures incomplete { IfErr result (λ _. vec_len designers ≢ self.designers) }
         ensures refused { IfErr result (λ r. (r.desk ≡ self) × (r.designers ≡ designers)) }
@@ -150,15 +145,16 @@ impl<S: EditSession, L: DeskName, R: Wait + Drop> Desk<S, L, R> {
             mut share,
         } = state.into_inner();
         part_designers(rt, &publication, &writer, designers, &mut share);
-        part_viewers(rt, &publication, viewers);
+        part_viewers(rt, &publication, &writer, viewers);
         book.audit(&mut share);
         Ok(session)
     }
 }
 
 impl<S: EditSession, L: DeskName, R: Wait + Drop> Desk<S, L, R> {
-    ghost use Rattle.std.specs.Prelude.{◌+◌, IfOk, IfErr, OnErr};
+    ghost use Rattle.std.specs.Prelude.{◌+◌, length, IfOk, IfErr, OnErr};
     ghost use Rattle.std.specs.Arc.{arc_value};
+    ghost use mathlib.Core.List.{IsPrefix};
     ghost use Rattle.mp_version.specs.Stories.{Story, one_more};
     ghost use Rattle.mp_desk.specs.Extending.{Extends};
     ghost use Rattle.mp_desk.specs.Holders.{RefusedAfter, Signs};
@@ -178,7 +174,8 @@ impl<S: EditSession, L: DeskName, R: Wait + Drop> Desk<S, L, R> {
         ensures signed { IfOk result (λ r. Signs me.old me.new (arc_value r.version)) }
         ensures refused { IfErr result (λ error. RefusedAfter me.old.seen me.new.seen edit.now error) }
         ensures uncounted { OnErr result (me.new.accepted ≡ me.old.accepted) }
-        ensures unsigned { OnErr result (me.new.signed ≡ me.old.signed) }
+        ensures begins { IsPrefix me.old.signed me.new.signed }
+        ensures each { length me.new.signed ≡ length me.new.seen.edits }
         ensures number { me.new.number ≡ me.old.number }
         ensures forward { OnErr result (Extends me.new.seen me.old.seen) }
     {

@@ -12,6 +12,7 @@ use crate::notice::Notice;
 use crate::publication::Publication;
 use crate::publishing::Published;
 use crate::receipt::Receipt;
+use crate::signatures::Signatures;
 use mp_netlist::{Edit, EditError};
 use mp_version::{EditSession, Version};
 use std::alloc::AllocError;
@@ -44,6 +45,7 @@ impl<S: EditSession, L: DeskName, R: Wait + Drop> Model for DeskState<S, L, R> {
 impl<S: EditSession, L: DeskName, R: Wait + Drop> DeskState<S, L, R> {
     ghost use Rattle.std.specs.Prelude.{◌+◌, IfOk, IfErr, OnErr, IfNone};
     ghost use Rattle.std.specs.Arc.{arc_value};
+    ghost use mathlib.Core.List.{IsPrefix};
     ghost use Rattle.mp_version.specs.Stories.{one_more};
     ghost use Rattle.mp_version.specs.Steps.{story_after};
     ghost use Rattle.mp_desk.specs.Extending.{Extends};
@@ -64,7 +66,8 @@ impl<S: EditSession, L: DeskName, R: Wait + Drop> DeskState<S, L, R> {
         ensures signed { IfOk result (λ r. Signs me.old me.new (arc_value r.version)) }
         ensures refused { IfErr result (λ error. RefusedAfter me.old.seen me.new.seen edit.now error) }
         ensures uncounted { OnErr result (me.new.accepted ≡ me.old.accepted) }
-        ensures unsigned { OnErr result (me.new.signed ≡ me.old.signed) }
+        ensures begins { IsPrefix me.old.signed me.new.signed }
+        ensures each { length me.new.signed ≡ length me.new.seen.edits }
         ensures number { me.new.number ≡ me.old.number }
         ensures forward { OnErr result (Extends me.new.seen me.old.seen) }
     {
@@ -95,25 +98,29 @@ impl<S: EditSession, L: DeskName, R: Wait + Drop> DeskState<S, L, R> {
     {
         let (receipt, next) = write_version(
             &mut self.writer,
+            self.publication.published(),
             S::next_version(&prepared),
             me.number,
         )?;
         self.publication.publish(next);
         self.session.commit(prepared);
         me.catch_up(rt, &self.publication, &self.writer);
-        me.sign(&self.writer, &mut self.book);
+        me.count(&mut self.book);
         Some(receipt)
     }
 }
 
-/// Adds the next version by this author to the history, and returns its receipt and what is to be published of it. `None` comes if memory runs out;
-/// then the history stays.
+/// Adds the next version by this author to the history, behind what is published, and returns its receipt and what is to be published of it. `None`
+/// comes if memory runs out; then the history stays.
 fn write_version<L: DeskName>(
     writer: &mut LogWriter,
+    published: &Published,
     version: &Arc<Version>,
     author: usize,
 ) -> Option<(Receipt<L>, Published)>
     requires book { writer.old.book ≡ L.history }
+    requires published { published.now ≡ record { book = L.history; story = writer.old.story } }
+    requires each { length writer.old.authors ≡ length writer.old.story.edits }
     requires follows { Succeeds (arc_value version.now) writer.old.story }
     ensures writer { MatchOption result (writer.new ≡ writer.old) (λ _. writer.new ≡ written_on writer.old (arc_value version.now) author) }
     ensures version { IfSome result (λ both. arc_value both.0.version ≡ arc_value version.now) }
@@ -122,6 +129,7 @@ fn write_version<L: DeskName>(
     ensures published { IfSome result (λ both. both.1 ≡ record { book = L.history; story = arc_value version.now }) }
 {
     let (version, next) = owners(version).ok()?;
+    let list = published.signatures().followed_by(writer, author).ok()?;
     if !writer.add(&version, author) {
         // The history ends with what is published, so this doesn't come.
         return None;
@@ -131,8 +139,9 @@ fn write_version<L: DeskName>(
         number: version.number(),
         of: PhantomData,
     };
-    let published = Published::new(next, writer.prefix());
-    Some((Receipt { version, notice }, published))
+    let signatures = Signatures::of(list, writer);
+    let next = Published::new(next, writer.prefix(), signatures);
+    Some((Receipt { version, notice }, next))
 }
 
 /// Two owners of one version.

@@ -74,8 +74,7 @@ impl LogWriter {
         requires { earlier.now.book ≡ self.now.book }
         ensures { length earlier.now.authors ≤ length self.now.authors → IsPrefix earlier.now.authors self.now.authors }
     {
-        let mut both = self.seen.again();
-        both.learn(&earlier.seen);
+        self.authors().begins_with(earlier);
     }
 }
 

@@ -2,7 +2,7 @@
 ghost use Rattle.std.specs.Prelude.{◌≡◌, ◌+◌, length, vec_len, All};
 ghost use mathlib.Core.List.{IsPrefix};
 ghost use Rattle.mp_desk.specs.Extending.{Extends};
-ghost use Rattle.mp_desk.specs.Holders.{ExtendsEach, BeginWithEach, accepted_by, HaveSeenTheSame};
+ghost use Rattle.mp_desk.specs.Holders.{ExtendsEach, BeginWithEach, GoesOn, accepted_by, HaveSeenTheSame};
 
 use crate::designer::Designer;
 use crate::log_writer::LogWriter;
@@ -64,13 +64,15 @@ fn part<L: DeskName, R: Wait + Drop>(
 pub(crate) fn part_viewers<L: DeskName, R: Wait + Drop>(
     rt: &R,
     publication: &Publication<R>,
+    writer: &LogWriter,
     viewers: &mut [Viewer<L>],
 )
-    requires { publication.now.book ≡ L.history }
+    requires book { (publication.now.book ≡ L.history) × (writer.now.book ≡ L.history) }
+    requires story { length writer.now.authors ≡ length publication.now.story.edits }
     ensures same { HaveSeenTheSame viewers.old viewers.new }
-    ensures extends { All (λ v. Extends publication.now.story v.last) viewers.old }
+    ensures looked { All (λ v. GoesOn publication.now.story writer.now.authors v.last v.signed) viewers.old }
 {
     for i in 0..viewers.len() {
-        viewers[i].part(rt, publication);
+        viewers[i].part(rt, publication, writer);
     }
 }

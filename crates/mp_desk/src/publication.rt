@@ -1,10 +1,8 @@
 //! The one writer of what viewers read.
 ghost use Rattle.std.specs.Prelude.{◌≡◌, ◌<◌, ◌^◌, ◌∷◌, ◌++◌, [], fold, drop, IfOk, MatchResult};
-ghost use Rattle.std.specs.Arc.{arc_value};
 ghost use Rattle.left_right.specs.Sides.{view};
 ghost use Rattle.mp_desk.specs.Chronicles.{Follows};
 
-use crate::log_prefix::LogPrefix;
 use crate::pass::Pass;
 use crate::publishing::{Brings, Extending, Known, Published, Starts};
 use core::mem::replace_with;
@@ -12,7 +10,7 @@ use left_right::writer::Writer;
 use mp_version::Version;
 use std::alloc::{AllocError, Global};
 use std::marker::Model;
-use std::sync::{Arc, Wait};
+use std::sync::Wait;
 
 type RuledWriter = Writer<Published, Published, Known, Extending>;
 
@@ -47,21 +45,18 @@ impl<R: Wait + Drop> Model for Publication<R> {
 
 impl<R: Wait + Drop> Publication<R> {
     ghost use Rattle.std.specs.Prelude.{◌<◌, ◌≤◌, ◌^◌, All, IfOk, length, vec_len, vec_capacity};
-    ghost use Rattle.std.specs.Arc.{arc_value};
 
     /// Publishes a first version, with room for this number of readers.
     pub(crate) fn new(
         rt: R,
         alloc: Global,
-        version: &Arc<Version>,
-        prefix: &LogPrefix,
+        first: Published,
         readers: usize,
     ) -> Result<Publication<R>, AllocError>
         requires room { (0 < readers) × (readers < 2 ^ 32) }
-        requires prefix { arc_value version.now ≡ prefix.now.story }
-        ensures { IfOk result (λ p. p ≡ prefix.now) }
+        ensures { IfOk result (λ p. p ≡ first) }
     {
-        let writer = first_writer(&rt, alloc, version, prefix, readers)?;
+        let writer = first_writer(&rt, alloc, first, readers)?;
         Ok(Publication { writer, rt })
     }
 
@@ -129,15 +124,12 @@ impl<R: Wait + Drop> Publication<R> {
 fn first_writer<R: Wait>(
     rt: &R,
     alloc: Global,
-    version: &Arc<Version>,
-    prefix: &LogPrefix,
+    first: Published,
     readers: usize,
 ) -> Result<RuledWriter, AllocError>
     requires room { (0 < readers) × (readers < 2 ^ 32) }
-    requires prefix { arc_value version.now ≡ prefix.now.story }
-    ensures { IfOk result (λ w. (w.desk.shown.value ≡ prefix.now) × (view w.desk.place ≡ w.desk.shown.value ∷ [])) }
+    ensures { IfOk result (λ w. (w.desk.shown.value ≡ first) × (view w.desk.place ≡ w.desk.shown.value ∷ [])) }
 {
-    let first = Published::new(Arc::try_clone(version)?, prefix.again());
     let second = first.try_copy()?;
     let again = first.try_copy()?;
     let mut writer = RuledWriter::new(alloc, first, second, readers)?;

@@ -2,6 +2,7 @@
 ghost use Rattle.std.specs.Prelude.{◌≡◌};
 
 use crate::log_prefix::LogPrefix;
+use crate::signatures::Signatures;
 use atomic_table::{Join, Split};
 use crossbeam_utils::rule::{Outcome, Protocol};
 use left_right::Absorb;
@@ -10,15 +11,16 @@ use std::alloc::AllocError;
 use std::marker::Model;
 use std::sync::Arc;
 
-/// The version that readers take, with the prefix of the history that ends with it. A contract sees that prefix.
+/// The version that readers take, with the prefix of the history that ends with it, and who made its edits. A contract sees that prefix.
 #[derive(Drop)]
 pub(crate) struct Published {
     version: Arc<Version>,
     prefix: LogPrefix,
+    signatures: Signatures,
 }
 
 impl Model for Published {
-    ghost use Rattle.std.specs.Prelude.{◌≡◌};
+    ghost use Rattle.std.specs.Prelude.{◌≡◌, length};
     ghost use Rattle.std.specs.Arc.{arc_value};
     ghost use Rattle.mp_desk.specs.Chronicles.{Shown};
 
@@ -26,18 +28,24 @@ impl Model for Published {
 
     ghost view = { λ p. p.prefix };
 
-    ghost invariant = { λ p. arc_value p.version ≡ p.prefix.story };
+    ghost invariant = { λ p. (arc_value p.version ≡ p.prefix.story) × (p.signatures.book ≡ p.prefix.book) × (length p.signatures.authors ≡ length p.prefix.story.edits) };
 }
 
 impl Published {
-    ghost use Rattle.std.specs.Prelude.{IfOk};
+    ghost use Rattle.std.specs.Prelude.{◌≡◌, length, IfOk};
     ghost use Rattle.std.specs.Arc.{arc_value};
 
-    pub(crate) fn new(version: Arc<Version>, prefix: LogPrefix) -> Published
-        requires { arc_value version ≡ prefix.story }
+    pub(crate) fn new(version: Arc<Version>, prefix: LogPrefix, signatures: Signatures) -> Published
+        requires story { arc_value version ≡ prefix.story }
+        requires book { signatures.book ≡ prefix.book }
+        requires each { length signatures.authors ≡ length prefix.story.edits }
         ensures { result ≡ prefix }
     {
-        Published { version, prefix }
+        Published {
+            version,
+            prefix,
+            signatures,
+        }
     }
 
     pub(crate) fn version(&self) -> &Arc<Version>
@@ -46,11 +54,26 @@ impl Published {
         &self.version
     }
 
-    pub(crate) fn into_version(self) -> Arc<Version>
-        ensures { arc_value result ≡ self.story }
+    /// The version, and who made its edits.
+    pub(crate) fn into_parts(self) -> (Arc<Version>, Signatures)
+        ensures version { arc_value result.0 ≡ self.story }
+        ensures book { result.1.book ≡ self.book }
+        ensures each { length result.1.authors ≡ length self.story.edits }
     {
-        let Published { version, prefix: _ } = self;
-        version
+        let Published {
+            version,
+            prefix: _,
+            signatures,
+        } = self;
+        (version, signatures)
+    }
+
+    /// Who made the edits of the version.
+    pub(crate) fn signatures(&self) -> &Signatures
+        ensures book { result.now.book ≡ self.now.book }
+        ensures each { length result.now.authors ≡ length self.now.story.edits }
+    {
+        &self.signatures
     }
 
     pub(crate) fn prefix(&self) -> &LogPrefix
@@ -65,6 +88,7 @@ impl Published {
         Ok(Published {
             version: Arc::try_clone(&self.version)?,
             prefix: self.prefix.again(),
+            signatures: self.signatures.try_copy()?,
         })
     }
 }

@@ -5,7 +5,6 @@ ghost use Rattle.mp_desk.specs.Chronicles.{unsigned};
 ghost use Rattle.mp_desk.specs.Holders.{fresh_designer, fresh_viewer, AreFresh};
 
 use crate::designer::Designer;
-use crate::log_prefix::LogPrefix;
 use crate::log_writer::LogWriter;
 use crate::name::DeskName;
 use crate::pass::Pass;
@@ -68,9 +67,11 @@ pub(crate) fn viewers_at<L: DeskName>(
     alloc: Global,
     places: Vec<Pass>,
     version: &Arc<Version>,
-    prefix: &LogPrefix,
+    writer: &LogWriter,
 ) -> Result<Vec<Viewer<L>>, AllocError>
-    requires prefix { prefix.now ≡ record { book = L.history; story = arc_value version.now } }
+    requires book { writer.now.book ≡ L.history }
+    requires story { writer.now.story ≡ arc_value version.now }
+    requires authors { writer.now.authors ≡ unsigned writer.now.story }
     requires places { All (λ p. p ≡ record { book = L.history; story = arc_value version.now } ∷ []) places.items }
     ensures count { IfOk result (λ v. vec_len v ≡ vec_len places) }
     ensures each { IfOk result (λ v. All (λ d. d ≡ fresh_viewer (arc_value version.now)) v.items) }
@@ -78,7 +79,7 @@ pub(crate) fn viewers_at<L: DeskName>(
     let mut made = Vec::new(alloc);
     let mut places = places;
     while let Some(pass) = places.pop() {
-        let next = viewer_at(pass, version, prefix)?;
+        let next = viewer_at(pass, version, writer)?;
         made.push(next)?;
     }
     Ok(made)
@@ -87,9 +88,11 @@ pub(crate) fn viewers_at<L: DeskName>(
 fn viewer_at<L: DeskName>(
     pass: Pass,
     version: &Arc<Version>,
-    prefix: &LogPrefix,
+    writer: &LogWriter,
 ) -> Result<Viewer<L>, AllocError>
-    requires prefix { prefix.now ≡ record { book = L.history; story = arc_value version.now } }
+    requires book { writer.now.book ≡ L.history }
+    requires story { writer.now.story ≡ arc_value version.now }
+    requires authors { writer.now.authors ≡ unsigned writer.now.story }
     requires pass { pass ≡ record { book = L.history; story = arc_value version.now } ∷ [] }
     ensures { IfOk result (λ v. v ≡ fresh_viewer (arc_value version.now)) }
 {
@@ -97,8 +100,9 @@ fn viewer_at<L: DeskName>(
     Ok(Viewer {
         pass,
         last,
-        heard: prefix.again(),
+        heard: writer.prefix(),
         floor: version.number(),
+        signed: writer.authors(),
         of: PhantomData,
     })
 }

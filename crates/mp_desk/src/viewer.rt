@@ -1,16 +1,20 @@
 //! Those who look.
+use crate::authors::Authors;
 use crate::log_prefix::LogPrefix;
+use crate::log_writer::LogWriter;
 use crate::name::DeskName;
 use crate::notice::Notice;
 use crate::pass::{Pass, ReadError};
 use crate::publication::Publication;
 use crate::showing::show;
+use crate::signatures::Signatures;
+use crate::signed_version::SignedVersion;
 use mp_version::Version;
 use std::marker::{Model, PhantomData};
 use std::sync::{Arc, Wait};
 
-/// Reads versions without waiting. A contract sees the version that was read last, the longest of those that were learnt of, and all that were read at
-/// this place, the newest first.
+/// Reads versions without waiting. A contract sees the version that was read last, the longest of those that were learnt of, all that were read at
+/// this place, the newest first, and who made the edits of the version that was read last.
 #[derive(Drop)]
 pub struct Viewer<L: DeskName> {
     pub(crate) pass: Pass,
@@ -18,6 +22,8 @@ pub struct Viewer<L: DeskName> {
     pub(crate) heard: LogPrefix,
     /// The number of the latest version that the viewer has read or been told of.
     pub(crate) floor: u32,
+    /// Who made the history up to the version that was read last.
+    pub(crate) signed: Authors,
     pub(crate) of: PhantomData<L>,
 }
 
@@ -29,15 +35,17 @@ impl<L: DeskName> Model for Viewer<L> {
 
     ghost Value = { Seeing };
 
-    ghost view = { λ v. record { last = arc_value v.last; learnt = v.heard.story; reads = stories_of v.pass } };
+    ghost view = { λ v. record { last = arc_value v.last; learnt = v.heard.story; reads = stories_of v.pass; signed = v.signed.authors } };
 
-    ghost invariant = { λ v. Has v.pass (record { book = L.history; story = arc_value v.last }) × (v.heard.book ≡ L.history) × (v.floor ≡ length v.heard.story.edits) };
+    ghost invariant = { λ v. Has v.pass (record { book = L.history; story = arc_value v.last }) × (v.heard.book ≡ L.history) × (v.floor ≡ length v.heard.story.edits) × (v.signed.book ≡ L.history) × (length v.signed.authors ≡ length (arc_value v.last).edits) };
 }
 
 impl<L: DeskName> Viewer<L> {
-    ghost use Rattle.std.specs.Prelude.{◌≡◌, ◌⊎◌, ◌∷◌, IfOk, OnErr};
+    ghost use Rattle.std.specs.Prelude.{◌≡◌, ◌⊎◌, ◌∷◌, length, IfOk, OnErr};
     ghost use Rattle.std.specs.Arc.{arc_value};
+    ghost use mathlib.Core.List.{IsPrefix};
     ghost use Rattle.mp_desk.specs.Extending.{Extends};
+    ghost use Rattle.mp_desk.specs.Holders.{GoesOn};
 
     /// The version that was read last; at first the one with which the desk was opened.
     pub fn last(&self) -> &Arc<Version>
@@ -46,14 +54,16 @@ impl<L: DeskName> Viewer<L> {
         &self.last
     }
 
-    /// Reads the version that is published now, and not one that was kept, without waiting. `Closed` comes if the desk is closed, and `OutOfMemory`
-    /// if memory runs out; then the version read last stays.
-    pub fn read(&mut self) -> Result<Arc<Version>, ReadError>
-        ensures later { IfOk result (λ v. Extends (arc_value v) self.old.last) }
-        ensures told { IfOk result (λ v. Extends (arc_value v) self.old.learnt) }
-        ensures last { IfOk result (λ v. self.new.last ≡ arc_value v) }
-        ensures now { IfOk result (λ v. self.new.reads ≡ arc_value v ∷ self.old.reads) }
-        ensures err { OnErr result (self.new.last ≡ self.old.last) }
+    /// Reads the version that is published now, and not one that was kept, without waiting. Its authors begin with those that were known before.
+    /// `Closed` comes if the desk is closed, and `OutOfMemory` if memory runs out; then the version read last stays.
+    pub fn read(&mut self) -> Result<SignedVersion, ReadError>
+        ensures later { IfOk result (λ v. Extends (arc_value v.version) self.old.last) }
+        ensures told { IfOk result (λ v. Extends (arc_value v.version) self.old.learnt) }
+        ensures last { IfOk result (λ v. self.new.last ≡ arc_value v.version) }
+        ensures now { IfOk result (λ v. self.new.reads ≡ arc_value v.version ∷ self.old.reads) }
+        ensures authors { IfOk result (λ v. (self.new.signed ≡ v.authors) × IsPrefix self.old.signed v.authors) }
+        ensures each { length self.new.signed ≡ length self.new.last.edits }
+        ensures err { OnErr result ((self.new.last ≡ self.old.last) × (self.new.signed ≡ self.old.signed)) }
         ensures learnt { self.new.learnt ≡ self.old.learnt }
     {
         let published = self.pass.enter()?;
@@ -63,24 +73,37 @@ impl<L: DeskName> Viewer<L> {
             return Err(ReadError::Closed);
         }
         published.prefix().agrees(&self.heard);
-        let version = published.into_version();
+        let (version, signatures) = published.into_parts();
         let copy = Arc::try_clone(&version).map_err(|_| ReadError::OutOfMemory)?;
+        let Signatures { list, authors } = signatures;
+        authors.begins_with(&self.signed);
         self.last = copy;
-        Ok(version)
+        self.signed = authors;
+        Ok(SignedVersion {
+            version,
+            authors: list,
+        })
     }
 
     /// Shows the viewer what is published, for the last time.
-    pub(crate) fn part<R: Wait + Drop>(&mut self, rt: &R, publication: &Publication<R>)
-        requires { publication.now.book ≡ L.history }
-        ensures same { (self.new.last ≡ self.old.last) × (self.new.learnt ≡ self.old.learnt) }
-        ensures extends { Extends publication.now.story self.old.last }
+    pub(crate) fn part<R: Wait + Drop>(
+        &mut self,
+        rt: &R,
+        publication: &Publication<R>,
+        writer: &LogWriter,
+    )
+        requires book { (publication.now.book ≡ L.history) × (writer.now.book ≡ L.history) }
+        requires story { length writer.now.authors ≡ length publication.now.story.edits }
+        ensures same { (self.new.last ≡ self.old.last) × (self.new.learnt ≡ self.old.learnt) × (self.new.signed ≡ self.old.signed) }
+        ensures looked { GoesOn publication.now.story writer.now.authors self.old.last self.old.signed }
     {
         show(rt, publication, &mut self.pass);
+        writer.begins_with(&self.signed);
     }
 
     /// From now on each read is at least as new as the version of the notice. It doesn't wait, and takes no memory.
     pub fn learn(&mut self, notice: &Notice<L>)
-        ensures same { (self.new.last ≡ self.old.last) × (self.new.reads ≡ self.old.reads) }
+        ensures same { (self.new.last ≡ self.old.last) × (self.new.reads ≡ self.old.reads) × (self.new.signed ≡ self.old.signed) }
         ensures learnt { Extends self.new.learnt notice.now }
         ensures kept { Extends self.new.learnt self.old.learnt }
         ensures one { (self.new.learnt ≡ notice.now) ⊎ (self.new.learnt ≡ self.old.learnt) }

@@ -11,7 +11,8 @@ prefix_length [] ys p = omega arith
 prefix_length (x ∷ xs) [] p = absurd (cc (p.1))
 prefix_length (x ∷ xs) (y ∷ ys) p = let rest = prefix_length xs ys (p.0, cc (p.1)) in omega arith
 
-prefix_take : {A : Type 0} (xs ys : List A) → IsPrefix xs ys → take (length xs) ys ≡ xs
+-- a beginning is what stands first
+pub prefix_take : {A : Type 0} (xs ys : List A) → IsPrefix xs ys → take (length xs) ys ≡ xs
 prefix_take [] ys p = refl
 prefix_take (x ∷ xs) [] p = absurd (cc (p.1))
 prefix_take (x ∷ xs) (y ∷ ys) p = let rest = prefix_take xs ys (p.0, cc (p.1)) in cc (p.1, rest)

@@ -12,8 +12,10 @@ use Rattle.mp_seats.specs.talk.Answers.{AreAnswers}
 use Rattle.mp_seats.specs.talk.Conversations.{Conversed}
 use Rattle.mp_seats.specs.Replies.{Writing, IsRefusalAt, IsAnswerAt}
 use Rattle.mp_seats.specs.Marks.{AcceptedAt, RefusedAt, AnsweredAt, Rise, refused_of, told_of, places_of, AreSigned}
-use Rattle.mp_seats.specs.Steps.{Seated, one_more_refused, IsAcceptedLine, IsRefusedLine, IsAnsweredLine, IsStep}
+use Rattle.mp_seats.specs.Steps.{Seated, one_more_refused, IsAcceptedLine, IsRefusedLine, IsAnsweredLine, IsStep, IsSignedStep}
 use Rattle.mp_seats.specs.Seats.{IsSeat, IsVisit}
+use Rattle.mp_seats.proofs.StepLemmas.{step_begins}
+use Rattle.mp_seats.proofs.lemmas.talk.AnswerLemmas.{conversed_by}
 use Rattle.mp_seats.proofs.MarkLemmas.{longer, accepted_at, up_to-earlier, signed_at}
 
 module _ (w : Writing) (edits : Bool) where
@@ -106,7 +108,7 @@ module _ (w : Writing) (edits : Bool) where
               omega (arith, here, there, low);
           told = rest.told ∙ ap (λ (told : ℕ). told_of told rest.marks) (ap (λ (s : Seated). s.told) step.stands);
           number = rest.number ∙ same_number;
-          begins = subst (λ (signed : List ℕ). IsPrefix signed last.signed) (ap (λ (s : Seated). s.signed) step.stands) rest.begins;
+          begins = prefix_trans start.signed next.signed last.signed step.begins rest.begins;
           signed = λ authors more. subst (λ (author : ℕ). AreSigned author authors (places_of rest.marks)) same_number (rest.signed authors more);
         }
 
@@ -131,7 +133,7 @@ module _ (w : Writing) (edits : Bool) where
           refused = unrefused (ap (λ (s : Seated). s.refused) step.stands);
           told = rest.told ∙ ap (λ (told : ℕ). told_of told rest.marks) (ap (λ (s : Seated). s.told) step.stands);
           number = rest.number ∙ same_number;
-          begins = subst (λ (signed : List ℕ). IsPrefix signed last.signed) (ap (λ (s : Seated). s.signed) step.stands) rest.begins;
+          begins = prefix_trans start.signed next.signed last.signed step.begins rest.begins;
           signed = λ authors more. subst (λ (author : ℕ). AreSigned author authors (places_of rest.marks)) same_number (rest.signed authors more);
         }
 
@@ -160,3 +162,10 @@ module _ (w : Writing) (edits : Bool) where
     seat = seat start (map given talk.lines) last talk.text talk.answers;
     closes = talk.closes;
   }
+
+-- somebody came, whoever makes the edits to come
+pub signed_visit : {S : Type 0} (w : List ℕ → Writing) (edits : Bool) (r : Result (Unit {0}) TalkFault) (start last : Seated) (old new : Incoming) (a b : Outgoing S)
+    → Conversed (IsSignedStep w edits) r start last old new a b → (authors : List ℕ) → IsPrefix last.signed authors → IsVisit (w authors) edits r start last old new a b
+signed_visit w edits r start last old new a b talk authors more =
+    visit (w authors) edits r start last old new a b
+    (conversed_by (λ (s : Seated). s.signed) (λ them. IsStep (w them) edits) (λ them s line t text. step_begins (w them) edits s line t text) authors r start last old new a b talk more)

@@ -1,5 +1,6 @@
 -- The step of one line.
-use Rattle.std.proofs.Common.{◌≡◌, inl, inr, ℕ, Bool, true, false, List, [], Option, Some, None, Result, Ok, Err, refl, sym, ap, subst, ◌∙◌}
+use Rattle.std.proofs.Common.{◌≡◌, inl, inr, ℕ, Bool, true, false, List, [], ◌∷◌, ◌++◌, length, take, Option, Some, None, Result, Ok, Err, refl, sym, ap, subst, ◌∙◌}
+use mathlib.Core.List.{IsPrefix}
 use Rattle.mp_records.specs.declared.edit.Edit.{Edit}
 use Rattle.mp_records.specs.declared.edit_error.EditError.{EditError}
 use Rattle.mp_records.specs.declared.edit_error.EditError.TheVariants.{OutOfMemory}
@@ -14,12 +15,14 @@ use Rattle.mp_text.specs.ScriptLines.{line_at}
 use Rattle.mp_version.specs.Stories.{Story}
 use Rattle.mp_desk.specs.Extending.{Extends}
 use Rattle.mp_desk.specs.Holders.{RefusedAfter}
-use Rattle.mp_desk.proofs.PrefixLemmas.{extends_self}
+use Rattle.mp_desk.proofs.PrefixLemmas.{prefix_self, prefix_trans, extends_self}
+use Rattle.mp_seats.proofs.MarkLemmas.{prefix_take}
 use Rattle.mp_seats.specs.talk.Answers.{PutsAnswer}
 use Rattle.mp_seats.specs.declared.refusal.Refusal.TheVariants as refusals
+use Rattle.mp_seats.specs.declared.reply.Reply.{Reply}
 use Rattle.mp_seats.specs.declared.reply.Reply.TheVariants as replies
-use Rattle.mp_seats.specs.Replies.{Writing, IsEditLine, IsRefusal, IsRefusalAt, IsReadRefusal, IsAnswerAt, IsReadAnswer}
-use Rattle.mp_seats.specs.Steps.{Seated, with_seen, with_refusal, Submits, IsRefusedLine, IsStep, PutsEdit}
+use Rattle.mp_seats.specs.Replies.{Writing, signed_writing, IsEditLine, IsRefusal, IsRefusalAt, IsReadRefusal, IsReadAnswer}
+use Rattle.mp_seats.specs.Steps.{Seated, with_seen, with_refusal, Submits, IsRefusedLine, IsStep, IsSignedStep, PutsEdit}
 
 -- an edit that was refused
 refusal : (before seen : Story) (edit : Edit) (error : EditError) → RefusedAfter before seen edit error → IsRefusal seen edit error
@@ -28,23 +31,36 @@ refusal before seen edit error (inl (inr want)) = inr want.0
 refusal before seen edit error (inr want) = inr want.0
 
 -- a refusal that was counted behind one who then saw this
-refused_line : (w : Writing) (edits : Bool) (old seen new : Seated) (line : Option (List ℕ)) (text : List ℕ) → Extends seen.seen old.seen → seen ≡ with_seen old seen.seen → new ≡ with_refusal edits seen
-    → IsRefusalAt w edits seen.seen line text → IsRefusedLine w edits old line new text
-refused_line w edits old seen new line text extends same counted replied =
+refused_line : (w : Writing) (edits : Bool) (old seen new : Seated) (line : Option (List ℕ)) (text : List ℕ) → Extends seen.seen old.seen → IsPrefix old.signed seen.signed
+    → seen ≡ with_seen old seen.seen seen.signed → new ≡ with_refusal edits seen → IsRefusalAt w edits seen.seen line text → IsRefusedLine w edits old line new text
+refused_line w edits old seen new line text extends begins same counted replied =
     let last : new.seen ≡ seen.seen = ap (λ (s : Seated). s.seen) counted in
+    let by : new.signed ≡ seen.signed = ap (λ (s : Seated). s.signed) counted in
     record {
       extends = subst (λ (s : Story). Extends s old.seen) (sym last) extends;
-      stands = subst (λ (s : Story). new ≡ with_refusal edits (with_seen old s)) (sym last) (counted ∙ ap (with_refusal edits) same);
+      begins = subst (IsPrefix old.signed) (sym by) begins;
+      stands =
+          subst (λ (s : Story). new ≡ with_refusal edits (with_seen old s new.signed)) (sym last)
+          (subst (λ (l : List ℕ). new ≡ with_refusal edits (with_seen old seen.seen l)) (sym by) (counted ∙ ap (with_refusal edits) same));
       replied = subst (λ (s : Story). IsRefusalAt w edits s line text) (sym last) replied;
     }
 
+-- ---- what is known of authors
+
+-- a step forgets no author
+pub step_begins : (w : Writing) (edits : Bool) (old : Seated) (line : Option (List ℕ)) (new : Seated) (text : List ℕ) → IsStep w edits old line new text → IsPrefix old.signed new.signed
+step_begins w edits old line new text (inl step) =
+    subst (IsPrefix old.signed) (sym (ap (λ (s : Seated). s.signed) step.stands)) (prefix_trans old.signed step.authors (step.authors ++ old.number ∷ []) step.begins (old.number ∷ [], refl))
+step_begins w edits old line new text (inr (inl step)) = step.begins
+step_begins w edits old line new text (inr (inr step)) = step.begins
+
 -- ---- edits
 
-module _ {S : Type 0} (w : Writing) (r : Result (Unit {0}) WriteError) (old new : Seated) (edit : Edit) (a b : Outgoing S) where
-  accepted_so : (n : ℕ) → Submits true (Ok n) old new edit → Writes r a b (w.reply (replies.Accepted n)) → PutsEdit w true r old new edit a b
+module _ {S : Type 0} (answer : Story → List ℕ → Question → List ℕ) (reply : Reply → List ℕ) (r : Result (Unit {0}) WriteError) (old new : Seated) (edit : Edit) (a b : Outgoing S) where
+  accepted_so : (n : ℕ) → Submits true (Ok n) old new edit → Writes r a b (reply (replies.Accepted n)) → PutsEdit (signed_writing answer reply) true r old new edit a b
   accepted_so n is put = (
-    w.reply (replies.Accepted n),
-    (λ line says.
+    reply (replies.Accepted n),
+    (λ line says authors more.
         inl
         (record {
           edit = edit;
@@ -56,97 +72,109 @@ module _ {S : Type 0} (w : Writing) (r : Result (Unit {0}) WriteError) (old new 
           begins = is.4;
           each = is.5;
           stands = is.6;
-          replied = ap (λ (k : ℕ). w.reply (replies.Accepted k)) is.7;
+          replied = ap (λ (k : ℕ). reply (replies.Accepted k)) is.7;
         })),
     put,
   )
 
-  refused_so : (seen : Seated) (error : EditError) → Submits true (Err (refusals.Refused error)) old seen edit → new ≡ with_refusal true seen → Writes r a b (w.reply (replies.Refused error))
-      → PutsEdit w true r old new edit a b
+  refused_so : (seen : Seated) (error : EditError) → Submits true (Err (refusals.Refused error)) old seen edit → new ≡ with_refusal true seen → Writes r a b (reply (replies.Refused error))
+      → PutsEdit (signed_writing answer reply) true r old new edit a b
   refused_so seen error is counted put = (
-    w.reply (replies.Refused error),
-    (λ line says. inr (inl (refused_line w true old seen new line (w.reply (replies.Refused error)) is.3 is.2 counted (by line says)))),
+    reply (replies.Refused error),
+    (λ line says authors more. inr (inl (refused_line (signed_writing answer reply authors) true old seen new line (reply (replies.Refused error)) is.3 is.4 is.2 counted (by authors line says)))),
     put,
   )
     where
-      by : (line : Option (List ℕ)) → IsEditLine line edit → IsRefusalAt w true seen.seen line (w.reply (replies.Refused error))
-      by None says = absurd says
-      by (Some line) says =
-          inl (subst (λ read. IsReadRefusal w true seen.seen read (w.reply (replies.Refused error))) (sym says) (error, refusal old.seen seen.seen edit error is.1, refl))
+      by : (authors : List ℕ) (line : Option (List ℕ)) → IsEditLine line edit → IsRefusalAt (signed_writing answer reply authors) true seen.seen line (reply (replies.Refused error))
+      by authors None says = absurd says
+      by authors (Some line) says =
+          inl (subst (λ read. IsReadRefusal (signed_writing answer reply authors) true seen.seen read (reply (replies.Refused error))) (sym says) (error, refusal old.seen seen.seen edit error is.1, refl))
 
-  viewed_so : (seen : Seated) → Submits false (Err refusals.NotADesigner) old seen edit → new ≡ with_refusal false seen → Writes r a b (w.reply replies.NotADesigner) → PutsEdit w false r old new edit a b
+  viewed_so : (seen : Seated) → Submits false (Err refusals.NotADesigner) old seen edit → new ≡ with_refusal false seen → Writes r a b (reply replies.NotADesigner) → PutsEdit (signed_writing answer reply) false r old new edit a b
   viewed_so seen is counted put = (
-    w.reply replies.NotADesigner,
-    (λ line says.
+    reply replies.NotADesigner,
+    (λ line says authors more.
         inr
         (inl
-        (refused_line w false old seen new line (w.reply replies.NotADesigner) (subst (λ (s : Seated). Extends s.seen old.seen) (sym is.1) (extends_self old.seen))
-        (subst (λ (s : Seated). s ≡ with_seen old s.seen) (sym is.1) refl) counted (by line says)))),
+        (refused_line (signed_writing answer reply authors) false old seen new line (reply replies.NotADesigner) (subst (λ (s : Seated). Extends s.seen old.seen) (sym is.1) (extends_self old.seen))
+        (subst (λ (s : Seated). IsPrefix old.signed s.signed) (sym is.1) (prefix_self old.signed)) (subst (λ (s : Seated). s ≡ with_seen old s.seen s.signed) (sym is.1) refl) counted (by authors line says)))),
     put,
   )
     where
-      by : (line : Option (List ℕ)) → IsEditLine line edit → IsRefusalAt w false seen.seen line (w.reply replies.NotADesigner)
-      by None says = absurd says
-      by (Some line) says = inl (subst (λ read. IsReadRefusal w false seen.seen read (w.reply replies.NotADesigner)) (sym says) refl)
+      by : (authors : List ℕ) (line : Option (List ℕ)) → IsEditLine line edit → IsRefusalAt (signed_writing answer reply authors) false seen.seen line (reply replies.NotADesigner)
+      by authors None says = absurd says
+      by authors (Some line) says = inl (subst (λ read. IsReadRefusal (signed_writing answer reply authors) false seen.seen read (reply replies.NotADesigner)) (sym says) refl)
 
-  pub edit_accepted : (edits : Bool) (n : ℕ) → Submits edits (Ok n) old new edit → Writes r a b (w.reply (replies.Accepted n)) → PutsEdit w edits r old new edit a b
+  pub edit_accepted : (edits : Bool) (n : ℕ) → Submits edits (Ok n) old new edit → Writes r a b (reply (replies.Accepted n)) → PutsEdit (signed_writing answer reply) edits r old new edit a b
   edit_accepted true n is put = accepted_so n is put
   edit_accepted false n is put = absurd (cc (is.0))
 
   pub edit_refused : (edits : Bool) (seen : Seated) (error : EditError) → Submits edits (Err (refusals.Refused error)) old seen edit → new ≡ with_refusal edits seen
-      → Writes r a b (w.reply (replies.Refused error)) → PutsEdit w edits r old new edit a b
+      → Writes r a b (reply (replies.Refused error)) → PutsEdit (signed_writing answer reply) edits r old new edit a b
   edit_refused true seen error is counted put = refused_so seen error is counted put
   edit_refused false seen error is counted put = absurd (cc (is.0))
 
-  pub edit_of_viewer : (edits : Bool) (seen : Seated) → Submits edits (Err refusals.NotADesigner) old seen edit → new ≡ with_refusal edits seen → Writes r a b (w.reply replies.NotADesigner)
-      → PutsEdit w edits r old new edit a b
+  pub edit_of_viewer : (edits : Bool) (seen : Seated) → Submits edits (Err refusals.NotADesigner) old seen edit → new ≡ with_refusal edits seen → Writes r a b (reply replies.NotADesigner)
+      → PutsEdit (signed_writing answer reply) edits r old new edit a b
   edit_of_viewer true seen is counted put = absurd (cc (is.0))
   edit_of_viewer false seen is counted put = viewed_so seen is counted put
 
 -- ---- lines
 
-module _ {S : Type 0} (w : Writing) (edits : Bool) (r : Result (Unit {0}) WriteError) (old new : Seated) (a b : Outgoing S) where
+module _ {S : Type 0} (answer : Story → List ℕ → Question → List ℕ) (reply : Reply → List ℕ) (edits : Bool) (r : Result (Unit {0}) WriteError) (old new : Seated) (a b : Outgoing S) where
   -- a line that isn't read, and is counted
-  counted : (line : Option (List ℕ)) (text : List ℕ) → new ≡ with_refusal edits old → IsRefusalAt w edits old.seen line text → Writes r a b text → PutsAnswer (IsStep w edits) r old new line a b
-  counted line text same replied put = (text, inr (inl (refused_line w edits old old new line text (extends_self old.seen) refl same replied)), put)
+  counted : (line : Option (List ℕ)) (text : List ℕ) → new ≡ with_refusal edits old → ((authors : List ℕ) → IsRefusalAt (signed_writing answer reply authors) edits old.seen line text) → Writes r a b text → PutsAnswer (IsSignedStep (signed_writing answer reply) edits) r old new line a b
+  counted line text same replied put = (
+    text,
+    (λ authors more. inr (inl (refused_line (signed_writing answer reply authors) edits old old new line text (extends_self old.seen) (prefix_self old.signed) refl same (replied authors)))),
+    put,
+  )
 
-  pub too_long : (line : Option (List ℕ)) → line ≡ None → new ≡ with_refusal edits old → Writes r a b (w.reply replies.TooLong) → PutsAnswer (IsStep w edits) r old new line a b
-  too_long line none same put = rw none (counted None (w.reply replies.TooLong) same refl put)
+  pub too_long : (line : Option (List ℕ)) → line ≡ None → new ≡ with_refusal edits old → Writes r a b (reply replies.TooLong) → PutsAnswer (IsSignedStep (signed_writing answer reply) edits) r old new line a b
+  too_long line none same put = rw none (counted None (reply replies.TooLong) same (λ authors. refl) put)
 
   module _ (line : List ℕ) where
-    pub line_empty : line_at line ≡ Ok Empty → new ≡ old → Writes r a b [] → PutsAnswer (IsStep w edits) r old new (Some line) a b
+    pub line_empty : line_at line ≡ Ok Empty → new ≡ old → Writes r a b [] → PutsAnswer (IsSignedStep (signed_writing answer reply) edits) r old new (Some line) a b
     line_empty is same put = (
       [],
-      inr
+      (λ authors more.
+          inr
           (inr
           (record {
             extends = subst (λ (s : Seated). Extends s.seen old.seen) (sym same) (extends_self old.seen);
-            stands = subst (λ (s : Seated). s ≡ with_seen old s.seen) (sym same) refl;
-            replied = subst (λ read. IsReadAnswer w new.seen read []) (sym is) refl;
-          })),
+            begins = subst (λ (s : Seated). IsPrefix old.signed s.signed) (sym same) (prefix_self old.signed);
+            stands = subst (λ (s : Seated). s ≡ with_seen old s.seen s.signed) (sym same) refl;
+            replied = subst (λ read. IsReadAnswer (signed_writing answer reply authors) new.seen read []) (sym is) refl;
+          }))),
       put,
     )
 
-    pub line_edited : (edit : Edit) → line_at line ≡ Ok (Change edit) → PutsEdit w edits r old new edit a b → PutsAnswer (IsStep w edits) r old new (Some line) a b
+    pub line_edited : (edit : Edit) → line_at line ≡ Ok (Change edit) → PutsEdit (signed_writing answer reply) edits r old new edit a b → PutsAnswer (IsSignedStep (signed_writing answer reply) edits) r old new (Some line) a b
     line_edited edit is puts = (puts.0, puts.1 (Some line) is, puts.2)
 
-    pub line_asked : (question : Question) → line_at line ≡ Ok (Ask question) → Extends new.seen old.seen → new ≡ with_seen old new.seen → Writes r a b (w.answer new.seen question)
-        → PutsAnswer (IsStep w edits) r old new (Some line) a b
-    line_asked question is later same put = (
-      w.answer new.seen question,
-      inr
+    pub line_asked : (question : Question) → line_at line ≡ Ok (Ask question) → Extends new.seen old.seen → IsPrefix old.signed new.signed → new ≡ with_seen old new.seen new.signed
+        → length new.signed ≡ length new.seen.edits → Writes r a b (answer new.seen new.signed question) → PutsAnswer (IsSignedStep (signed_writing answer reply) edits) r old new (Some line) a b
+    line_asked question is later begins same each put = (
+      answer new.seen new.signed question,
+      (λ authors more.
+          let known : take (length new.seen.edits) authors ≡ new.signed = ap (λ n. take n authors) (sym each) ∙ prefix_take new.signed authors more in
+          inr
           (inr
           (record {
             extends = later;
+            begins = begins;
             stands = same;
-            replied = subst (λ read. IsReadAnswer w new.seen read (w.answer new.seen question)) (sym is) refl;
-          })),
+            replied =
+                subst (λ read. IsReadAnswer (signed_writing answer reply authors) new.seen read (answer new.seen new.signed question)) (sym is)
+                (ap (λ (l : List ℕ). answer new.seen l question) (sym known));
+          }))),
       put,
     )
 
-    pub line_wanting : HasForm line → new ≡ with_refusal edits old → Writes r a b (w.reply (replies.Refused OutOfMemory)) → PutsAnswer (IsStep w edits) r old new (Some line) a b
-    line_wanting formed same put = counted (Some line) (w.reply (replies.Refused OutOfMemory)) same (inr (formed, refl)) put
+    pub line_wanting : HasForm line → new ≡ with_refusal edits old → Writes r a b (reply (replies.Refused OutOfMemory)) → PutsAnswer (IsSignedStep (signed_writing answer reply) edits) r old new (Some line) a b
+    line_wanting formed same put = counted (Some line) (reply (replies.Refused OutOfMemory)) same (λ authors. inr (formed, refl)) put
 
-    pub line_unread : (error : LineError) → line_at line ≡ Err error → new ≡ with_refusal edits old → Writes r a b (w.reply (replies.Unread error)) → PutsAnswer (IsStep w edits) r old new (Some line) a b
+    pub line_unread : (error : LineError) → line_at line ≡ Err error → new ≡ with_refusal edits old → Writes r a b (reply (replies.Unread error)) → PutsAnswer (IsSignedStep (signed_writing answer reply) edits) r old new (Some line) a b
     line_unread error is same put =
-        counted (Some line) (w.reply (replies.Unread error)) same (inl (subst (λ read. IsReadRefusal w edits old.seen read (w.reply (replies.Unread error))) (sym is) refl)) put
+        counted (Some line) (reply (replies.Unread error)) same
+        (λ authors. inl (subst (λ read. IsReadRefusal (signed_writing answer reply authors) edits old.seen read (reply (replies.Unread error))) (sym is) refl)) put

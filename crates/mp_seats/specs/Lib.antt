@@ -5,3 +5,4 @@ pub mod Seats
 pub mod talk
 pub mod hosting
 pub mod journal
+pub mod pipes

@@ -1,5 +1,5 @@
 -- What a seat replies to a line.
-use Rattle.std.specs.Prelude.{◌≡◌, ◌⊎◌, ℕ, Bool, true, false, List, [], Option, Some, None, Result, Ok, Err}
+use Rattle.std.specs.Prelude.{◌≡◌, ◌⊎◌, ℕ, Bool, true, false, List, [], length, take, Option, Some, None, Result, Ok, Err}
 use Rattle.mp_records.specs.declared.edit.Edit.{Edit}
 use Rattle.mp_records.specs.declared.edit_error.EditError.{EditError}
 use Rattle.mp_records.specs.declared.edit_error.EditError.TheVariants.{OutOfMemory}
@@ -17,6 +17,10 @@ use Rattle.mp_seats.specs.declared.reply.Reply.TheVariants.{Refused, NotADesigne
 pub record Writing : Type 0 where
   pub answer : Story → Question → List ℕ
   pub reply : Reply → List ℕ
+
+-- how they are written by one who is told the authors of a story's edits, where the edits have these authors
+abbrev pub signed_writing : (Story → List ℕ → Question → List ℕ) → (Reply → List ℕ) → List ℕ → Writing
+signed_writing answer reply authors = record { answer = λ story question. answer story (take (length story.edits) authors) question; reply = reply }
 
 -- the line makes this edit
 abbrev pub IsEditLine : Option (List ℕ) → Edit → Type 0

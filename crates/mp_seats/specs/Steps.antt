@@ -12,10 +12,10 @@ use Rattle.mp_seats.specs.declared.refusal.Refusal.{Refusal}
 use Rattle.mp_seats.specs.declared.refusal.Refusal.TheVariants as refusals
 use Rattle.mp_seats.specs.declared.reply.Reply.TheVariants.{Accepted}
 use Rattle.mp_seats.specs.Replies.{Writing, IsEditLine, IsRefusalAt, IsAnswerAt}
+use Rattle.mp_seats.specs.talk.Answers.{Answering, ForAllAuthors}
 
 -- who sits at a seat: the version seen last, how many edits were accepted, how many lines were refused or not read (0 at a seat that doesn't edit), the number
--- that was told last for an accepted edit (0 where there is none), the number of the designer who edits there, and the authors of all edits up to the last one
--- that was accepted there
+-- that was told last for an accepted edit (0 where there is none), the number of the designer who edits there, and the authors of that version's edits
 pub record Seated : Type 0 where
   pub seen : Story
   pub accepted : ℕ
@@ -24,9 +24,9 @@ pub record Seated : Type 0 where
   pub number : ℕ
   pub signed : List ℕ
 
--- this was seen, and nothing else changed
-abbrev pub with_seen : Seated → Story → Seated
-with_seen old seen = record old { seen = seen }
+-- this was seen, with these authors, and nothing else changed
+abbrev pub with_seen : Seated → Story → List ℕ → Seated
+with_seen old seen authors = record old { seen = seen; signed = authors }
 
 -- one line more was refused or not read, at a seat that edits or doesn't: the count stays at its greatest value
 abbrev pub one_more_refused : Bool → ℕ → ℕ
@@ -48,7 +48,7 @@ Submits edits (Ok n) old new edit =
     (edits ≡ true) × (before : Story) × Extends before old.seen × (authors : List ℕ) × IsPrefix old.signed authors × (length authors ≡ length before.edits)
     × (new ≡ with_edit old before authors edit) × (n ≡ length before.edits + 1)
 Submits edits (Err (refusals.Refused error)) old new edit =
-    (edits ≡ true) × RefusedAfter old.seen new.seen edit error × (new ≡ with_seen old new.seen) × Extends new.seen old.seen
+    (edits ≡ true) × RefusedAfter old.seen new.seen edit error × (new ≡ with_seen old new.seen new.signed) × Extends new.seen old.seen × IsPrefix old.signed new.signed
 Submits edits (Err refusals.NotADesigner) old new edit = (edits ≡ false) × (new ≡ old)
 
 -- the edit of a line was accepted after this story, which has these authors
@@ -67,20 +67,26 @@ pub record IsAcceptedLine (w : Writing) (edits : Bool) (old : Seated) (line : Op
 -- a line was refused or not read after the story that was then seen, and counted
 pub record IsRefusedLine (w : Writing) (edits : Bool) (old : Seated) (line : Option (List ℕ)) (new : Seated) (text : List ℕ) : Type 0 where
   pub extends : Extends new.seen old.seen
-  pub stands : new ≡ with_refusal edits (with_seen old new.seen)
+  pub begins : IsPrefix old.signed new.signed
+  pub stands : new ≡ with_refusal edits (with_seen old new.seen new.signed)
   pub replied : IsRefusalAt w edits new.seen line text
 
 -- a line was answered after the story that was then seen
 pub record IsAnsweredLine (w : Writing) (old : Seated) (line : Option (List ℕ)) (new : Seated) (text : List ℕ) : Type 0 where
   pub extends : Extends new.seen old.seen
-  pub stands : new ≡ with_seen old new.seen
+  pub begins : IsPrefix old.signed new.signed
+  pub stands : new ≡ with_seen old new.seen new.signed
   pub replied : IsAnswerAt w new.seen line text
 
 -- the step of a line
 abbrev pub IsStep : Writing → Bool → Seated → Option (List ℕ) → Seated → List ℕ → Type 0
 IsStep w edits old line new text = IsAcceptedLine w edits old line new text ⊎ (IsRefusedLine w edits old line new text ⊎ IsAnsweredLine w old line new text)
 
+-- the step of a line, whoever makes the edits to come
+abbrev pub IsSignedStep : (List ℕ → Writing) → Bool → Answering Seated
+IsSignedStep w edits = ForAllAuthors (λ (seated : Seated). seated.signed) (λ authors. IsStep (w authors) edits)
+
 -- an edit was submitted, and its reply was written, or a part of it
-abbrev pub PutsEdit : {S : Type 0} → Writing → Bool → Result (Unit {0}) WriteError → Seated → Seated → Edit → Outgoing S → Outgoing S → Type 0
+abbrev pub PutsEdit : {S : Type 0} → (List ℕ → Writing) → Bool → Result (Unit {0}) WriteError → Seated → Seated → Edit → Outgoing S → Outgoing S → Type 0
 PutsEdit w edits result old now edit before after =
-    (text : List ℕ) × ((line : Option (List ℕ)) → IsEditLine line edit → IsStep w edits old line now text) × Writes result before after text
+    (text : List ℕ) × ((line : Option (List ℕ)) → IsEditLine line edit → IsSignedStep w edits old line now text) × Writes result before after text

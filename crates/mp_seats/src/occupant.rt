@@ -1,16 +1,17 @@
 //! Those who sit at seats.
-ghost use Rattle.std.specs.Prelude.{◌≡◌, ◌∷◌, Bool, false, List, IfOk, OnErr};
+ghost use Rattle.std.specs.Prelude.{◌≡◌, ◌∷◌, Bool, false, List, length, IfOk, OnErr};
 ghost use Rattle.std.specs.Arc.{arc_value};
 ghost use Rattle.std.specs.Thread.{IsSync};
+ghost use mathlib.Core.List.{IsPrefix};
 ghost use Rattle.mp_version.specs.Stories.{Story};
 ghost use Rattle.mp_desk.specs.Extending.{Extends};
 ghost use Rattle.mp_seats.specs.Steps.{Seated, with_seen, with_refusal, Submits};
 
 use crate::refusal::Refusal;
+use mp_desk::SignedVersion;
 use mp_netlist::Edit;
-use mp_version::Version;
 use std::alloc::AllocError;
-use std::sync::{Arc, Wait};
+use std::sync::Wait;
 use std::thread::Threads;
 
 /// Who sits at a seat: a designer, or a viewer.
@@ -30,13 +31,16 @@ pub trait Occupant: Drop {
         requires shared { IsSync R.row }
         ensures { Submits edits result (seated self.old) (seated self.new) edit.now };
 
-    /// Reads the newest version, and waits for nobody: it is the one that was seen last, or a later one. One who makes no edits reads what is published
-    /// then, never a version that was kept. The error comes if memory runs out: then the version that was seen last stays.
-    fn read(&mut self) -> Result<Arc<Version>, AllocError>
-        ensures later { IfOk result (λ v. Extends (arc_value v) (seated self.old).seen) }
-        ensures seen { IfOk result (λ v. seated self.new ≡ with_seen (seated self.old) (arc_value v)) }
-        ensures now { edits ≡ false → IfOk result (λ v. reads self.new ≡ arc_value v ∷ reads self.old) }
-        ensures err { OnErr result (seated self.new ≡ seated self.old) };
+    /// Reads the newest version, and waits for nobody: it is the one that was seen last, or a later one. Its authors begin with those that were known.
+    /// One who makes no edits reads what is published then, never a version that was kept. The error comes if memory runs out: then the version that
+    /// was seen last stays.
+    fn read(&mut self) -> Result<SignedVersion, AllocError>
+        ensures later { IfOk result (λ v. Extends (arc_value v.version) (seated self.old).seen) }
+        ensures seen { IfOk result (λ v. seated self.new ≡ with_seen (seated self.old) (arc_value v.version) v.authors) }
+        ensures authors { IfOk result (λ v. IsPrefix (seated self.old).signed v.authors) }
+        ensures now { edits ≡ false → IfOk result (λ v. reads self.new ≡ arc_value v.version ∷ reads self.old) }
+        ensures err { OnErr result (seated self.new ≡ seated self.old) }
+        ensures each { length (seated self.new).signed ≡ length (seated self.new).seen.edits };
 
     /// Counts a line that was refused or not read, where edits are made. Nothing else changes.
     fn refuse(&mut self)

@@ -31,12 +31,14 @@ impl<B: ReplyWriter, G: Occupant> Model for Seat<B, G> {
 }
 
 impl<B: ReplyWriter, G: Occupant> Seat<B, G> {
-    ghost use Rattle.std.specs.Prelude.{◌≡◌, Some, []};
+    ghost use Rattle.std.specs.Prelude.{◌≡◌, ℕ, List, Some, [], length};
+    ghost use mathlib.Core.List.{IsPrefix};
     ghost use Rattle.mp_desk.specs.Extending.{Extends};
     ghost use Rattle.mp_streams.specs.WriteErrors.{Writes};
     ghost use Rattle.mp_seats.specs.talk.Answers.{PutsAnswer};
     ghost use Rattle.mp_seats.specs.talk.TalkFaults.{counted_reads};
-    ghost use Rattle.mp_seats.specs.Steps.{with_seen, with_refusal, IsStep, PutsEdit};
+    ghost use Rattle.mp_seats.specs.Replies.{signed_writing};
+    ghost use Rattle.mp_seats.specs.Steps.{with_seen, with_refusal, IsSignedStep, PutsEdit};
     ghost use Rattle.mp_seats.specs.Seats.{IsVisit};
 
     /// A seat at which this guest sits.
@@ -70,7 +72,7 @@ impl<B: ReplyWriter, G: Occupant> Seat<B, G> {
         out: &mut Out<T>,
     ) -> Result<(), TalkFault>
         requires { out.old.held ≡ [] }
-        ensures visit { IsVisit (record { answer = B.answer_text; reply = B.reply_text }) G.edits result self.old self.new lines.old lines.new out.old out.new }
+        ensures visit { (authors : List ℕ) → IsPrefix self.new.signed authors → IsVisit (signed_writing B.answer_text B.reply_text authors) G.edits result self.old self.new lines.old lines.new out.old out.new }
         ensures flushed { out.new.held ≡ [] }
         ensures read_faults { lines.new.faults ≡ counted_reads result lines.old.faults }
     {
@@ -94,13 +96,16 @@ impl<B: ReplyWriter, G: Occupant> Seat<B, G> {
         out: &mut Out<T>,
     ) -> Result<(), WriteError>
         ensures later { Extends self.new.seen self.old.seen }
-        ensures same { self.new ≡ with_seen self.old self.new.seen }
-        ensures written { Writes result out.old out.new (B.answer_text self.new.seen question.now) }
+        ensures begins { IsPrefix self.old.signed self.new.signed }
+        ensures same { self.new ≡ with_seen self.old self.new.seen self.new.signed }
+        ensures each { length self.new.signed ≡ length self.new.seen.edits }
+        ensures written { Writes result out.old out.new (B.answer_text self.new.seen self.new.signed question.now) }
     {
-        let Ok(version) = self.guest.read() else {
+        let Ok(read) = self.guest.read() else {
             return Err(WriteError::OutOfMemory);
         };
-        self.scribe.put_answer(rt, out, &version, question)
+        self.scribe
+            .put_answer(rt, out, &read.version, read.authors.as_slice(), question)
     }
 
     /// Submits an edit, and writes its reply.
@@ -110,7 +115,7 @@ impl<B: ReplyWriter, G: Occupant> Seat<B, G> {
         edit: &Edit,
         out: &mut Out<T>,
     ) -> Result<(), WriteError>
-        ensures { PutsEdit (record { answer = B.answer_text; reply = B.reply_text }) G.edits result self.old self.new edit.now out.old out.new }
+        ensures { PutsEdit (signed_writing B.answer_text B.reply_text) G.edits result self.old self.new edit.now out.old out.new }
     {
         match self.guest.submit(rt, edit) {
             Ok(number) => self.scribe.put_reply(out, &Reply::Accepted(number)),
@@ -126,7 +131,7 @@ impl<B: ReplyWriter, G: Occupant> Seat<B, G> {
         line: &[u8],
         out: &mut Out<T>,
     ) -> Result<(), WriteError>
-        ensures { PutsAnswer (IsStep (record { answer = B.answer_text; reply = B.reply_text }) G.edits) result self.old self.new (Some line.now) out.old out.new }
+        ensures { PutsAnswer (IsSignedStep (signed_writing B.answer_text B.reply_text) G.edits) result self.old self.new (Some line.now) out.old out.new }
     {
         match read_line(self.alloc, line) {
             Ok(Line::Empty) => Ok(()),
@@ -141,9 +146,10 @@ impl<B: ReplyWriter, G: Occupant> Seat<B, G> {
 }
 
 impl<B: ReplyWriter, G: Occupant> Answerer for Seat<B, G> {
-    ghost use Rattle.mp_seats.specs.Steps.{IsStep};
+    ghost use Rattle.mp_seats.specs.Replies.{signed_writing};
+    ghost use Rattle.mp_seats.specs.Steps.{IsSignedStep};
 
-    ghost Answers = { IsStep (record { answer = B.answer_text; reply = B.reply_text }) G.edits };
+    ghost Answers = { IsSignedStep (signed_writing B.answer_text B.reply_text) G.edits };
 
     fn put_answer<R: Threads + Wait + Sync, T: Sink>(
         &mut self,

@@ -14,7 +14,7 @@ use Rattle.mp_desk.specs.Holders.{Working}
 use Rattle.mp_desk.specs.meeting.Fates.{Fate, said, AreFates, Rise, AreAmong, accepted_of, refused_of}
 
 -- the version seen last, how many lines were accepted and refused, the number that the last notice tells of (0 where there is
--- none), whether memory was wanting, the designer's number, and the authors of all edits up to the last one that was accepted
+-- none), whether memory was wanting, the designer's number, and the authors of that version's edits
 pub record DesignerTally : Type 0 where
   pub seen : Story
   pub accepted : ℕ
@@ -33,31 +33,32 @@ told_of (Some story) = length story.edits
 abbrev pub begun : Working → DesignerTally
 begun me = record { seen = me.seen; accepted = 0; refused = 0; told = 0; wanting = false; number = me.number; signed = me.signed }
 
--- this was seen, and nothing else changed
-abbrev pub with_seen : DesignerTally → Story → DesignerTally
-with_seen old seen = record old { seen = seen }
+-- this was seen, with these authors, and nothing else changed
+abbrev pub with_seen : DesignerTally → Story → List ℕ → DesignerTally
+with_seen old seen authors = record old { seen = seen; signed = authors }
 
 -- the edit was accepted after this story by these authors
 abbrev pub with_edit : DesignerTally → Story → List ℕ → Edit → DesignerTally
 with_edit old before authors edit =
     record old { seen = one_more before edit; accepted = old.accepted + 1; told = length before.edits + 1; signed = authors ++ old.number ∷ [] }
 
--- a line was refused, and this seen
-abbrev pub with_refusal : DesignerTally → Story → DesignerTally
-with_refusal old seen = record old { seen = seen; refused = old.refused + 1 }
+-- a line was refused, and this seen, with these authors
+abbrev pub with_refusal : DesignerTally → Story → List ℕ → DesignerTally
+with_refusal old seen authors = record old { seen = seen; refused = old.refused + 1; signed = authors }
 
 abbrev pub IsAccepted : DesignerTally → DesignerTally → Edit → Type 0
 IsAccepted old new edit =
     (before : Story) × Extends before old.seen × (authors : List ℕ) × IsPrefix old.signed authors × (length authors ≡ length before.edits) × (new ≡ with_edit old before authors edit)
 
 abbrev pub IsRefused : DesignerTally → DesignerTally → Edit → Type 0
-IsRefused old new edit = (seen : Story) × Extends seen old.seen × (error : EditError) × (judged seen edit ≡ Err error) × (new ≡ with_refusal old seen)
+IsRefused old new edit =
+    (seen : Story) × Extends seen old.seen × (error : EditError) × (judged seen edit ≡ Err error) × (authors : List ℕ) × IsPrefix old.signed authors × (new ≡ with_refusal old seen authors)
 
 -- the step of a line that was read so
 abbrev pub Takes : DesignerTally → DesignerTally → Result Line LineError → Type 0
 Takes old new (Ok Empty) = new ≡ old
 Takes old new (Ok (Change edit)) = IsAccepted old new edit ⊎ IsRefused old new edit
-Takes old new read = new ≡ with_refusal old old.seen
+Takes old new read = new ≡ with_refusal old old.seen old.signed
 
 -- all lines were submitted: these are their fates in each story that extends the one seen
 pub record HasWorked (start : Story) (lines : List (List ℕ)) (sitting : DesignerTally) : Type 0 where

@@ -1,13 +1,13 @@
 //! A designer at work.
 ghost use Rattle.std.specs.Prelude.{◌≡◌};
 
-use crate::{Designer, Desk, DeskName, Notice, ReadError, Viewer};
+use crate::{Designer, Desk, DeskName, Notice, ReadError, SignedVersion, Viewer};
 use mp_netlist::{Edit, EditError};
 use mp_text::{Line, LineError, first_line, read_line};
-use mp_version::{EditSession, Version};
+use mp_version::EditSession;
 use std::alloc::{AllocError, Global};
 use std::marker::Model;
-use std::sync::{Arc, Wait};
+use std::sync::Wait;
 use std::thread::Threads;
 
 /// A designer who submits lines, and what became of those so far.
@@ -34,6 +34,7 @@ impl<L: DeskName> Model for DesignerTally<L> {
 impl<L: DeskName> DesignerTally<L> {
     ghost use Rattle.std.specs.Prelude.{◌≡◌, ◌+◌, ◌-◌, ◌^◌, ◌<◌, ◌≤◌, ◌⊎◌, min, false, length, IfOk, IfErr, OnOk, OnErr};
     ghost use Rattle.std.specs.Arc.{arc_value};
+    ghost use mathlib.Core.List.{IsPrefix};
     ghost use Rattle.mp_text.specs.lexing.Lines.{lines_of};
     ghost use Rattle.mp_text.specs.ScriptLines.{line_at};
     ghost use Rattle.mp_desk.specs.Extending.{Extends};
@@ -59,7 +60,7 @@ impl<L: DeskName> DesignerTally<L> {
     pub(crate) fn tell(&self, viewer: &mut Viewer<L>)
         ensures told { self.now.told ≤ length viewer.new.learnt.edits }
         ensures kept { length viewer.old.learnt.edits ≤ length viewer.new.learnt.edits }
-        ensures last { viewer.new.last ≡ viewer.old.last }
+        ensures last { (viewer.new.last ≡ viewer.old.last) × (viewer.new.signed ≡ viewer.old.signed) }
     {
         if let Some(notice) = &self.last {
             viewer.learn(notice);
@@ -101,7 +102,8 @@ impl<L: DeskName> DesignerTally<L> {
     ) -> Result<u32, EditError>
         ensures accepted { IfOk result (λ n. IsAccepted self.old self.new edit.now × (n ≡ self.new.told)) }
         ensures refused { IfErr result (λ error. RefusedAfter self.old.seen self.new.seen edit.now error) }
-        ensures same { OnErr result (self.new ≡ with_seen self.old self.new.seen) }
+        ensures same { OnErr result (self.new ≡ with_seen self.old self.new.seen self.new.signed) }
+        ensures begins { OnErr result (IsPrefix self.old.signed self.new.signed) }
         ensures forward { OnErr result (Extends self.new.seen self.old.seen) }
     {
         let receipt = desk.submit(rt, &mut self.me, edit)?;
@@ -117,12 +119,14 @@ impl<L: DeskName> DesignerTally<L> {
         self.refused = self.refused.saturating_add(1);
     }
 
-    /// Reads the published version, without waiting: the one that was seen last, or a later one. `Closed` comes if the desk is closed, and
-    /// `OutOfMemory` if memory runs out; then the version seen last stays.
-    pub fn read(&mut self) -> Result<Arc<Version>, ReadError>
-        ensures later { IfOk result (λ v. Extends (arc_value v) self.old.seen) }
-        ensures seen { IfOk result (λ v. self.new ≡ with_seen self.old (arc_value v)) }
+    /// Reads the published version, without waiting: the one that was seen last, or a later one. Its authors begin with those that were known before.
+    /// `Closed` comes if the desk is closed, and `OutOfMemory` if memory runs out; then the version seen last stays.
+    pub fn read(&mut self) -> Result<SignedVersion, ReadError>
+        ensures later { IfOk result (λ v. Extends (arc_value v.version) self.old.seen) }
+        ensures seen { IfOk result (λ v. self.new ≡ with_seen self.old (arc_value v.version) v.authors) }
+        ensures authors { IfOk result (λ v. IsPrefix self.old.signed v.authors) }
         ensures err { OnErr result (self.new ≡ self.old) }
+        ensures each { length self.new.signed ≡ length self.new.seen.edits }
     {
         self.me.read()
     }

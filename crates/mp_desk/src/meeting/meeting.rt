@@ -1,12 +1,12 @@
 //! A meeting from its beginning to its end.
-ghost use Rattle.std.specs.Prelude.{◌≡◌, ◌+◌, ◌<◌, vec_len, length, All, IfOk, IfErr};
+ghost use Rattle.std.specs.Prelude.{map, ◌≡◌, ◌+◌, ◌<◌, vec_len, length, All, IfOk, IfErr};
 ghost use Rattle.mp_netlist.specs.Circuit.{Circuit};
 ghost use Rattle.mp_text.specs.lexing.Divisions.{lines_of_each};
 ghost use Rattle.mp_version.specs.Stories.{opening};
 ghost use Rattle.mp_desk.specs.Extending.{Extends};
-ghost use Rattle.mp_desk.specs.Holders.{AreFresh};
+ghost use Rattle.mp_desk.specs.Holders.{AreFresh, IsSigned};
 ghost use Rattle.mp_desk.specs.meeting.Meetings.{IsMeeting};
-ghost use Rattle.mp_desk.specs.meeting.Seats.{HasAdjourned};
+ghost use Rattle.mp_desk.specs.meeting.Seats.{working, HasAdjourned};
 ghost use Rattle.mp_desk.specs.declared.meeting.meeting_fault.MeetingFault.TheVariants.{OutOfMemory};
 
 use crate::meeting::designer_tally::DesignerTally;
@@ -127,6 +127,7 @@ where
     requires all { desk.designers ≡ vec_len sittings }
     ensures adjourned { IfOk result (λ met. HasAdjourned desk.opening sittings.items (vec_len viewers) (S.story met.session) met.tallies.items met.numbers.items) }
     ensures looked { IfOk result (λ met. All (λ v. Extends (S.story met.session) v.last) viewers.items) }
+    ensures signed { IfOk result (λ met. IsSigned (S.story met.session) (map working sittings.items) viewers.items) }
 {
     let mut viewers = viewers;
     let numbers = last_reads(rt, alloc, sittings.as_slice(), viewers.as_mut_slice())?;

@@ -1,6 +1,6 @@
 //! What viewers do.
 ghost use Rattle.std.specs.Prelude.{◌≡◌, ◌<◌, ◌≤◌, ℕ, length, vec_len, slice_index, slice_index_or, All, IfOk};
-ghost use Rattle.mp_desk.specs.Extending.{Extends};
+ghost use Rattle.mp_desk.specs.Holders.{GoesOn};
 
 use crate::meeting::designer_tally::DesignerTally;
 use crate::{DeskName, ReadError, Viewer};
@@ -27,7 +27,7 @@ pub(crate) fn last_reads<L: DeskName, R: Wait>(
     ensures count { IfOk result (λ numbers. vec_len numbers ≡ length viewers.new) }
     ensures last { IfOk result (λ numbers. (k : ℕ) (v : _) → k < length viewers.new → slice_index numbers.items k ≡ length (slice_index_or viewers.new k v).last.edits) }
     ensures told { IfOk result (λ numbers. All (λ n. All (λ s. s.told ≤ n) sittings.now) numbers.items) }
-    ensures later { IfOk result (λ numbers. (k : ℕ) (v : _) → k < length viewers.new → Extends (slice_index_or viewers.new k v).last (slice_index_or viewers.old k v).last) }
+    ensures later { IfOk result (λ numbers. (k : ℕ) (v : _) → k < length viewers.new → GoesOn (slice_index_or viewers.new k v).last (slice_index_or viewers.new k v).signed (slice_index_or viewers.old k v).last (slice_index_or viewers.old k v).signed) }
     ensures all { length viewers.new ≡ length viewers.old }
 {
     let mut numbers = Vec::new(alloc);
@@ -46,7 +46,7 @@ fn last_read<L: DeskName, R: Wait>(
 ) -> Result<u32, AllocError>
     ensures last { IfOk result (λ n. n ≡ length viewer.new.last.edits) }
     ensures told { IfOk result (λ n. All (λ s. s.told ≤ n) sittings.now) }
-    ensures later { IfOk result (λ n. Extends viewer.new.last viewer.old.last) }
+    ensures later { IfOk result (λ n. GoesOn viewer.new.last viewer.new.signed viewer.old.last viewer.old.signed) }
 {
     for place in 0..sittings.len() {
         sittings[place].tell(viewer);
@@ -59,11 +59,11 @@ fn last_read<L: DeskName, R: Wait>(
 fn read_open<L: DeskName, R: Wait>(rt: &R, viewer: &mut Viewer<L>) -> Result<u32, AllocError>
     ensures last { IfOk result (λ n. n ≡ length viewer.new.last.edits) }
     ensures learnt { IfOk result (λ n. length viewer.old.learnt.edits ≤ n) }
-    ensures later { IfOk result (λ n. Extends viewer.new.last viewer.old.last) }
+    ensures later { IfOk result (λ n. GoesOn viewer.new.last viewer.new.signed viewer.old.last viewer.old.signed) }
 {
     for _ in rt.forever() {
         match viewer.read() {
-            Ok(version) => return Ok(version.number()),
+            Ok(read) => return Ok(read.version.number()),
             Err(ReadError::Closed) => {}
             Err(ReadError::OutOfMemory) => return Err(AllocError),
         }

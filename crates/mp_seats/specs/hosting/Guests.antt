@@ -1,5 +1,5 @@
 -- Designers and viewers as those who sit at seats.
-use Rattle.std.specs.Prelude.{◌≡◌, ℕ, ◌+◌, ◌<◌, List, [], length, slice_index_or}
+use Rattle.std.specs.Prelude.{◌≡◌, ℕ, ◌+◌, ◌<◌, List, length, slice_index_or}
 use Rattle.mp_version.specs.Stories.{Story}
 use Rattle.mp_desk.specs.Chronicles.{unsigned}
 use Rattle.mp_desk.specs.Holders.{Seeing}
@@ -12,7 +12,7 @@ sitter s = record { seen = s.seen; accepted = s.accepted; refused = s.refused; t
 
 -- a viewer at a seat, of whom no edit is accepted
 abbrev pub looker : Seeing → Seated
-looker v = record { seen = v.last; accepted = 0; refused = 0; told = 0; number = 0; signed = [] }
+looker v = record { seen = v.last; accepted = 0; refused = 0; told = 0; number = 0; signed = v.signed }
 
 -- the designer of this number, who has just come to a seat, and sees this story
 abbrev pub just_come : ℕ → Story → Seated
@@ -20,7 +20,7 @@ just_come number story = record { seen = story; accepted = 0; refused = 0; told 
 
 -- a viewer who has just come to a seat, and sees this story
 abbrev pub just_looking : Story → Seated
-just_looking story = record { seen = story; accepted = 0; refused = 0; told = 0; number = 0; signed = [] }
+just_looking story = record { seen = story; accepted = 0; refused = 0; told = 0; number = 0; signed = unsigned story }
 
 -- designers who have just come, numbered from 1
 abbrev pub HaveCome : Story → List DesignerTally → Type 0

@@ -6,6 +6,7 @@ use Rattle.mp_text.specs.lines.Incoming.{Incoming}
 use Rattle.mp_version.specs.Stories.{Story}
 use Rattle.mp_seats.specs.declared.talk.talk_fault.TalkFault.{TalkFault}
 use Rattle.mp_desk.specs.Extending.{Extends}
+use Rattle.mp_seats.specs.talk.Answers.{Answering, ForAllAuthors}
 use Rattle.mp_seats.specs.talk.Conversations.{Conversed}
 use Rattle.mp_seats.specs.Replies.{Writing}
 use Rattle.mp_seats.specs.Steps.{Seated, IsStep}
@@ -31,6 +32,10 @@ IsSeatsLine (Some line) = line_words line ≡ Ok (codes "seats" ∷ [])
 abbrev pub IsOwnStep : Writing → Bool → Owner → Option (List ℕ) → Owner → List ℕ → Type 0
 IsOwnStep w edits old line new text =
     ((IsSeatsLine line → ⊥) × IsStep w edits old.seated line new.seated text × (new.names ≡ old.names)) ⊎ (IsSeatsLine line × TellsOf old.names text × (new ≡ old))
+
+-- the same, whoever makes the edits to come
+abbrev pub IsSignedOwnStep : (List ℕ → Writing) → Bool → Answering Owner
+IsSignedOwnStep w edits = ForAllAuthors (λ (owner : Owner). owner.seated.signed) (λ authors. IsOwnStep (w authors) edits)
 
 -- the lines of whoever runs a desk with seats of these names, and makes no edits, were answered from the first story on, and ended so; this was seen last
 abbrev pub HasTalked : {S : Type 0} → Writing → Result (Unit {0}) TalkFault → Story → Story → List SeatName → Incoming → Incoming → Outgoing S → Outgoing S → Type 0

@@ -1,6 +1,9 @@
 -- The seats of a desk by name, and what is told of them.
 use Rattle.std.specs.Prelude.{◌≡◌, ℕ, Bool, true, false, List, [], ◌∷◌, ◌++◌, map, codes}
 use Rattle.std.specs.Fmt.{decimal}
+use Rattle.std.specs.List.{range_with_len}
+use Rattle.mp_seats.specs.declared.hosting.seat_place.SeatKind.{SeatKind}
+use Rattle.mp_seats.specs.declared.hosting.seat_place.SeatKind.TheVariants as kinds
 use Rattle.mp_seats.specs.declared.hosting.seat_place.SeatName.{SeatName}
 use Rattle.mp_seats.specs.declared.hosting.seat_place.SeatName.TheVariants.{Designer, Viewer}
 
@@ -8,6 +11,16 @@ use Rattle.mp_seats.specs.declared.hosting.seat_place.SeatName.TheVariants.{Desi
 pub record SeatNames : Type 0 where
   pub designers : List SeatName
   pub viewers : List SeatName
+
+-- the name of a seat of a kind and number
+abbrev pub named : SeatKind → ℕ → SeatName
+named kinds.Designer number = Designer number
+named kinds.Viewer number = Viewer number
+
+-- the seats of this many designers and viewers, numbered from 1
+abbrev pub numbered_seats : ℕ → ℕ → SeatNames
+numbered_seats designers viewers =
+    record { designers = map (named kinds.Designer) (range_with_len 1 designers); viewers = map (named kinds.Viewer) (range_with_len 1 viewers) }
 
 -- the name of a seat's kind, as it is written before its number
 abbrev pub kind_text : SeatName → List ℕ

@@ -1,5 +1,6 @@
 -- Those who come to a seat through its door, one behind the other.
 use Rattle.std.specs.Prelude.{◌≡◌, ◌⊎◌, ◌+◌, ◌<◌, ℕ, Bool, List, [], ◌∷◌, ◌++◌, length, Option, Result, slice_index_or}
+use mathlib.Core.List.{IsPrefix}
 use mathlib.Core.Logic.{inl, inr}
 use Rattle.mp_streams.specs.Outgoing.{Outgoing}
 use Rattle.mp_text.specs.lines.Incoming.{Incoming}
@@ -81,6 +82,15 @@ module _ (T : Type 0) {D : Type 0} (Comes : D → D → Option (List ℕ) → Op
   claims start number (door ∷ doors) [] are = []
   claims start number (door ∷ doors) (last ∷ lasts) are =
       claims_of_stays (start number) door are.0.1.stays last are.0.0 are.0.1.are ∷ claims start (number + 1) doors lasts are.1
+
+module _ (T : Type 0) {D : Type 0} (Comes : D → D → Option (List ℕ) → Option (List ℕ) → Type 0) (Leaves : D → D → Option (List ℕ) → Type 0) (TurnsAway : D → D → Type 0) (w : List ℕ → Writing) (edits : Bool) where
+  -- somebody came and left, whoever makes the edits to come
+  abbrev pub IsSignedStay : Seated → Seated → D → D → Type 0
+  IsSignedStay start last before after = (authors : List ℕ) → IsPrefix last.signed authors → IsStay T Comes Leaves TurnsAway (w authors) edits start last before after
+
+  -- some came and left, whoever makes the edits to come
+  abbrev pub WasSignedAttended : Seated → D → Seated → D → Type 0
+  WasSignedAttended seat door last end = (authors : List ℕ) → IsPrefix last.signed authors → WasAttended T Comes Leaves TurnsAway (w authors) edits seat door last end
 
 -- each of these became what stands in its place
 abbrev pub Each : {P : Type 0} → (P → P → Type 0) → List P → List P → Type 0

@@ -1,11 +1,11 @@
 //! A designer at a seat.
 use crate::hosting::rises::Rises;
 use crate::{Occupant, Refusal};
-use mp_desk::{DesignerTally, Desk, DeskName};
+use mp_desk::{DesignerTally, Desk, DeskName, SignedVersion};
 use mp_netlist::Edit;
-use mp_version::{EditSession, Version};
+use mp_version::EditSession;
 use std::alloc::AllocError;
-use std::sync::{Arc, Wait};
+use std::sync::Wait;
 use std::thread::Threads;
 
 /// A designer, with the desk at which the edits are submitted.
@@ -33,7 +33,7 @@ impl<'a, S: EditSession, L: DeskName, R: Wait + Drop> Occupant for DesignerGuest
         }
     }
 
-    fn read(&mut self) -> Result<Arc<Version>, AllocError> {
+    fn read(&mut self) -> Result<SignedVersion, AllocError> {
         self.sitting.read().map_err(|_| AllocError)
     }
 

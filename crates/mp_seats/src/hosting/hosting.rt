@@ -1,7 +1,8 @@
 //! A desk at which designers and viewers come and go, from its beginning to its end.
-ghost use Rattle.std.specs.Prelude.{◌≡◌, ◌+◌, ◌<◌, ◌++◌, ◌∷◌, ℕ, [], length, vec_len, All, IfOk, IfErr};
+ghost use Rattle.std.specs.Prelude.{◌≡◌, ◌+◌, ◌<◌, ◌++◌, ◌∷◌, ℕ, List, [], length, vec_len, All, IfOk, IfErr};
 ghost use Rattle.mp_version.specs.Stories.{Story};
 ghost use Rattle.mp_desk.specs.Holders.{fresh_viewer, AreFresh};
+ghost use Rattle.mp_seats.specs.Replies.{signed_writing};
 ghost use Rattle.mp_seats.specs.hosting.OwnSeats.{HasTalkedWithin};
 ghost use Rattle.mp_seats.specs.hosting.Hostings.{IsHosted};
 ghost use Rattle.mp_seats.specs.declared.hosting.host_fault.HostFault.TheVariants.{BadSize};
@@ -53,8 +54,7 @@ where
     D::Input: Send,
     D::Output: Send,
     requires held { out.old.held ≡ [] }
-    ensures hosted { IfOk result (λ met. IsHosted D.Output D.Comes D.Leaves D.TurnsAway (record { answer = B.answer_text; reply = B.reply_text }) (S.story session) (S.story met.outcome.session) hall.designers.items hall.viewers.items met.outcome.tallies.items met.outcome.numbers.items) }
-    ensures talked { IfOk result (λ met. HasTalkedWithin (record { answer = B.answer_text; reply = B.reply_text }) met.talked (S.story session) (S.story met.outcome.session) (X.names hall.exit) lines.old lines.new out.old out.new) }
+    ensures hosted { IfOk result (λ met. (authors : List ℕ) × IsHosted D.Output D.Comes D.Leaves D.TurnsAway (signed_writing B.answer_text B.reply_text) authors (S.story session) (S.story met.outcome.session) hall.designers.items hall.viewers.items met.outcome.tallies.items met.outcome.numbers.items × HasTalkedWithin (signed_writing B.answer_text B.reply_text authors) met.talked (S.story session) (S.story met.outcome.session) (X.names hall.exit) lines.old lines.new out.old out.new) }
     ensures unread { IfErr result (λ fault. fault ≡ BadSize → (lines.new ≡ lines.old) × (out.new ≡ out.old)) }
     ensures flushed { out.new.held ≡ [] }
 {
@@ -106,8 +106,7 @@ where
     requires some { 0 < vec_len hall.designers }
     requires viewers { parts.viewers ≡ vec_len hall.viewers + 1 }
     requires held { out.old.held ≡ [] }
-    ensures hosted { IfOk result (λ met. IsHosted D.Output D.Comes D.Leaves D.TurnsAway (record { answer = B.answer_text; reply = B.reply_text }) (S.story parts.session) (S.story met.outcome.session) hall.designers.items hall.viewers.items met.outcome.tallies.items met.outcome.numbers.items) }
-    ensures talked { IfOk result (λ met. HasTalkedWithin (record { answer = B.answer_text; reply = B.reply_text }) met.talked (S.story parts.session) (S.story met.outcome.session) (X.names hall.exit) lines.old lines.new out.old out.new) }
+    ensures hosted { IfOk result (λ met. (authors : List ℕ) × IsHosted D.Output D.Comes D.Leaves D.TurnsAway (signed_writing B.answer_text B.reply_text) authors (S.story parts.session) (S.story met.outcome.session) hall.designers.items hall.viewers.items met.outcome.tallies.items met.outcome.numbers.items × HasTalkedWithin (signed_writing B.answer_text B.reply_text authors) met.talked (S.story parts.session) (S.story met.outcome.session) (X.names hall.exit) lines.old lines.new out.old out.new) }
     ensures flushed { out.new.held ≡ [] }
 {
     match Desk::<S, L, R>::open(parts) {
@@ -144,8 +143,7 @@ where
     requires some { 0 < vec_len hall.designers }
     requires viewers { vec_len staffed.viewers ≡ vec_len hall.viewers + 1 }
     requires held { out.old.held ≡ [] }
-    ensures hosted { IfOk result (λ met. (start : Story) → AreFresh start staffed.designers.items → All (λ v. v ≡ fresh_viewer start) staffed.viewers.items → staffed.desk.opening ≡ length start.edits → IsHosted D.Output D.Comes D.Leaves D.TurnsAway (record { answer = B.answer_text; reply = B.reply_text }) start (S.story met.outcome.session) hall.designers.items hall.viewers.items met.outcome.tallies.items met.outcome.numbers.items) }
-    ensures talked { IfOk result (λ met. (start : Story) → All (λ v. v ≡ fresh_viewer start) staffed.viewers.items → HasTalkedWithin (record { answer = B.answer_text; reply = B.reply_text }) met.talked start (S.story met.outcome.session) (X.names hall.exit) lines.old lines.new out.old out.new) }
+    ensures hosted { IfOk result (λ met. (start : Story) → AreFresh start staffed.designers.items → All (λ v. v ≡ fresh_viewer start) staffed.viewers.items → staffed.desk.opening ≡ length start.edits → (authors : List ℕ) × IsHosted D.Output D.Comes D.Leaves D.TurnsAway (signed_writing B.answer_text B.reply_text) authors start (S.story met.outcome.session) hall.designers.items hall.viewers.items met.outcome.tallies.items met.outcome.numbers.items × HasTalkedWithin (signed_writing B.answer_text B.reply_text authors) met.talked start (S.story met.outcome.session) (X.names hall.exit) lines.old lines.new out.old out.new) }
     ensures flushed { out.new.held ≡ [] }
 {
     let Staffed {

@@ -41,9 +41,10 @@ impl<B: ReplyWriter, G: Occupant, X: Exit> OwnSeat<B, G, X> {
 }
 
 impl<B: ReplyWriter, G: Occupant, X: Exit> Answerer for OwnSeat<B, G, X> {
-    ghost use Rattle.mp_seats.specs.hosting.OwnSeats.{IsOwnStep};
+    ghost use Rattle.mp_seats.specs.Replies.{signed_writing};
+    ghost use Rattle.mp_seats.specs.hosting.OwnSeats.{IsSignedOwnStep};
 
-    ghost Answers = { IsOwnStep (record { answer = B.answer_text; reply = B.reply_text }) G.edits };
+    ghost Answers = { IsSignedOwnStep (signed_writing B.answer_text B.reply_text) G.edits };
 
     fn put_answer<R: Threads + Wait + Sync, T: Sink>(
         &mut self,

@@ -1,5 +1,7 @@
 //! The seats of a desk by name, and who has taken them.
-ghost use Rattle.std.specs.Prelude.{◌≡◌};
+ghost use Rattle.std.specs.Prelude.{◌≡◌, map, IfOk};
+ghost use Rattle.std.specs.List.{range_with_len};
+ghost use Rattle.mp_seats.specs.hosting.Places.{named, numbered_seats};
 
 use std::alloc::{AllocError, Global};
 use std::marker::Model;
@@ -10,6 +12,13 @@ use std::sync::atomic::{AtomicBool, Ordering};
 pub enum SeatName {
     Designer(u32),
     Viewer(u32),
+}
+
+/// What a seat is for.
+#[derive(Clone, Copy)]
+pub(crate) enum SeatKind {
+    Designer,
+    Viewer,
 }
 
 /// A seat, and whether somebody has taken it. A contract sees its name.
@@ -64,10 +73,12 @@ impl Model for Places {
 
 impl Places {
     /// This many free seats for designers and for viewers. The error comes if memory runs out.
-    pub fn new(alloc: Global, designers: u32, viewers: u32) -> Result<Places, AllocError> {
+    pub fn new(alloc: Global, designers: u32, viewers: u32) -> Result<Places, AllocError>
+        ensures { IfOk result (λ places. places ≡ numbered_seats designers viewers) }
+    {
         Ok(Places {
-            designers: free_places(alloc, designers, SeatName::Designer)?,
-            viewers: free_places(alloc, viewers, SeatName::Viewer)?,
+            designers: free_places(alloc, SeatKind::Designer, designers)?,
+            viewers: free_places(alloc, SeatKind::Viewer, viewers)?,
             ended: AtomicBool::new(false),
         })
     }
@@ -97,20 +108,32 @@ impl Places {
     }
 }
 
-/// This number of free seats.
-fn free_places<F: Fn(u32) -> SeatName>(
-    alloc: Global,
-    count: u32,
-    named: F,
-) -> Result<Vec<SeatPlace>, AllocError>
-    requires { F.IsAlwaysCallable named }
+/// This number of free seats of a kind, numbered from 1.
+fn free_places(alloc: Global, kind: SeatKind, count: u32) -> Result<Vec<SeatPlace>, AllocError>
+    ensures { IfOk result (λ places. places.items ≡ map (named kind) (range_with_len 1 count)) }
 {
     let mut places = Vec::with_capacity(alloc, count as usize)?;
-    for number in 1..=count {
-        places.push(SeatPlace {
-            name: named(number),
-            taken: AtomicBool::new(false),
-        })?;
+    for place in 0..count {
+        places.push(free_place(kind, place + 1))?;
     }
     Ok(places)
+}
+
+/// A free seat of a kind and number.
+fn free_place(kind: SeatKind, number: u32) -> SeatPlace
+    ensures { result ≡ named kind number }
+{
+    SeatPlace {
+        name: named(kind, number),
+        taken: AtomicBool::new(false),
+    }
+}
+
+fn named(kind: SeatKind, number: u32) -> SeatName
+    ensures { result ≡ named kind number }
+{
+    match kind {
+        SeatKind::Designer => SeatName::Designer(number),
+        SeatKind::Viewer => SeatName::Viewer(number),
+    }
 }

@@ -1,7 +1,9 @@
 //! A seat from the first who comes to the last.
-ghost use Rattle.std.specs.Prelude.{◌≡◌, [], map, vec_len, IfOk, MatchBool};
+ghost use Rattle.std.specs.Prelude.{◌≡◌, ℕ, List, [], map, vec_len, IfOk, MatchBool};
+ghost use mathlib.Core.List.{IsPrefix};
+ghost use Rattle.mp_seats.specs.Replies.{signed_writing};
 ghost use Rattle.mp_seats.specs.hosting.Endings.{HasEnded};
-ghost use Rattle.mp_seats.specs.hosting.Stays.{IsServed, IsStay, WasAttended};
+ghost use Rattle.mp_seats.specs.hosting.Stays.{IsServed, IsSignedStay, WasSignedAttended};
 
 use crate::hosting::door::Door;
 use crate::hosting::ended::Ended;
@@ -31,7 +33,7 @@ impl<B: ReplyWriter, G: Occupant, D: Door> SeatServer<B, G, D> {
 }
 
 impl<B: ReplyWriter, G: Occupant, D: Door> Serves for SeatServer<B, G, D> {
-    ghost Becomes = { λ p q. WasAttended D.Output D.Comes D.Leaves D.TurnsAway (record { answer = B.answer_text; reply = B.reply_text }) G.edits p.seat p.door q.seat q.door };
+    ghost Becomes = { λ p q. WasSignedAttended D.Output D.Comes D.Leaves D.TurnsAway (signed_writing B.answer_text B.reply_text) G.edits p.seat p.door q.seat q.door };
 
     fn serve<R: Threads + Wait + Sync>(&mut self, rt: &R, alloc: Global) {
         for _ in rt.forever() {
@@ -49,7 +51,7 @@ fn attend_next<R: Threads + Wait + Sync, B: ReplyWriter, G: Occupant, D: Door>(
     alloc: Global,
     post: &mut SeatServer<B, G, D>,
 ) -> bool
-    ensures { MatchBool result (IsStay D.Output D.Comes D.Leaves D.TurnsAway (record { answer = B.answer_text; reply = B.reply_text }) G.edits post.old.seat post.new.seat post.old.door post.new.door) ((post.new.seat ≡ post.old.seat) × (post.new.door ≡ post.old.door)) }
+    ensures { MatchBool result (IsSignedStay D.Output D.Comes D.Leaves D.TurnsAway (signed_writing B.answer_text B.reply_text) G.edits post.old.seat post.new.seat post.old.door post.new.door) ((post.new.seat ≡ post.old.seat) × (post.new.door ≡ post.old.door)) }
 {
     let Some((input, output)) = post.door.open() else {
         return false;
@@ -86,7 +88,7 @@ fn visit<R: Threads + Wait + Sync, B: ReplyWriter, G: Occupant, I: Source + Drop
     out: Out<T>,
 ) -> (bool, T)
     requires { (lines.old.held ≡ []) × (out.held ≡ []) }
-    ensures { IsServed T (record { answer = B.answer_text; reply = B.reply_text }) G.edits lines.old.left out.taken seat.old seat.new (T.taken result.1) }
+    ensures { (authors : List ℕ) → IsPrefix seat.new.signed authors → IsServed T (signed_writing B.answer_text B.reply_text authors) G.edits lines.old.left out.taken seat.old seat.new (T.taken result.1) }
 {
     let mut out = out;
     let served = seat.serve(rt, lines, &mut out);

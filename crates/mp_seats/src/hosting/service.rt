@@ -1,5 +1,7 @@
 //! All seats of a desk at the same time.
-ghost use Rattle.std.specs.Prelude.{◌≡◌, ◌<◌, true, false, [], length, map, vec_len, All, IfOk};
+ghost use Rattle.std.specs.Prelude.{◌≡◌, ◌<◌, ℕ, List, true, false, [], length, map, vec_len, All, IfOk};
+ghost use mathlib.Core.List.{IsPrefix};
+ghost use Rattle.mp_seats.specs.Replies.{signed_writing};
 ghost use Rattle.mp_version.specs.Stories.{Story};
 ghost use Rattle.mp_seats.specs.talk.Conversations.{Conversed};
 ghost use Rattle.mp_seats.specs.hosting.Guests.{sitter, looker, just_come, just_looking, HaveCome};
@@ -53,9 +55,9 @@ where
     requires viewers { vec_len people.viewers ≡ vec_len hall.viewers }
     requires held { out.old.held ≡ [] }
     ensures counts { IfOk result (λ s. (vec_len s.sittings ≡ vec_len people.entry.sittings) × (vec_len s.viewers ≡ vec_len people.entry.viewers)) }
-    ensures designers { IfOk result (λ s. (start : Story) → HaveCome start people.entry.sittings.items → AreAttended D.Output D.Comes D.Leaves D.TurnsAway (record { answer = B.answer_text; reply = B.reply_text }) true (λ number. just_come number start) 1 hall.designers.items (map sitter s.sittings.items)) }
-    ensures viewers { IfOk result (λ s. (start : Story) → All (λ v. looker v ≡ just_looking start) people.entry.viewers.items → AreAttended D.Output D.Comes D.Leaves D.TurnsAway (record { answer = B.answer_text; reply = B.reply_text }) false (λ number. just_looking start) 1 hall.viewers.items (map looker s.viewers.items)) }
-    ensures talked { IfOk result (λ s. HasTalked (record { answer = B.answer_text; reply = B.reply_text }) s.talked people.entry.own.last s.own.last (X.names hall.exit) lines.old lines.new out.old out.new) }
+    ensures designers { IfOk result (λ s. (start : Story) (authors : List ℕ) → HaveCome start people.entry.sittings.items → All (λ t. IsPrefix t.signed authors) s.sittings.items → AreAttended D.Output D.Comes D.Leaves D.TurnsAway (signed_writing B.answer_text B.reply_text authors) true (λ number. just_come number start) 1 hall.designers.items (map sitter s.sittings.items)) }
+    ensures viewers { IfOk result (λ s. (start : Story) (authors : List ℕ) → All (λ v. looker v ≡ just_looking start) people.entry.viewers.items → All (λ v. IsPrefix v.signed authors) s.viewers.items → AreAttended D.Output D.Comes D.Leaves D.TurnsAway (signed_writing B.answer_text B.reply_text authors) false (λ number. just_looking start) 1 hall.viewers.items (map looker s.viewers.items)) }
+    ensures talked { IfOk result (λ s. (start : Story) (authors : List ℕ) → looker people.entry.own ≡ just_looking start → IsPrefix s.own.signed authors → HasTalked (signed_writing B.answer_text B.reply_text authors) s.talked start s.own.last (X.names hall.exit) lines.old lines.new out.old out.new) }
     ensures flushed { out.new.held ≡ [] }
 {
     let (mut staff, mut own) = seats_of(alloc, people, hall)?;

@@ -1,11 +1,10 @@
 //! A viewer at a seat.
 use crate::hosting::rises::Rises;
 use crate::{Occupant, Refusal};
-use mp_desk::{DeskName, Viewer};
+use mp_desk::{DeskName, SignedVersion, Viewer};
 use mp_netlist::Edit;
-use mp_version::Version;
 use std::alloc::AllocError;
-use std::sync::{Arc, Wait};
+use std::sync::Wait;
 use std::thread::Threads;
 
 /// A viewer, who makes no edits.
@@ -28,7 +27,7 @@ impl<L: DeskName> Occupant for ViewerGuest<L> {
         Err(Refusal::NotADesigner)
     }
 
-    fn read(&mut self) -> Result<Arc<Version>, AllocError> {
+    fn read(&mut self) -> Result<SignedVersion, AllocError> {
         self.viewer.read().map_err(|_| AllocError)
     }
 

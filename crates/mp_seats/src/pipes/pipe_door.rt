@@ -1,13 +1,16 @@
 //! The named pipes of a seat as its door.
+ghost use Rattle.std.specs.Prelude.{◌≡◌};
 
 use crate::hosting::{Door, Ended, Places, SeatPlace};
 use crate::pipes::pipe_paths::PipePaths;
 use mp_streams::{ReadSource, WriteSink};
 use std::fs;
 use std::fs::{File, OpenOptions};
+use std::marker::Model;
 
 /// The named pipes of a seat as its door. Those who come read from one of two pipes, if there are two: each time somebody leaves, the other one takes
-/// the place of the output before this one is closed. So whoever leaves sees the end of the pipe, even if somebody else comes at once.
+/// the place of the output before this one is closed. So whoever leaves sees the end of the pipe, even if somebody else comes at once. A contract sees
+/// the name of the seat, whose pipes these are.
 #[derive(Drop)]
 pub(crate) struct PipeDoor<'a> {
     pub files: &'a HostRuntime,
@@ -18,6 +21,17 @@ pub(crate) struct PipeDoor<'a> {
     pub has_spare: bool,
     /// Whether the second of them is in the place of the output.
     pub is_spare: bool,
+}
+
+impl<'a> Model for PipeDoor<'a> {
+    ghost use Rattle.mp_seats.specs.declared.hosting.seat_place.SeatName.{SeatName};
+    ghost use Rattle.mp_seats.specs.pipes.PipeTexts.{IsAtPaths};
+
+    ghost Value = { SeatName };
+
+    ghost view = { λ door. door.seat.now };
+
+    ghost invariant = { λ door. IsAtPaths door.seat.now door.paths.now };
 }
 
 impl PipeDoor<'_> {
@@ -31,48 +45,53 @@ impl PipeDoor<'_> {
         if self.places.have_ended() {
             return None;
         }
-        let input = File::open(self.files, self.paths.own_input.as_str()).ok()?;
+        let paths = self.paths;
+        let input = File::open(self.files, paths.own_input.as_str()).ok()?;
         Some((input, output))
     }
 
     /// The desk's own path of the first or of the second pipe to read from.
     fn output(&self, is_spare: bool) -> &str {
+        let paths = self.paths;
         if is_spare {
-            self.paths.spare.as_str()
+            paths.spare.as_str()
         } else {
-            self.paths.own_output.as_str()
+            paths.own_output.as_str()
         }
     }
 
     /// Puts the other pipe in the place of the output. If that can't be done, this one stays.
-    fn change_output(&mut self) {
+    fn change_output(&mut self)
+        ensures { self.new ≡ self.old }
+    {
         if !self.has_spare {
             return;
         }
-        let next = self.paths.next.as_str();
+        let paths = self.paths;
+        let next = paths.next.as_str();
         let _ = fs::remove_file(self.files, next);
         let other = !self.is_spare;
         if fs::hard_link(self.files, self.output(other), next).is_err() {
             return;
         }
-        if fs::rename(self.files, next, self.paths.output.as_str()).is_ok() {
+        if fs::rename(self.files, next, paths.output.as_str()).is_ok() {
             self.is_spare = other;
         }
     }
 }
 
 impl Door for PipeDoor<'_> {
+    ghost use Rattle.mp_seats.specs.pipes.PipeDoors.{ComesTo, LeavesFrom, TurnsAwayFrom};
+
     type Input = ReadSource<File>;
 
     type Output = WriteSink<File>;
 
-    // nothing is known of who comes through a pipe
+    ghost Comes = { ComesTo };
 
-    ghost Comes = { λ before inside left taken. Unit {0} };
+    ghost Leaves = { LeavesFrom };
 
-    ghost Leaves = { λ inside after put. Unit {0} };
-
-    ghost TurnsAway = { λ inside after. Unit {0} };
+    ghost TurnsAway = { TurnsAwayFrom };
 
     fn open(&mut self) -> Option<(Self::Input, Self::Output)> {
         if self.places.have_ended() {

@@ -14,8 +14,9 @@ pub(crate) struct PipeExit<'a> {
 impl PipeExit<'_> {
     /// Lets those go who came when no seat could be taken any more, and wait at pipes to which nobody writes or from which nobody reads.
     pub(crate) fn let_go(&self) {
-        self.end_pipes(self.pipes.designers.as_slice());
-        self.end_pipes(self.pipes.viewers.as_slice());
+        let pipes = self.pipes;
+        self.end_pipes(pipes.designers.as_slice());
+        self.end_pipes(pipes.viewers.as_slice());
     }
 
     /// Opens the pipes for both ends and closes them again: whoever waits there to read sees the end.
@@ -40,9 +41,10 @@ impl PipeExit<'_> {
 
     /// Opens a pipe for reading, without waiting. If that can't be done, it is opened for reading and writing.
     fn open_to_read(&self, path: &str) -> Option<File> {
+        let pipes = self.pipes;
         let both = self.open_both(path)?;
         // (somebody can write there now, so this doesn't wait)
-        match File::open(self.pipes.files, path) {
+        match File::open(pipes.files, path) {
             Ok(reader) => Some(reader),
             Err(_) => Some(both),
         }
@@ -50,10 +52,11 @@ impl PipeExit<'_> {
 
     /// Opens a pipe for both ends, which doesn't wait.
     fn open_both(&self, path: &str) -> Option<File> {
+        let pipes = self.pipes;
         OpenOptions::new()
             .read(true)
             .write(true)
-            .open(self.pipes.files, path)
+            .open(pipes.files, path)
             .ok()
     }
 }
@@ -70,10 +73,11 @@ impl Exit for PipeExit<'_> {
 
     type Held = Vec<File>;
 
-    ghost names = { λ exit. exit.pipes.now.places.now.designers ++ exit.pipes.now.places.now.viewers };
+    ghost names = { λ exit. exit.pipes.now.designers ++ exit.pipes.now.viewers };
 
     fn places(&self) -> &Places {
-        self.pipes.places
+        let pipes = self.pipes;
+        pipes.places
     }
 
     fn open_all(&self) -> Vec<File> {

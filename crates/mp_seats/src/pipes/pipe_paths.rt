@@ -1,11 +1,15 @@
 //! The paths of a seat's named pipes.
+ghost use Rattle.std.specs.Prelude.{◌≡◌, IfOk, string_bytes};
+ghost use Rattle.mp_seats.specs.pipes.PipeTexts.{path_in};
+
 use crate::hosting::SeatName;
 use std::alloc::{AllocError, Global};
 use std::fs;
+use std::marker::Model;
 use std::os::unix::fs::{FileTypeExt, MetadataExt};
 
 /// The paths of a seat's named pipes: those by which people know them, and the desk's own links to the same pipes. The desk opens only its own, so it
-/// doesn't matter if somebody removes or replaces the others.
+/// doesn't matter if somebody removes or replaces the others. A contract sees the paths as texts.
 #[derive(Drop)]
 pub(crate) struct PipePaths {
     /// What is written at the seat.
@@ -22,25 +26,35 @@ pub(crate) struct PipePaths {
     pub next: String,
 }
 
+impl Model for PipePaths {
+    ghost use Rattle.std.specs.Prelude.{string_bytes};
+    ghost use Rattle.mp_seats.specs.pipes.PipeTexts.{PathTexts};
+
+    ghost Value = { PathTexts };
+
+    ghost view = { λ p. record { input = string_bytes p.input; output = string_bytes p.output; own_input = string_bytes p.own_input; own_output = string_bytes p.own_output; spare = string_bytes p.spare; next = string_bytes p.next } };
+}
+
 impl PipePaths {
+    ghost use Rattle.std.specs.Prelude.{◌≡◌, IfOk};
+    ghost use Rattle.mp_seats.specs.pipes.PipeTexts.{paths_in};
+
     /// Those of a seat in a folder, with the desk's own in another.
     pub(crate) fn new(
         alloc: Global,
         folder: &str,
         own: &str,
         name: SeatName,
-    ) -> Result<PipePaths, AllocError> {
-        let (kind, number) = match name {
-            SeatName::Designer(number) => ("designer", number),
-            SeatName::Viewer(number) => ("viewer", number),
-        };
+    ) -> Result<PipePaths, AllocError>
+        ensures { IfOk result (λ p. p ≡ paths_in folder.now own.now name) }
+    {
         Ok(PipePaths {
-            input: format!(in alloc; "{folder}/{kind}-{number}.in")?,
-            output: format!(in alloc; "{folder}/{kind}-{number}.out")?,
-            own_input: format!(in alloc; "{own}/{kind}-{number}.in")?,
-            own_output: format!(in alloc; "{own}/{kind}-{number}.out")?,
-            spare: format!(in alloc; "{own}/{kind}-{number}.spare")?,
-            next: format!(in alloc; "{own}/{kind}-{number}.next")?,
+            input: path(alloc, folder, name, ".in")?,
+            output: path(alloc, folder, name, ".out")?,
+            own_input: path(alloc, own, name, ".in")?,
+            own_output: path(alloc, own, name, ".out")?,
+            spare: path(alloc, own, name, ".spare")?,
+            next: path(alloc, own, name, ".next")?,
         })
     }
 
@@ -92,6 +106,16 @@ impl PipePaths {
         let is_there = are_same(files, output, self.own_output.as_str())
             || are_same(files, output, self.spare.as_str());
         if is_there { None } else { Some(output) }
+    }
+}
+
+/// The path of a seat's file in a folder, with this end.
+fn path(alloc: Global, folder: &str, name: SeatName, end: &str) -> Result<String, AllocError>
+    ensures { IfOk result (λ path. string_bytes path ≡ path_in folder.now name end.now) }
+{
+    match name {
+        SeatName::Designer(number) => format!(in alloc; "{folder}/designer-{number}{end}"),
+        SeatName::Viewer(number) => format!(in alloc; "{folder}/viewer-{number}{end}"),
     }
 }
 

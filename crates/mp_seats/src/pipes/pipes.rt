@@ -1,7 +1,9 @@
 //! The named pipes of a desk's seats.
-ghost use Rattle.std.specs.Prelude.{◌≡◌, ◌++◌, [], IfOk};
-ghost use Rattle.mp_seats.specs.hosting.Hostings.{HasConcluded};
+ghost use Rattle.std.specs.Prelude.{◌≡◌, ◌++◌, ℕ, List, [], map, IfOk};
+ghost use Rattle.mp_seats.specs.Replies.{signed_writing};
 ghost use Rattle.mp_seats.specs.hosting.OwnSeats.{HasTalkedWithin};
+ghost use Rattle.mp_seats.specs.pipes.PipeDoors.{IsHostedAtPipes};
+ghost use Rattle.mp_seats.specs.pipes.PipeTexts.{paths_in, IsAtPaths, AreAtPaths};
 
 use crate::ReplyWriter;
 use crate::hosting::{Hall, HostFault, Hosted, Places, SeatPlace, host};
@@ -13,12 +15,14 @@ use mp_text::LineReader;
 use mp_version::EditSession;
 use std::alloc::{AllocError, Global};
 use std::fs;
+use std::marker::Model;
 use std::sync::Wait;
 use std::thread::Threads;
 
 /// The named pipes of all seats of a desk, in one folder: the first designer writes lines to `designer-1.in` and reads answers from `designer-1.out`;
 /// each further designer has such a pair, and so has each viewer from `viewer-1.in` on. The desk opens links of its own to them, in the folder
 /// `.desk` there. If there is a pipe `.desk/designer-1.spare` too, those who come to the first designer's seat read from the two by turns.
+/// A contract sees the names of the seats.
 #[derive(Drop)]
 pub struct Pipes<'a> {
     pub(crate) files: &'a HostRuntime,
@@ -29,13 +33,26 @@ pub struct Pipes<'a> {
     pub(crate) viewers: Vec<PipePaths>,
 }
 
+impl<'a> Model for Pipes<'a> {
+    ghost use Rattle.mp_seats.specs.hosting.Places.{SeatNames};
+    ghost use Rattle.mp_seats.specs.pipes.PipeTexts.{AreAtPaths};
+
+    ghost Value = { SeatNames };
+
+    ghost view = { λ pipes. pipes.places.now };
+
+    ghost invariant = { λ pipes. AreAtPaths pipes.places.now.designers pipes.designers.items × AreAtPaths pipes.places.now.viewers pipes.viewers.items };
+}
+
 impl<'a> Pipes<'a> {
     /// The pipes of these seats in the folder of this path. They needn't be there. The error comes if memory runs out.
     pub fn new(
         files: &'a HostRuntime,
         folder: &str,
         places: &'a Places,
-    ) -> Result<Pipes<'a>, AllocError> {
+    ) -> Result<Pipes<'a>, AllocError>
+        ensures { IfOk result (λ pipes. pipes ≡ places.now) }
+    {
         let own = format!(in files.alloc(); "{folder}/.desk")?;
         let designers = paths_of(files.alloc(), folder, own.as_str(), places.designers())?;
         let viewers = paths_of(files.alloc(), folder, own.as_str(), places.viewers())?;
@@ -92,8 +109,7 @@ impl<'a> Pipes<'a> {
     where
         S::Prepared: Send,
         requires { out.old.held ≡ [] }
-        ensures talked { IfOk result (λ met. HasTalkedWithin (record { answer = B.answer_text; reply = B.reply_text }) met.talked (S.story session) (S.story met.outcome.session) (self.now.places.now.designers ++ self.now.places.now.viewers) lines.old lines.new out.old out.new) }
-        ensures concluded { IfOk result (λ met. HasConcluded (S.story session) (S.story met.outcome.session) met.outcome.tallies.items met.outcome.numbers.items) }
+        ensures hosted { IfOk result (λ met. (authors : List ℕ) × IsHostedAtPipes (signed_writing B.answer_text B.reply_text) authors (S.story session) (S.story met.outcome.session) self.now met.outcome.tallies.items met.outcome.numbers.items × HasTalkedWithin (signed_writing B.answer_text B.reply_text authors) met.talked (S.story session) (S.story met.outcome.session) (self.now.designers ++ self.now.viewers) lines.old lines.new out.old out.new) }
         ensures flushed { out.new.held ≡ [] }
     {
         let hall = self.hall(scribe)?;
@@ -107,7 +123,9 @@ impl<'a> Pipes<'a> {
         &self,
         scribe: B,
     ) -> Result<Hall<PipeDoor<'_>, PipeExit<'_>, B>, AllocError>
-        ensures { IfOk result (λ hall. hall.exit.pipes.now ≡ self.now) }
+        ensures exit { IfOk result (λ hall. hall.exit.pipes.now ≡ self.now) }
+        ensures designers { IfOk result (λ hall. hall.designers.items ≡ self.now.designers) }
+        ensures viewers { IfOk result (λ hall. hall.viewers.items ≡ self.now.viewers) }
     {
         let designers = self.doors(self.designers.as_slice(), self.places.designers())?;
         let viewers = self.doors(self.viewers.as_slice(), self.places.viewers())?;
@@ -119,24 +137,35 @@ impl<'a> Pipes<'a> {
         })
     }
 
-    /// A door for each of some seats.
+    /// A door for each of some seats, which have these pipes.
     fn doors<'b>(
         &'b self,
         paths: &'b [PipePaths],
         seats: &'b [SeatPlace],
-    ) -> Result<Vec<PipeDoor<'b>>, AllocError> {
+    ) -> Result<Vec<PipeDoor<'b>>, AllocError>
+        requires { AreAtPaths seats.now paths.now }
+        ensures { IfOk result (λ doors. doors.items ≡ seats.now) }
+    {
         let mut doors = Vec::with_capacity(self.files.alloc(), seats.len())?;
-        for (paths, seat) in paths.iter().zip(seats) {
-            doors.push(PipeDoor {
-                files: self.files,
-                paths,
-                seat,
-                places: self.places,
-                has_spare: paths.has_spare(self.files),
-                is_spare: false,
-            })?;
+        for place in 0..seats.len() {
+            doors.push(self.door(&paths[place], &seats[place]))?;
         }
         Ok(doors)
+    }
+
+    /// The door of a seat, which has these pipes.
+    fn door<'b>(&'b self, paths: &'b PipePaths, seat: &'b SeatPlace) -> PipeDoor<'b>
+        requires { IsAtPaths seat.now paths.now }
+        ensures { result ≡ seat.now }
+    {
+        PipeDoor {
+            files: self.files,
+            paths,
+            seat,
+            places: self.places,
+            has_spare: paths.has_spare(self.files),
+            is_spare: false,
+        }
     }
 }
 
@@ -146,10 +175,12 @@ fn paths_of(
     folder: &str,
     own: &str,
     seats: &[SeatPlace],
-) -> Result<Vec<PipePaths>, AllocError> {
+) -> Result<Vec<PipePaths>, AllocError>
+    ensures { IfOk result (λ paths. paths.items ≡ map (paths_in folder.now own.now) seats.now) }
+{
     let mut paths = Vec::with_capacity(alloc, seats.len())?;
-    for seat in seats {
-        paths.push(PipePaths::new(alloc, folder, own, seat.name())?)?;
+    for place in 0..seats.len() {
+        paths.push(PipePaths::new(alloc, folder, own, seats[place].name())?)?;
     }
     Ok(paths)
 }

@@ -10,11 +10,12 @@ use Rattle.mp_text.specs.lexing.Lines.{lines_of}
 use Rattle.mp_text.specs.lexing.Divisions.{lines_of_each}
 use Rattle.mp_version.specs.Stories.{Story, opening}
 use Rattle.mp_desk.specs.Extending.{Extends}
-use Rattle.mp_desk.specs.Holders.{Working, Seeing, ExtendsEach}
+use Rattle.mp_desk.specs.Holders.{Working, Seeing, GoesOn, ExtendsEach}
 use Rattle.mp_desk.specs.Holders as holders
 use Rattle.mp_desk.specs.meeting.Sittings.{DesignerTally, begun, HasWorked, WorkedEach}
 use Rattle.mp_desk.specs.meeting.Seats.{working, tally_of}
 use Rattle.mp_desk.specs.meeting.Meetings.{AreWorked, accepted_by, IsMeeting}
+use Rattle.mp_desk.proofs.PrefixLemmas.{prefix_trans}
 use Rattle.mp_desk.proofs.lemmas.meeting.FateLemmas.{among_more, longer, extends_trans}
 
 -- each designer has worked through the block
@@ -99,7 +100,7 @@ seated_fresh ds ss same = subst (All (λ (s : DesignerTally). s ≡ begun (worki
 pub none_more : (now : Story) (numbers : List ℕ) (vs : List Seeing) → length numbers ≡ length vs
     → ((k : ℕ) (v : Seeing) → k < length vs → slice_index numbers k ≡ length (slice_index_or vs k v).last.edits) → All (λ (v : Seeing). Extends now v.last) vs → All (λ (n : ℕ). n ≤ length now.edits) numbers
 none_more now numbers vs count last read k n within =
-    let v : Seeing = record { last = now; learnt = now; reads = [] } in
+    let v : Seeing = record { last = now; learnt = now; reads = []; signed = [] } in
     let under = longer now (slice_index_or vs k v).last (read k v (omega (arith, within, count))) in
     let same = last k v (omega (arith, within, count)) in
     let plain = get_or_default_zero numbers k n within in
@@ -109,8 +110,14 @@ none_more now numbers vs count last read k n within =
 pub came_back : {A : Type 0} (len : ℕ) (new old : List A) → length new ≡ len → take len (new ++ drop (length new) old) ≡ new
 came_back len new old same = ap (λ (n : ℕ). take n (new ++ drop (length new) old)) (sym same) ∙ take-append_seam new (drop (length new) old)
 
--- what a viewer read last extends what this viewer had read, and so does a story that extends that
-pub all_looked : (now : Story) (old new : List Seeing) → length new ≡ length old → ((k : ℕ) (v : Seeing) → k < length new → Extends (slice_index_or new k v).last (slice_index_or old k v).last)
-    → All (λ (v : Seeing). Extends now v.last) new → All (λ (v : Seeing). Extends now v.last) old
-all_looked now old new same later read k v within =
-    extends_trans now (slice_index_or new k v).last (slice_index_or old k v).last (read k v (omega (arith, within, same))) (later k v (omega (arith, within, same)))
+-- what a viewer read last goes on from what this viewer had read, and so does what goes on from that
+pub all_looked : (now : Story) (authors : List ℕ) (old new : List Seeing) → length new ≡ length old
+    → ((k : ℕ) (v : Seeing) → k < length new → GoesOn (slice_index_or new k v).last (slice_index_or new k v).signed (slice_index_or old k v).last (slice_index_or old k v).signed)
+    → All (λ (v : Seeing). GoesOn now authors v.last v.signed) new → All (λ (v : Seeing). GoesOn now authors v.last v.signed) old
+all_looked now authors old new same later read k v within =
+    let a = read k v (omega (arith, within, same)) in
+    let b = later k v (omega (arith, within, same)) in
+    record {
+      extends = extends_trans now (slice_index_or new k v).last (slice_index_or old k v).last a.extends b.extends;
+      begins = prefix_trans (slice_index_or old k v).signed (slice_index_or new k v).signed authors b.begins a.begins;
+    }

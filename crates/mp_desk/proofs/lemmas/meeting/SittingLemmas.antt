@@ -93,8 +93,8 @@ module _ (start : Story) (all : List (List ℕ)) (line : List ℕ) (rest : List 
       (omega (arith, told, size, ap (λ s. length s.edits) seen))
 
   was_refused : (read : Result Line LineError) (story : Story) → said (line ∷ rest) ≡ read ∷ said rest → ((now : Story) → Extends now story → IsFate now read (Refused (length story.edits)))
-      → Extends story old.seen → new ≡ with_refusal old story → SoFar start all rest new
-  was_refused read story says holds extends same =
+      → Extends story old.seen → (authors : List ℕ) → new ≡ with_refusal old story authors → SoFar start all rest new
+  was_refused read story says holds extends authors same =
       let seen : new.seen ≡ story = ap (λ s. s.seen) same in
       let told : new.told ≡ old.told = ap (λ s. s.told) same in
       let long = longer story old.seen extends in
@@ -128,13 +128,13 @@ module _ (start : Story) (all : List (List ℕ)) (line : List ℕ) (rest : List 
       edited : (edit : Edit) → line_at line ≡ Ok (Change edit) → IsAccepted old new edit ⊎ IsRefused old new edit → SoFar start all rest new
       edited edit is (inl h) = was_accepted edit is h.0 h.2 h.1 h.5
       edited edit is (inr h) =
-          was_refused (Ok (Change edit)) h.0 (ap (λ r. unless_empty r (said rest)) is) (λ now more. (h.2, subst (λ s. judged s edit ≡ Err h.2) (sym (up_to-earlier now h.0 more)) h.3)) h.1 h.4
+          was_refused (Ok (Change edit)) h.0 (ap (λ r. unless_empty r (said rest)) is) (λ now more. (h.2, subst (λ s. judged s edit ≡ Err h.2) (sym (up_to-earlier now h.0 more)) h.3)) h.1 h.4 h.6
 
       by : (read : Result Line LineError) → line_at line ≡ read → Takes old new read → SoFar start all rest new
       by (Ok Empty) is h = subst (SoFar start all rest) (sym h) (skipped is)
       by (Ok (Change edit)) is h = edited edit is h
-      by (Ok (Ask question)) is h = was_refused (Ok (Ask question)) old.seen (ap (λ r. unless_empty r (said rest)) is) (λ now more. tt) (extends_self old.seen) h
-      by (Err error) is h = was_refused (Err error) old.seen (ap (λ r. unless_empty r (said rest)) is) (λ now more. tt) (extends_self old.seen) h
+      by (Ok (Ask question)) is h = was_refused (Ok (Ask question)) old.seen (ap (λ r. unless_empty r (said rest)) is) (λ now more. tt) (extends_self old.seen) old.signed h
+      by (Err error) is h = was_refused (Err error) old.seen (ap (λ r. unless_empty r (said rest)) is) (λ now more. tt) (extends_self old.seen) old.signed h
 
 -- all lines were submitted
 pub has_worked : (start : Story) (all : List (List ℕ)) (p : DesignerTally) → SoFar start all [] p → HasWorked start all p
@@ -152,7 +152,7 @@ has_worked start all p h = record {
 pub refused_by_one : (old new : DesignerTally) (read : Result Line LineError) → Takes old new read → new.refused ≤ old.refused + 1
 refused_by_one old new (Ok Empty) h = let e : new.refused ≡ old.refused = ap (λ s. s.refused) h in omega (arith, e)
 refused_by_one old new (Ok (Change edit)) (inl h) = let e : new.refused ≡ old.refused = ap (λ s. s.refused) h.5 in omega (arith, e)
-refused_by_one old new (Ok (Change edit)) (inr h) = let e : new.refused ≡ old.refused + 1 = ap (λ s. s.refused) h.4 in omega (arith, e)
+refused_by_one old new (Ok (Change edit)) (inr h) = let e : new.refused ≡ old.refused + 1 = ap (λ s. s.refused) h.6 in omega (arith, e)
 refused_by_one old new (Ok (Ask question)) h = let e : new.refused ≡ old.refused + 1 = ap (λ s. s.refused) h in omega (arith, e)
 refused_by_one old new (Err error) h = let e : new.refused ≡ old.refused + 1 = ap (λ s. s.refused) h in omega (arith, e)
 

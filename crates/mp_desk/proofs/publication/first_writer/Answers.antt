@@ -16,5 +16,5 @@ returns g c =
     let well : is_ok c.published-writer.result.1 ≡ true = search rules in
     let shown = ok_part c.published-writer.result.1 _ _ c.published-writer.ensures well in
     let pending : drop w.behind w.log.items ≡ c.in_ok-again.again ∷ [] = search rules in
-    let is : c.in_ok-again.again ≡ c.args.prefix.now = search rules in
+    let is : c.in_ok-again.again ≡ c.args.first = search rules in
     (shown.0 ∙ ap (fold (λ _ v. v) w.desk.shown.value) pending ∙ is, shown.1)

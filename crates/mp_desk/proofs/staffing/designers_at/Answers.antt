@@ -1,4 +1,4 @@
-use Rattle.std.proofs.Common.{rules, ◌≡◌, ◌++◌, ◌∷◌, [], All, sym, subst}
+use Rattle.std.proofs.Common.{rules, ◌≡◌, ◌++◌, ◌∷◌, [], sym, subst}
 use Rattle.mp_desk.specs.Knowing.{Known}
 use Rattle.mp_desk.specs.Holders.{AreFresh}
 use Rattle.mp_desk.proofs.StaffLemmas.{all_front, one_more_fresh}

@@ -1,5 +1,5 @@
 -- Blocks of a meeting as lines of a seat.
-use Rattle.std.proofs.Common.{◌≡◌, ℕ, ◌+◌, ◌-◌, ◌^◌, ◌≤◌, min, zero, suc, true, false, List, [], ◌∷◌, ◌++◌, length, map, take, Option, Some, Result, Ok, Err, slice_get, slice_index_or, refl, sym, ap, subst, ◌∙◌, inl, arith}
+use Rattle.std.proofs.Common.{◌≡◌, ℕ, ◌+◌, ◌-◌, ◌^◌, ◌≤◌, min, zero, suc, true, List, [], ◌∷◌, ◌++◌, length, map, take, Option, Some, Result, Ok, Err, slice_get, slice_index_or, refl, sym, ap, subst, ◌∙◌, inl, arith}
 use Rattle.std.proofs.lemmas.List.{append-nil}
 use mathlib.Core.List.{IsPrefix}
 use Rattle.mp_text.specs.declared.lexing.line_error.LineError.{LineError}
@@ -8,6 +8,7 @@ use Rattle.mp_text.specs.declared.script_line.Line.TheVariants.{Empty, Change, A
 use Rattle.mp_text.specs.ScriptLines.{line_at}
 use Rattle.mp_version.specs.Stories.{Story}
 use Rattle.mp_desk.specs.Extending.{Extends}
+use Rattle.mp_desk.specs.Chronicles.{unsigned}
 use Rattle.mp_desk.specs.meeting.Fates.{Fate, Accepted, Refused, said, unless_empty, AreFates}
 use Rattle.mp_desk.specs.meeting.Fates as fates_of
 use Rattle.mp_seats.specs.declared.reply.Reply.TheVariants as replies
@@ -197,7 +198,7 @@ seen_at_seat w now number within line question asks = (
     refused = λ edits. absurd (cc edits);
     told = refl;
     number = refl;
-    begins = ([], refl);
+    begins = (unsigned now, refl);
     signed = λ authors more. tt;
   },
   refl,

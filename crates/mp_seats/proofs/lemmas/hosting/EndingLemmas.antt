@@ -1,5 +1,5 @@
 -- Inputs that have ended.
-use Rattle.std.proofs.Common.{◌≡◌, ℕ, ◌<◌, true, inl, inr, arith}
+use Rattle.std.proofs.Common.{◌≡◌, ℕ, true, inl, inr, arith}
 use Rattle.mp_streams.specs.StreamFaults.{one_more}
 use Rattle.mp_text.specs.lines.Incoming.{Incoming}
 use Rattle.mp_seats.specs.hosting.Endings.{HasEnded}

@@ -1,5 +1,6 @@
 -- What becomes of a designer's edit, at the seat.
 use Rattle.std.proofs.Common.{◌≡◌, ◌+◌, ◌-◌, ◌^◌, min, ℕ, true, Ok, Err, refl, ap, ◌∙◌}
+use mathlib.Core.List.{IsPrefix}
 use Rattle.mp_records.specs.declared.edit.Edit.{Edit}
 use Rattle.mp_records.specs.declared.edit_error.EditError.{EditError}
 use Rattle.mp_desk.specs.Extending.{Extends}
@@ -14,9 +15,9 @@ pub is_accepted : (old new : DesignerTally) (edit : Edit) (n : ℕ) → IsAccept
 is_accepted old new edit n is same = (refl, is.0, is.1, is.2, is.3, is.4, ap sitter is.5, same ∙ ap (λ (s : DesignerTally). s.told) is.5)
 
 -- an edit that is refused changes nothing but what was seen
-pub is_refused : (old new : DesignerTally) (edit : Edit) (error : EditError) → RefusedAfter old.seen new.seen edit error → new ≡ with_seen old new.seen → Extends new.seen old.seen
-    → Submits true (Err (refusals.Refused error)) (sitter old) (sitter new) edit
-is_refused old new edit error refused same extends = (refl, refused, ap sitter same, extends)
+pub is_refused : (old new : DesignerTally) (edit : Edit) (error : EditError) → RefusedAfter old.seen new.seen edit error → new ≡ with_seen old new.seen new.signed → Extends new.seen old.seen
+    → IsPrefix old.signed new.signed → Submits true (Err (refusals.Refused error)) (sitter old) (sitter new) edit
+is_refused old new edit error refused same extends begins = (refl, refused, ap sitter same, extends, begins)
 
 -- a line that is refused or not read is counted
 pub is_counted : (old new : DesignerTally) → new ≡ record old { refused = min (old.refused + 1) (2 ^ 64 - 1) } → sitter new ≡ with_refusal true (sitter old)

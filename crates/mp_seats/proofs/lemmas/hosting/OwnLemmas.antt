@@ -3,6 +3,7 @@ use Rattle.std.proofs.Common.{◌≡◌, ℕ, Bool, true, false, List, [], ◌�
 use Rattle.std.specs.Prelude.{MatchBool}
 use Rattle.std.specs.Bool.{Decides}
 use Rattle.std.specs.List.{list_all}
+use mathlib.Core.List.{IsPrefix}
 use Rattle.mp_streams.specs.Outgoing.{Outgoing}
 use Rattle.mp_streams.specs.WriteErrors.{Writes}
 use Rattle.mp_streams.specs.declared.write_error.WriteError.{WriteError}
@@ -10,21 +11,28 @@ use Rattle.mp_text.specs.lexing.Lines.{is_allowed, line_words}
 use Rattle.mp_text.specs.lexing.Words.{words_of}
 use Rattle.mp_seats.specs.talk.Answers.{PutsAnswer}
 use Rattle.mp_seats.specs.Replies.{Writing}
-use Rattle.mp_seats.specs.Steps.{IsStep}
+use Rattle.mp_seats.specs.Steps.{IsSignedStep}
 use Rattle.mp_seats.specs.declared.hosting.seat_place.SeatName.{SeatName}
 use Rattle.mp_seats.specs.hosting.Places.{TellsOf}
-use Rattle.mp_seats.specs.hosting.OwnSeats.{Owner, IsSeatsLine, IsOwnStep}
+use Rattle.mp_seats.specs.hosting.OwnSeats.{Owner, IsSeatsLine, IsOwnStep, IsSignedOwnStep}
+use Rattle.mp_desk.proofs.PrefixLemmas.{prefix_self}
+use Rattle.mp_seats.proofs.StepLemmas.{step_begins}
 
 -- any other line is answered as at any seat
-pub as_any : {S : Type 0} (w : Writing) (edits : Bool) (r : Result (Unit {0}) WriteError) (old new : Owner) (line : Option (List ℕ)) (a b : Outgoing S)
-    → (IsSeatsLine line → ⊥) → PutsAnswer (IsStep w edits) r old.seated new.seated line a b → new.names ≡ old.names
-    → PutsAnswer (IsOwnStep w edits) r old new line a b
-as_any w edits r old new line a b other puts same = (puts.0, inl (other, puts.1, same), puts.2)
+pub as_any : {S : Type 0} (w : List ℕ → Writing) (edits : Bool) (r : Result (Unit {0}) WriteError) (old new : Owner) (line : Option (List ℕ)) (a b : Outgoing S)
+    → (IsSeatsLine line → ⊥) → PutsAnswer (IsSignedStep w edits) r old.seated new.seated line a b → new.names ≡ old.names
+    → PutsAnswer (IsSignedOwnStep w edits) r old new line a b
+as_any w edits r old new line a b other puts same = (puts.0, (λ authors more. inl (other, puts.1 authors more, same)), puts.2)
 
 -- of each seat is told whether it is taken
-pub told : {S : Type 0} (w : Writing) (edits : Bool) (r : Result (Unit {0}) WriteError) (old new : Owner) (line : Option (List ℕ)) (a b : Outgoing S) → IsSeatsLine line → new ≡ old
-    → (names : List SeatName) → names ≡ old.names → ((text : List ℕ) × TellsOf names text × Writes r a b text) → PutsAnswer (IsOwnStep w edits) r old new line a b
-told w edits r old new line a b asks same names are puts = (puts.0, inr (asks, subst (λ seats. TellsOf seats puts.0) are puts.1, same), puts.2)
+pub told : {S : Type 0} (w : List ℕ → Writing) (edits : Bool) (r : Result (Unit {0}) WriteError) (old new : Owner) (line : Option (List ℕ)) (a b : Outgoing S) → IsSeatsLine line → new ≡ old
+    → (names : List SeatName) → names ≡ old.names → ((text : List ℕ) × TellsOf names text × Writes r a b text) → PutsAnswer (IsSignedOwnStep w edits) r old new line a b
+told w edits r old new line a b asks same names are puts = (puts.0, (λ authors more. inr (asks, subst (λ seats. TellsOf seats puts.0) are puts.1, same)), puts.2)
+
+-- a step of the own seat forgets no author
+pub own_begins : (w : Writing) (edits : Bool) (old : Owner) (line : Option (List ℕ)) (new : Owner) (text : List ℕ) → IsOwnStep w edits old line new text → IsPrefix old.seated.signed new.seated.signed
+own_begins w edits old line new text (inl h) = step_begins w edits old.seated line new.seated text h.1
+own_begins w edits old line new text (inr h) = subst (λ (o : Owner). IsPrefix old.seated.signed o.seated.signed) (sym h.2) (prefix_self old.seated.signed)
 
 -- a line of one word
 pub one_word : (ws : List (List ℕ)) (word : List ℕ) → slice_get ws 0 ≡ Some word → length ws ≡ 1 → ws ≡ word ∷ []

@@ -1,9 +1,10 @@
 -- Those who sit at a desk, as lists.
 use Rattle.std.proofs.Common.{◌≡◌, ◌+◌, ◌<◌, ◌≤◌, ℕ, zero, suc, List, [], ◌∷◌, ◌++◌, length, map, slice_index_or, All, refl, sym, ap, subst, ◌∙◌, append_assoc, length-append, arith}
 use Rattle.std.proofs.lemmas.List.{map-append, length-map}
+use mathlib.Core.List.{IsPrefix}
 use Rattle.mp_version.specs.Stories.{Story}
 use Rattle.mp_desk.specs.Extending.{Extends}
-use Rattle.mp_desk.specs.Holders.{Working, Seeing, fresh_viewer, AreFresh, ExtendsEach}
+use Rattle.mp_desk.specs.Holders.{Working, Seeing, fresh_viewer, AreFresh, ExtendsEach, BeginWithEach}
 use Rattle.mp_desk.specs.meeting.Sittings.{DesignerTally, begun}
 use Rattle.mp_desk.specs.declared.meeting.tally.Tally.{Tally}
 use Rattle.mp_desk.specs.meeting.Seats.{working, HasAdjourned}
@@ -82,9 +83,22 @@ without_last opening ss viewers now tallies numbers last all = record {
   whole = all.whole;
   seen = all.seen;
   counted = all.counted;
-  signed = all.signed;
   tallies_are = all.tallies_are;
   told = front_all (λ (n : ℕ). All (λ (s : DesignerTally). s.told ≤ n) ss) numbers last all.told;
   within = front_all (λ (n : ℕ). n ≤ length now.edits) numbers last all.within;
   viewers_are = let count = all.viewers_are in omega (arith, count, length-append numbers (last ∷ []));
 }
+
+-- what holds of all on one side holds of all on the other
+pub all_through : {A B C : Type 0} (P : C → Type 0) (f : A → C) (g : B → C) (xs : List A) (ys : List B) → map f xs ≡ map g ys → All (λ x. P (f x)) xs → All (λ y. P (g y)) ys
+all_through P f g [] [] same h k d within = absurd (omega (arith, within))
+all_through P f g [] (y ∷ ys) same h k d within = absurd (cc same)
+all_through P f g (x ∷ xs) [] same h k d within = absurd (omega (arith, within))
+all_through P f g (x ∷ xs) (y ∷ ys) same h zero d within = let head : f x ≡ g y = cc same in subst P head (h 0 x (omega arith))
+all_through P f g (x ∷ xs) (y ∷ ys) same h (suc k) d within = all_through P f g xs ys (cc same) (λ j e w. h (suc j) e (omega (arith, w))) k d (omega (arith, within))
+
+-- the authors begin with what each designer has seen
+pub begin_each : (authors : List ℕ) (ss : List DesignerTally) → BeginWithEach authors (map working ss) → All (λ (s : DesignerTally). IsPrefix s.signed authors) ss
+begin_each authors [] begin k s within = absurd (omega (arith, within))
+begin_each authors (x ∷ xs) begin zero s within = begin.0
+begin_each authors (x ∷ xs) begin (suc k) s within = begin_each authors xs begin.1 k s (omega (arith, within))

@@ -1,8 +1,9 @@
 -- What those who come to a seat claim in the story, and what all seats do.
-use Rattle.std.proofs.Common.{◌≡◌, ℕ, ◌+◌, ◌-◌, ◌<◌, ◌≤◌, suc, Bool, true, List, [], ◌∷◌, ◌++◌, length, map, slice_index_or, All, Option, refl, sym, ap, subst, ◌∙◌, inl, inr, length-append, arith}
+use Rattle.std.proofs.Common.{◌≡◌, ℕ, ◌+◌, ◌-◌, ◌<◌, ◌≤◌, suc, Bool, true, List, [], ◌∷◌, length, map, slice_index_or, All, Option, refl, sym, ap, subst, inl, inr, length-append, arith}
 use mathlib.Core.List.{IsPrefix}
 use Rattle.mp_version.specs.Stories.{Story}
-use Rattle.mp_desk.specs.Holders.{ExtendsEach, accepted_by, BeginWithEach, IsSigned}
+use Rattle.mp_desk.specs.Chronicles.{unsigned}
+use Rattle.mp_desk.specs.Holders.{ExtendsEach, accepted_by, BeginWithEach}
 use Rattle.mp_desk.proofs.PrefixLemmas.{prefix_self, prefix_trans, extends_self, extends_length}
 use Rattle.mp_desk.specs.meeting.Sittings.{DesignerTally}
 use Rattle.mp_desk.specs.meeting.Seats.{working}
@@ -10,8 +11,9 @@ use Rattle.mp_seats.specs.Marks.{Mark, AcceptedAt, RefusedAt, AnsweredAt, Rise, 
 use Rattle.mp_seats.specs.Replies.{Writing}
 use Rattle.mp_seats.specs.Steps.{Seated}
 use Rattle.mp_seats.specs.hosting.Guests.{sitter, just_come}
-use Rattle.mp_seats.specs.hosting.Claims.{times_claimed, AreClaimed}
+use Rattle.mp_seats.specs.hosting.Claims.{times_claimed, AreClaimed, AreAllSigned}
 use Rattle.mp_seats.specs.hosting.Stays.{IsStay, AreStays, AreAttended, claims_of_stay, claims_of_stays, claims}
+use Rattle.mp_seats.proofs.lemmas.hosting.StayLemmas.{stay_begins}
 use Rattle.mp_seats.proofs.lemmas.hosting.ClaimLemmas.{AreRising, rising_sooner, rising_later, rising_append, signed_append, AreBelow, below_more, below_append, times_below, AreClaims, count_claims, all_claimed}
 
 marks_rise : (seen last : ℕ) (marks : List Mark) → Rise seen last marks → AreRising seen last (places_of marks)
@@ -41,10 +43,6 @@ module _ (T : Type 0) {D : Type 0} (Comes : D → D → Option (List ℕ) → Op
   stay_number : (seat last : Seated) (before after : D) → IsStay T Comes Leaves TurnsAway w edits seat last before after → last.number ≡ seat.number
   stay_number seat last before after (inl left) = left.served.visit.seat.number
   stay_number seat last before after (inr turned) = ap (λ (s : Seated). s.number) turned.same
-
-  stay_begins : (seat last : Seated) (before after : D) → IsStay T Comes Leaves TurnsAway w edits seat last before after → IsPrefix seat.signed last.signed
-  stay_begins seat last before after (inl left) = left.served.visit.seat.begins
-  stay_begins seat last before after (inr turned) = subst (λ (s : Seated). IsPrefix seat.signed s.signed) (sym turned.same) (prefix_self seat.signed)
 
   stay_rises : (seat last : Seated) (before after : D) (stay : IsStay T Comes Leaves TurnsAway w edits seat last before after)
       → AreRising (length seat.seen.edits) (length last.seen.edits) (claims_of_stay T Comes Leaves TurnsAway w edits seat last before after stay)
@@ -79,7 +77,7 @@ module _ (T : Type 0) {D : Type 0} (Comes : D → D → Option (List ℕ) → Op
       → IsPrefix seat.signed last.signed
   stays_begin seat door [] last end are = subst (λ (s : Seated). IsPrefix seat.signed s.signed) (sym are.0) (prefix_self seat.signed)
   stays_begin seat door (next ∷ others) last end are =
-      prefix_trans seat.signed next.0.signed last.signed (stay_begins seat next.0 door next.1 are.0) (stays_begin next.0 next.1 others last end are.1)
+      prefix_trans seat.signed next.0.signed last.signed (stay_begins T Comes Leaves TurnsAway w edits seat next.0 door next.1 are.0) (stays_begin next.0 next.1 others last end are.1)
 
   stays_rise : (seat : Seated) (door : D) (stays : List (Seated × D)) (last : Seated) (end : D) (are : AreStays T Comes Leaves TurnsAway w edits seat door stays last end)
       → AreRising (length seat.seen.edits) (length last.seen.edits) (claims_of_stays T Comes Leaves TurnsAway w edits seat door stays last end are)
@@ -136,6 +134,27 @@ module _ (T : Type 0) {D : Type 0} (Comes : D → D → Option (List ℕ) → Op
     seats_claim authors (number + 1) doors ss are.1 extends.1 begin.1,
   )
 
+  -- the places of each seat have its number as their author
+  pub seats_signed : (authors : List ℕ) (number : ℕ) (doors : List D) (ss : List DesignerTally)
+      (are : AreAttended T Comes Leaves TurnsAway w true (λ n. just_come n first) number doors (map sitter ss)) → BeginWithEach authors (map working ss)
+      → AreAllSigned authors number (claims T Comes Leaves TurnsAway w true (λ n. just_come n first) number doors (map sitter ss) are)
+  seats_signed authors number [] [] are begin = tt
+  seats_signed authors number [] (s ∷ ss) are begin = absurd are
+  seats_signed authors number (door ∷ doors) [] are begin = absurd are
+  seats_signed authors number (door ∷ doors) (s ∷ ss) are begin = (
+    stays_signed T Comes Leaves TurnsAway w true authors (just_come number first) door are.0.1.stays (sitter s) are.0.0 are.0.1.are begin.0,
+    seats_signed authors (number + 1) doors ss are.1 begin.1,
+  )
+
+  -- nobody at the desk made the edits of the first story
+  pub older_unsigned : (authors : List ℕ) (number : ℕ) (doors : List D) (ss : List DesignerTally)
+      (are : AreAttended T Comes Leaves TurnsAway w true (λ n. just_come n first) number doors (map sitter ss)) → 0 < length doors → BeginWithEach authors (map working ss)
+      → IsPrefix (unsigned first) authors
+  older_unsigned authors number [] ss are some begin = absurd (omega (arith, some))
+  older_unsigned authors number (door ∷ doors) [] are some begin = absurd are
+  older_unsigned authors number (door ∷ doors) (s ∷ ss) are some begin =
+      prefix_trans (unsigned first) s.signed authors (stays_begin T Comes Leaves TurnsAway w true (just_come number first) door are.0.1.stays (sitter s) are.0.0 are.0.1.are) begin.0
+
   seats_count : (number : ℕ) (doors : List D) (ss : List DesignerTally) (are : AreAttended T Comes Leaves TurnsAway w true (λ n. just_come n first) number doors (map sitter ss))
       → accepted_by (map working ss) ≡ count_claims (claims T Comes Leaves TurnsAway w true (λ n. just_come n first) number doors (map sitter ss) are)
   seats_count number [] [] are = omega arith
@@ -148,11 +167,11 @@ module _ (T : Type 0) {D : Type 0} (Comes : D → D → Option (List ℕ) → Op
 
   -- each edit behind those of the first story has its place by one line of one seat
   pub claimed_once : (doors : List D) (ss : List DesignerTally) (are : AreAttended T Comes Leaves TurnsAway w true (λ n. just_come n first) 1 doors (map sitter ss)) → ExtendsEach now (map working ss)
-      → IsSigned now (map working ss) → length now.edits ≡ length first.edits + accepted_by (map working ss)
+      → (authors : List ℕ) → BeginWithEach authors (map working ss) → length now.edits ≡ length first.edits + accepted_by (map working ss)
       → AreClaimed (length first.edits) (length now.edits) (claims T Comes Leaves TurnsAway w true (λ n. just_come n first) 1 doors (map sitter ss) are)
-  claimed_once doors ss are extends signed counted =
-      all_claimed signed.0 (length first.edits) (length now.edits) (claims T Comes Leaves TurnsAway w true (λ n. just_come n first) 1 doors (map sitter ss) are)
-      (seats_claim signed.0 1 doors ss are extends signed.2) (let all = seats_count 1 doors ss are in omega (arith, counted, all))
+  claimed_once doors ss are extends authors begin counted =
+      all_claimed authors (length first.edits) (length now.edits) (claims T Comes Leaves TurnsAway w true (λ n. just_come n first) 1 doors (map sitter ss) are)
+      (seats_claim authors 1 doors ss are extends begin) (let all = seats_count 1 doors ss are in omega (arith, counted, all))
 
   -- no place is claimed from a number on that is no less than what each seat was told
   none_claimed : (place n : ℕ) → n ≤ place → (number : ℕ) (doors : List D) (ss : List DesignerTally) (are : AreAttended T Comes Leaves TurnsAway w true (λ n. just_come n first) number doors (map sitter ss))

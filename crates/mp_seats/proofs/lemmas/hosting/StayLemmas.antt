@@ -1,11 +1,12 @@
 -- Those who come to a seat, one behind the other.
 use Rattle.std.proofs.Common.{◌≡◌, ◌+◌, ◌<◌, ℕ, zero, suc, Bool, List, [], ◌∷◌, ◌++◌, length, map, slice_index_or, All, Option, refl, sym, ap, subst, ◌∙◌, inl, inr, arith}
+use mathlib.Core.List.{IsPrefix}
 use Rattle.mp_version.specs.Stories.{Story}
 use Rattle.mp_desk.specs.Extending.{Extends}
-use Rattle.mp_desk.proofs.PrefixLemmas.{extends_self, extends_trans}
+use Rattle.mp_desk.proofs.PrefixLemmas.{prefix_self, prefix_trans, extends_self, extends_trans}
 use Rattle.mp_seats.specs.Replies.{Writing}
 use Rattle.mp_seats.specs.Steps.{Seated}
-use Rattle.mp_seats.specs.hosting.Stays.{IsServed, IsStay, AreStays, WasAttended, AreAttended, Each}
+use Rattle.mp_seats.specs.hosting.Stays.{IsServed, IsStay, IsSignedStay, AreStays, WasAttended, WasSignedAttended, AreAttended, Each}
 
 module _ (T : Type 0) {D : Type 0} (Comes : D → D → Option (List ℕ) → Option (List ℕ) → Type 0) (Leaves : D → D → Option (List ℕ) → Type 0) (TurnsAway : D → D → Type 0) (w : Writing) (edits : Bool) where
   -- nobody came yet
@@ -51,6 +52,11 @@ module _ (T : Type 0) {D : Type 0} (Comes : D → D → Option (List ℕ) → Op
   no_more_stay seat door seat' door' last end attended same_seat same_door =
       subst (λ s. WasAttended T Comes Leaves TurnsAway w edits seat door s end) (sym same_seat)
       (subst (λ d. WasAttended T Comes Leaves TurnsAway w edits seat door seat' d) (sym same_door) attended)
+
+  -- who came and left forgot no author
+  pub stay_begins : (seat last : Seated) (before after : D) → IsStay T Comes Leaves TurnsAway w edits seat last before after → IsPrefix seat.signed last.signed
+  stay_begins seat last before after (inl left) = left.served.visit.seat.begins
+  stay_begins seat last before after (inr turned) = subst (λ (s : Seated). IsPrefix seat.signed s.signed) (sym turned.same) (prefix_self seat.signed)
 
   -- ---- what was seen goes forward
 
@@ -103,3 +109,40 @@ module _ (T : Type 0) {D : Type 0} (Comes : D → D → Option (List ℕ) → Op
     all_attended of people doors old new seats came same_doors same each =
         subst (λ ds. AreAttended T Comes Leaves TurnsAway w edits start 1 ds (map seat new)) same_doors
         (posts_attended 1 old new same (λ k j p at within. all_came of people old (λ n. start (n + 1)) seats came k p within ∙ ap start (let e : k + 1 ≡ j = omega (arith, at) in e)) each)
+
+-- those who came, whoever makes the edits to come
+module _ (T : Type 0) {D : Type 0} (Comes : D → D → Option (List ℕ) → Option (List ℕ) → Type 0) (Leaves : D → D → Option (List ℕ) → Type 0) (TurnsAway : D → D → Type 0) (w : List ℕ → Writing) (edits : Bool) where
+  pub signed_nobody : (seat : Seated) (door : D) → WasSignedAttended T Comes Leaves TurnsAway w edits seat door seat door
+  signed_nobody seat door authors more = nobody_came T Comes Leaves TurnsAway (w authors) edits seat door
+
+  pub signed_one_more : (seat : Seated) (door : D) (seat' : Seated) (door' : D) (last : Seated) (end : D)
+      → WasSignedAttended T Comes Leaves TurnsAway w edits seat door seat' door' → IsSignedStay T Comes Leaves TurnsAway w edits seat' last door' end
+      → WasSignedAttended T Comes Leaves TurnsAway w edits seat door last end
+  signed_one_more seat door seat' door' last end attended stay authors more =
+      let here = stay authors more in
+      let before = prefix_trans seat'.signed last.signed authors (stay_begins T Comes Leaves TurnsAway (w authors) edits seat' last door' end here) more in
+      one_more_stay T Comes Leaves TurnsAway (w authors) edits seat door seat' door' last end (attended authors before) here
+
+  pub signed_no_more : (seat : Seated) (door : D) (seat' : Seated) (door' : D) (last : Seated) (end : D)
+      → WasSignedAttended T Comes Leaves TurnsAway w edits seat door seat' door' → last ≡ seat' → end ≡ door' → WasSignedAttended T Comes Leaves TurnsAway w edits seat door last end
+  signed_no_more seat door seat' door' last end attended same_seat same_door authors more =
+      no_more_stay T Comes Leaves TurnsAway (w authors) edits seat door seat' door' last end (attended authors (subst (λ (s : Seated). IsPrefix s.signed authors) same_seat more)) same_seat same_door
+
+  -- who came was served and left
+  pub signed_served : (start last : Seated) (before inside after : D) (left left' taken taken' put : Option (List ℕ)) → Comes before inside left taken → left' ≡ left → taken' ≡ taken
+      → ((authors : List ℕ) → IsPrefix last.signed authors → IsServed T (w authors) edits left' taken' start last put) → Leaves inside after put
+      → IsSignedStay T Comes Leaves TurnsAway w edits start last before after
+  signed_served start last before inside after left left' taken taken' put comes same_left same_taken served leaves authors more =
+      served_stay T Comes Leaves TurnsAway (w authors) edits start last before inside after left left' taken taken' put comes same_left same_taken (served authors more) leaves
+
+  -- who came was turned away
+  pub signed_turned : (start : Seated) (before inside after : D) (left taken : Option (List ℕ)) → Comes before inside left taken → TurnsAway inside after
+      → IsSignedStay T Comes Leaves TurnsAway w edits start start before after
+  signed_turned start before inside after left taken comes turns authors more =
+      turned_stay T Comes Leaves TurnsAway (w authors) edits start before inside after left taken comes turns
+
+  -- the posts that were attended, once all edits have their authors
+  pub each_attended : {P : Type 0} (seat : P → Seated) (door : P → D) (authors : List ℕ) (old new : List P) → length new ≡ length old
+      → Each (λ p q. WasSignedAttended T Comes Leaves TurnsAway w edits (seat p) (door p) (seat q) (door q)) old new → All (λ q. IsPrefix (seat q).signed authors) new
+      → Each (λ p q. WasAttended T Comes Leaves TurnsAway (w authors) edits (seat p) (door p) (seat q) (door q)) old new
+  each_attended seat door authors old new same each begin k p within = each k p within authors (begin k p (omega (arith, within, same)))

@@ -1,5 +1,5 @@
 -- Answers in turn.
-use Rattle.std.proofs.Common.{◌≡◌, ℕ, List, [], ◌∷◌, ◌++◌, append_assoc, Option, Result, Ok, Err, refl, sym, ap, subst, ◌∙◌}
+use Rattle.std.proofs.Common.{◌≡◌, ℕ, List, [], ◌∷◌, ◌++◌, append_assoc, map, Option, Result, Ok, Err, refl, sym, ap, subst, ◌∙◌}
 use Rattle.std.proofs.lemmas.List.{append-nil}
 use Rattle.mp_streams.specs.Outgoing.{Outgoing}
 use Rattle.mp_streams.specs.Outgoing as outs
@@ -7,7 +7,13 @@ use Rattle.mp_streams.specs.declared.failed.Failed.{Failed}
 use Rattle.mp_streams.specs.declared.write_error.WriteError.{WriteError}
 use Rattle.mp_streams.specs.declared.write_error.WriteError.TheVariants as writes
 use Rattle.mp_streams.proofs.FlushLemmas.{passed_on, not_passed_on}
-use Rattle.mp_seats.specs.talk.Answers.{Answering, AreAnswers, PutsAnswer}
+use mathlib.Core.List.{IsPrefix}
+use Rattle.mp_text.specs.lines.Given.{given}
+use Rattle.mp_text.specs.lines.Incoming.{Incoming}
+use Rattle.mp_desk.proofs.PrefixLemmas.{prefix_trans}
+use Rattle.mp_seats.specs.declared.talk.talk_fault.TalkFault.{TalkFault}
+use Rattle.mp_seats.specs.talk.Answers.{Answering, ForAllAuthors, AreAnswers, PutsAnswer}
+use Rattle.mp_seats.specs.talk.Conversations.{Conversed}
 
 module _ {S K : Type 0} (Answers : Answering K) where
   -- an answer that is passed on
@@ -44,3 +50,29 @@ module _ {K : Type 0} (Answers : Answering K) where
         one_more line second here next lines later piece rest after,
         ap (λ l. l ++ piece) is ∙ append_assoc front later piece,
       )
+
+-- answers that hold whoever makes the edits to come are answers by the authors of all edits in the end
+module _ {K : Type 0} (signed : K → List ℕ) (Answers : List ℕ → Answering K)
+    (begins : (authors : List ℕ) (old : K) (line : Option (List ℕ)) (new : K) (text : List ℕ) → Answers authors old line new text → IsPrefix (signed old) (signed new)) (authors : List ℕ) where
+  all_by : (first : K) (lines : List (Option (List ℕ))) (last : K) (text : List ℕ) → AreAnswers (ForAllAuthors signed Answers) first lines last text → IsPrefix (signed last) authors
+      → AreAnswers (Answers authors) first lines last text × IsPrefix (signed first) authors
+  unfolding AreAnswers
+  all_by first [] last text are more = (are, subst (λ k. IsPrefix (signed k) authors) are.0 more)
+  all_by first (line ∷ lines) last text are more =
+      let (next, piece, later, step, rest, is) = are in
+      let others = all_by next lines last later rest more in
+      let here = step authors others.1 in
+      ((next, piece, later, here, others.0, is), prefix_trans (signed first) (signed next) authors (begins authors first line next piece here) others.1)
+
+  pub conversed_by : {S : Type 0} (r : Result (Unit {0}) TalkFault) (first last : K) (old new : Incoming) (a b : Outgoing S) → Conversed (ForAllAuthors signed Answers) r first last old new a b
+      → IsPrefix (signed last) authors → Conversed (Answers authors) r first last old new a b
+  conversed_by r first last old new a b talk more = record {
+    bytes = talk.bytes;
+    lines = talk.lines;
+    rest = talk.rest;
+    text = talk.text;
+    taken = talk.taken;
+    split = talk.split;
+    answers = (all_by first (map given talk.lines) last talk.text talk.answers more).0;
+    closes = talk.closes;
+  }

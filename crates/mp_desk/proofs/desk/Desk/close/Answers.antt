@@ -1,7 +1,7 @@
 use Rattle.std.proofs.Common.{◌≡◌, rules, arith, All, ap, subst, vec_len}
 use Rattle.mp_version.specs.Stories.{Story}
 use Rattle.mp_desk.specs.Extending.{Extends}
-use Rattle.mp_desk.specs.Holders.{ExtendsEach, Seeing}
+use Rattle.mp_desk.specs.Holders.{ExtendsEach, Seeing, GoesOn}
 use Rattle.mp_desk.proofs.desk.Desk.close.Goals as goal
 
 pub returns-clause-seen : goal.returns-clause-seen
@@ -12,7 +12,16 @@ returns-clause-seen g c =
 pub returns-clause-read : goal.returns-clause-read
 returns-clause-read g c =
     let shown : c.session.inside.publication.story ≡ g.S.EditSession.story c.session.inside.session = ap (λ p. p.story) c.session.invariant.0 in
-    subst (λ (z : Story). All (λ (v : Seeing). Extends z v.last) c.args.viewers.now) shown c.part_viewers.ensures.extends
+    subst (λ (z : Story). All (λ (v : Seeing). Extends z v.last) c.args.viewers.now) shown (λ k v within. (c.part_viewers.ensures.looked k v within).extends)
+
+pub returns-clause-signed : goal.returns-clause-signed
+returns-clause-signed g c =
+    let shown : c.session.inside.publication.story ≡ g.S.EditSession.story c.session.inside.session = ap (λ p. p.story) c.session.invariant.0 in (
+      c.session.inside.writer.authors,
+      c.session.invariant.3,
+      c.part_designers.ensures.signed,
+      subst (λ (z : Story). All (λ (v : Seeing). GoesOn z c.session.inside.writer.authors v.last v.signed) c.args.viewers.now) shown c.part_viewers.ensures.looked,
+    )
 
 pub returns-clause-counted : goal.returns-clause-counted
 returns-clause-counted g c =

@@ -1,4 +1,4 @@
-use Rattle.std.proofs.Common.{◌≡◌, ◌≤◌, ◌+◌, ◌∷◌, ◌++◌, [], length, length-append, sym, ap, ◌∙◌, subst, arith}
+use Rattle.std.proofs.Common.{◌≡◌, ◌+◌, ◌∷◌, ◌++◌, [], length, length-append, sym, ap, ◌∙◌, subst, arith}
 use Rattle.std.specs.Arc.{arc_value}
 use mathlib.Core.List.{IsPrefix}
 use Rattle.mp_version.specs.Stories.{Story}
@@ -38,9 +38,9 @@ returns-clause-signed g c =
     let before : length step.before.edits ≡ length story.edits = ap (λ (s : Story). length s.edits) (c.requires.fits ∙ sym c.self.view_is) in
     let size : length version.edits ≡ length step.before.edits + 1 = ap (λ (s : Story). length s.edits) is ∙ length-append step.before.edits (step.edit ∷ []) in
     let seen : length c.args.me.now.seen.edits ≡ length story.edits = ap (λ (s : Story). length s.edits) (c.requires.seen ∙ sym c.self.view_is) in
-    let mine : length c.args.me.now.signed ≤ length c.args.me.now.seen.edits = subst (λ d. length d.signed ≤ length d.seen.edits) c.me.view_is c.me.invariant.3 in (
+    let mine : length c.args.me.now.signed ≡ length c.args.me.now.seen.edits = subst (λ d. length d.signed ≡ length d.seen.edits) c.me.view_is c.me.invariant.3 in (
       authors,
       prefix_before c.args.me.now.signed authors c.args.me.now.number (subst (IsPrefix c.args.me.now.signed) added c.catch_up.ensures.begins) (omega (arith, mine, seen, each)),
       omega (arith, each, before, size),
-      c.sign.ensures.signed ∙ added,
+      c.count.ensures.same.2 ∙ c.catch_up.ensures.signed ∙ added,
     )

@@ -1,5 +1,6 @@
 use Rattle.std.proofs.Common.{◌≡◌, ◌∷◌, ◌++◌, [], ap, ◌∙◌, subst}
 use mathlib.Core.List.{IsPrefix}
+use Rattle.mp_desk.proofs.PrefixLemmas.{prefix_trans}
 use Rattle.mp_desk.proofs.RefusalLemmas.{refused_for_memory}
 use Rattle.mp_desk.proofs.desk_state.DeskState.submit.Goals as goal
 
@@ -14,7 +15,7 @@ returns-clause-signed g c =
     let before = c.in-Some.ensures.signed.0 in
     let signs = c.in-Some.ensures.signed in (
       before,
-      subst (λ authors. IsPrefix authors before) c.catch_up.ensures.same.2 signs.1,
+      prefix_trans c.args.me.now.signed c.self.inside.writer.authors before c.catch_up.ensures.begins (subst (λ authors. IsPrefix authors before) c.catch_up.ensures.signed signs.1),
       signs.2,
       signs.3 ∙ ap (λ n. before ++ n ∷ []) c.catch_up.ensures.same.1,
     )

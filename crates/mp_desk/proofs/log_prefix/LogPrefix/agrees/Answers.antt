@@ -1,6 +1,5 @@
 use Rattle.std.proofs.Common.{◌≡◌, List, ap, subst, length, ◌≤◌}
 use mathlib.Core.List.{IsPrefix}
-use Rattle.mp_version.specs.Stories.{Story}
 use Rattle.mp_desk.specs.declared.chronicle.HistoryEntry.{HistoryEntry}
 use Rattle.mp_desk.specs.Chronicles.{latest}
 use Rattle.mp_desk.proofs.ChainLemmas.{longer_extends}

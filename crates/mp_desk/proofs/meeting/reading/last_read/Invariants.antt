@@ -7,4 +7,5 @@ abbrev pub invariant-loop-place : goal.invariant-loop-place
 invariant-loop-place g l = record {
   told : (k : ℕ) (s : DesignerTally) → k < l.place → (slice_index_or l.sittings k s).told ≤ length l.viewer.learnt.edits;
   same : l.viewer.last ≡ l.initial.viewer.last;
+  signed : l.viewer.signed ≡ l.initial.viewer.signed;
 }

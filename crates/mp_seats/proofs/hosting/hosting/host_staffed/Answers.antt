@@ -1,15 +1,16 @@
 use Rattle.std.proofs.Common.{◌≡◌, ◌+◌, ◌<◌, ◌∷◌, ◌++◌, [], ℕ, List, true, length, map, vec_len, All, sym, ap, subst, length-append, arith}
+use mathlib.Core.List.{IsPrefix}
 use Rattle.mp_version.specs.Stories.{Story}
 use Rattle.mp_desk.specs.Extending.{Extends}
-use Rattle.mp_desk.specs.Holders.{Seeing, fresh_viewer, accepted_by}
+use Rattle.mp_desk.specs.Holders.{Seeing, fresh_viewer, IsSigned}
 use Rattle.mp_desk.specs.declared.meeting.tally.Tally.{Tally}
 use Rattle.mp_desk.specs.meeting.Seats.{working, HasAdjourned}
-use Rattle.mp_seats.specs.Replies.{Writing}
-use Rattle.mp_seats.specs.hosting.Guests.{sitter, looker, just_come}
+use Rattle.mp_seats.specs.Replies.{Writing, signed_writing}
+use Rattle.mp_seats.specs.hosting.Guests.{sitter, looker, just_come, just_looking}
 use Rattle.mp_seats.specs.hosting.OwnSeats.{HasTalked}
-use Rattle.mp_seats.proofs.lemmas.hosting.PeopleLemmas.{front_all, last_all, sitters_came, lookers_came, sitters_extend, lookers_extend, without_last}
+use Rattle.mp_seats.proofs.lemmas.hosting.PeopleLemmas.{front_all, last_all, begin_each, sitters_came, lookers_came, sitters_extend, lookers_extend, without_last}
 use Rattle.mp_seats.proofs.lemmas.hosting.StayLemmas.{first_extends}
-use Rattle.mp_seats.proofs.lemmas.hosting.SeatClaims.{claimed_once, all_seen}
+use Rattle.mp_seats.proofs.lemmas.hosting.SeatClaims.{claimed_once, seats_signed, older_unsigned, all_seen}
 use Rattle.mp_seats.proofs.hosting.hosting.host_staffed.Goals as goal
 
 pub returns-clause-hosted : goal.returns-clause-hosted
@@ -19,7 +20,8 @@ returns-clause-hosted g c = λ start designers viewers opening.
     let numbers = c.without_own.result.numbers.items in
     let sittings = c.in_ok-sittings-2.field-0.sittings in
     let vs = c.in_ok-sittings-2.field-0.viewers in
-    let writing : Writing = record { answer = g.B.ReplyWriter.answer_text; reply = g.B.ReplyWriter.reply_text } in
+    let writing : List ℕ → Writing = signed_writing g.B.ReplyWriter.answer_text g.B.ReplyWriter.reply_text in
+    let own = c.in_ok-sittings-2.field-0.own in
     let before = c.in_ok-outcome.outcome in
     let same : now ≡ g.S.EditSession.story before.session = ap g.S.EditSession.story c.without_own.ensures.same.0 in
     let same_tallies : tallies ≡ before.tallies.items = ap (λ v. v.items) c.without_own.ensures.same.1 in
@@ -28,7 +30,12 @@ returns-clause-hosted g c = λ start designers viewers opening.
     (subst (All (λ (v : Seeing). Extends (g.S.EditSession.story before.session) v.last)) c.in_ok-push.ensures.items c.in_ok-outcome.ensures.looked) in
     let others : All (λ (v : Seeing). v ≡ fresh_viewer start) c.pop.new.self.items =
     front_all (λ (v : Seeing). v ≡ fresh_viewer start) c.pop.new.self.items c.in-Some.own (subst (All (λ (v : Seeing). v ≡ fresh_viewer start)) c.in-Some.ensures.items viewers) in
-    let edited = c.in_ok-sittings-2.ensures.designers start (sitters_came start c.args.staffed.designers.items c.in_ok-sittings.sittings.items c.in_ok-sittings.ensures designers) in
+    let made = subst (λ (z : Story). IsSigned z (map working sittings.items) (vs.items ++ own ∷ [])) (sym same)
+    (subst (IsSigned (g.S.EditSession.story before.session) (map working sittings.items)) c.in_ok-push.ensures.items c.in_ok-outcome.ensures.signed) in
+    let authors : List ℕ = made.0 in
+    let begin = made.2 in
+    let read_by : All (λ (v : Seeing). IsPrefix v.signed authors) (vs.items ++ own ∷ []) = λ k v within. (made.3 k v within).begins in
+    let edited = c.in_ok-sittings-2.ensures.designers start authors (sitters_came start c.args.staffed.designers.items c.in_ok-sittings.sittings.items c.in_ok-sittings.ensures designers) (begin_each authors sittings.items begin) in
     let many : vec_len vs ≡ length c.args.hall.viewers.items = omega (arith, c.in_ok-sittings-2.ensures.counts.1, c.in-Some.ensures.cases, c.requires.viewers, c.args.hall.viewers.ok.0) in
     let some : 0 < length c.args.hall.designers.items = omega (arith, c.requires.some, c.args.hall.designers.ok.0) in
     let pushed : vec_len c.push.new.self ≡ length c.args.hall.viewers.items + 1 =
@@ -43,40 +50,31 @@ returns-clause-hosted g c = λ start designers viewers opening.
     (subst (λ (n : ℕ). HasAdjourned c.args.staffed.desk.opening sittings.items n (g.S.EditSession.story before.session) before.tallies.items before.numbers.items) pushed
     c.in_ok-outcome.ensures.adjourned))))) in
     let claimed =
-    claimed_once g.row.D-Output.Denot g.D.Door.Comes g.D.Door.Leaves g.D.Door.TurnsAway writing start now c.args.hall.designers.items sittings.items edited adjourned.seen adjourned.signed
+    claimed_once g.row.D-Output.Denot g.D.Door.Comes g.D.Door.Leaves g.D.Door.TurnsAway (writing authors) start now c.args.hall.designers.items sittings.items edited adjourned.seen authors begin
     adjourned.counted in
-    record {
-      sittings = sittings.items;
-      looks = map looker vs.items;
-      edited = edited;
-      looked = c.in_ok-sittings-2.ensures.viewers start (lookers_came start c.pop.new.self.items others);
-      read = lookers_extend now vs.items (front_all (λ (v : Seeing). Extends now v.last) vs.items c.in_ok-sittings-2.field-0.own looked);
-      adjourned = adjourned;
-      claimed = claimed;
-      extends =
-          first_extends g.row.D-Output.Denot g.D.Door.Comes g.D.Door.Leaves g.D.Door.TurnsAway writing true now
-          (λ number. just_come number start) 1 c.args.hall.designers.items (map sitter sittings.items) edited some (sitters_extend now sittings.items adjourned.seen);
-      saw =
-          all_seen g.row.D-Output.Denot g.D.Door.Comes g.D.Door.Leaves g.D.Door.TurnsAway writing start now c.args.hall.designers.items sittings.items edited claimed numbers adjourned.told
-          adjourned.within;
-    }
-
-pub returns-clause-talked : goal.returns-clause-talked
-returns-clause-talked g c = λ start viewers.
-    let now : Story = g.S.EditSession.story c.without_own.result.session in
-    let writing : Writing = record { answer = g.B.ReplyWriter.answer_text; reply = g.B.ReplyWriter.reply_text } in
-    let before = c.in_ok-outcome.outcome in
-    let same : now ≡ g.S.EditSession.story before.session = ap g.S.EditSession.story c.without_own.ensures.same.0 in
-    let looked : All (λ (v : Seeing). Extends now v.last) (c.in_ok-sittings-2.field-0.viewers.items ++ c.in_ok-sittings-2.field-0.own ∷ []) =
-    subst (λ (z : Story). All (λ (v : Seeing). Extends z v.last) (c.in_ok-sittings-2.field-0.viewers.items ++ c.in_ok-sittings-2.field-0.own ∷ [])) (sym same)
-    (subst (All (λ (v : Seeing). Extends (g.S.EditSession.story before.session) v.last)) c.in_ok-push.ensures.items c.in_ok-outcome.ensures.looked) in
-    let own : c.in-Some.own ≡ fresh_viewer start =
-    last_all (λ (v : Seeing). v ≡ fresh_viewer start) c.pop.new.self.items c.in-Some.own (subst (All (λ (v : Seeing). v ≡ fresh_viewer start)) c.in-Some.ensures.items viewers) in
-    let talk : HasTalked writing c.in_ok-sittings-2.field-0.talked start c.in_ok-sittings-2.field-0.own.last (g.X.Exit.names c.args.hall.exit) c.args.lines.now c.serve.new.lines c.args.out.now c.serve.new.out =
-    subst
-    (λ (s : Story). HasTalked writing c.in_ok-sittings-2.field-0.talked s c.in_ok-sittings-2.field-0.own.last (g.X.Exit.names c.args.hall.exit) c.args.lines.now c.serve.new.lines c.args.out.now c.serve.new.out)
-    (ap (λ (v : Seeing). v.last) own) c.in_ok-sittings-2.ensures.talked in (
-      c.in_ok-sittings-2.field-0.own.last,
-      last_all (λ (v : Seeing). Extends now v.last) c.in_ok-sittings-2.field-0.viewers.items c.in_ok-sittings-2.field-0.own looked,
-      talk,
+    let own_fresh : looker c.in-Some.own ≡ just_looking start =
+    ap looker (last_all (λ (v : Seeing). v ≡ fresh_viewer start) c.pop.new.self.items c.in-Some.own (subst (All (λ (v : Seeing). v ≡ fresh_viewer start)) c.in-Some.ensures.items viewers)) in
+    let talk : HasTalked (writing authors) c.in_ok-sittings-2.field-0.talked start own.last (g.X.Exit.names c.args.hall.exit) c.args.lines.now c.serve.new.lines c.args.out.now c.serve.new.out =
+    c.in_ok-sittings-2.ensures.talked start authors own_fresh (last_all (λ (v : Seeing). IsPrefix v.signed authors) vs.items own read_by) in (
+      authors,
+      record {
+        sittings = sittings.items;
+        looks = map looker vs.items;
+        edited = edited;
+        looked = c.in_ok-sittings-2.ensures.viewers start authors (lookers_came start c.pop.new.self.items others)
+            (front_all (λ (v : Seeing). IsPrefix v.signed authors) vs.items own read_by);
+        read = lookers_extend now vs.items (front_all (λ (v : Seeing). Extends now v.last) vs.items c.in_ok-sittings-2.field-0.own looked);
+        adjourned = adjourned;
+        claimed = claimed;
+        signed = seats_signed g.row.D-Output.Denot g.D.Door.Comes g.D.Door.Leaves g.D.Door.TurnsAway (writing authors) start now authors 1 c.args.hall.designers.items sittings.items edited begin;
+        older = older_unsigned g.row.D-Output.Denot g.D.Door.Comes g.D.Door.Leaves g.D.Door.TurnsAway (writing authors) start now authors 1 c.args.hall.designers.items sittings.items edited some begin;
+        each = made.1;
+        extends =
+            first_extends g.row.D-Output.Denot g.D.Door.Comes g.D.Door.Leaves g.D.Door.TurnsAway (writing authors) true now
+            (λ number. just_come number start) 1 c.args.hall.designers.items (map sitter sittings.items) edited some (sitters_extend now sittings.items adjourned.seen);
+        saw =
+            all_seen g.row.D-Output.Denot g.D.Door.Comes g.D.Door.Leaves g.D.Door.TurnsAway (writing authors) start now c.args.hall.designers.items sittings.items edited claimed numbers adjourned.told
+            adjourned.within;
+      },
+      (own.last, last_all (λ (v : Seeing). Extends now v.last) vs.items own looked, talk),
     )

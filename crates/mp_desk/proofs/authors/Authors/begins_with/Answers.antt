@@ -1,15 +1,15 @@
-use Rattle.std.proofs.Common.{◌≡◌, ℕ, List, ap, subst, length, ◌≤◌}
+use Rattle.std.proofs.Common.{◌≡◌, List, ap, subst, length, ◌≤◌}
 use mathlib.Core.List.{IsPrefix}
 use Rattle.mp_desk.specs.declared.chronicle.HistoryEntry.{HistoryEntry}
 use Rattle.mp_desk.specs.Chronicles.{authors}
 use Rattle.mp_desk.proofs.ChainLemmas.{authors_agree}
-use Rattle.mp_desk.proofs.log_writer.LogWriter.begins_with.Goals as goal
+use Rattle.mp_desk.proofs.authors.Authors.begins_with.Goals as goal
 
 pub returns : goal.returns
 returns c le =
     let both = c.learn.new.self.log in let mine = c.self.inside.seen.log in let others = c.earlier.inside.seen.log in
     let this : IsPrefix mine both = subst (λ (l : List HistoryEntry). IsPrefix l both) (ap (λ s. s.log) c.again-both.ensures) c.learn.ensures.2 in
-    let my_authors : authors mine ≡ c.args.self.now.authors = ap (λ w. w.authors) c.self.view_is in
+    let my_authors : authors mine ≡ c.args.self.now.authors = ap (λ a. a.authors) c.self.view_is in
     let others_authors : authors others ≡ c.args.earlier.now.authors = ap (λ a. a.authors) c.earlier.view_is in
     let le' : length (authors others) ≤ length (authors mine) = rw (my_authors, others_authors) le in
-    rw (← my_authors, ← others_authors) (authors_agree mine others both c.self.invariant.1 c.earlier.invariant this c.learn.ensures.3 le')
+    rw (← my_authors, ← others_authors) (authors_agree mine others both c.self.invariant c.earlier.invariant this c.learn.ensures.3 le')

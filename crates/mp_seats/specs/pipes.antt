@@ -1,0 +1,2 @@
+pub mod PipeTexts
+pub mod PipeDoors
