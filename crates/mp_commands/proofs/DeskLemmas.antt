@@ -1,6 +1,6 @@
 -- The blocks of an input, and the lines of a meeting.
 use Rattle.std.specs.Prelude.{◌≡◌, ◌+◌, ◌<◌, ◌∷◌, ◌++◌}
-use Rattle.mp_commands.proofs.Names.{ℕ, true, false, List, [], length, drop, slice_index_or, Result, Ok, Err, IsErr, IsOk, refl, sym, ap, subst, ◌∙◌, length-map, drop_more, Failed, Left, left_as, left_then, left_failed, writes_failed, Circuit, replay, lines_of, parts_of, later_parts, are_divided, lines_of_each, Story, present, blocks_of, met_text, IsDeskText, run_fault_of, lines_from, Outgoing}
+use Rattle.mp_commands.proofs.Names.{ℕ, true, false, List, [], length, drop, slice_index_or, Result, Ok, Err, IsErr, IsOk, refl, sym, ap, subst, ◌∙◌, length-map, drop_more, Failed, Left, left_as, left_then, left_failed, writes_failed, Circuit, replay, lines_of, parts_of, later_parts, are_divided, lines_of_each, Story, present, blocks_of, outcome_text, IsDeskText, run_fault_of, lines_from, Outgoing}
 use Rattle.std.specs.Borrow.{Bor}
 use Rattle.mp_streams.specs.Outgoing.{Writes}
 use Rattle.mp_text.proofs.lemmas.lexing.DivisionLemmas.{parts_of-split, parts_of-one}
@@ -49,7 +49,7 @@ refused_meeting opening NoPlace is = (refl, is)
 -- the text of a meeting is one that may be written
 pub is_text : (netlist : Circuit) (blocks : List (List (List ℕ))) (viewers : ℕ) (story : Story) (tallies : List Tally) (numbers : List ℕ)
     → IsMeeting netlist blocks story tallies numbers → length numbers ≡ viewers → replay story.base story.edits ≡ Ok (present story)
-    → IsDeskText netlist blocks viewers (met_text tallies numbers (present story))
+    → IsDeskText netlist blocks viewers (outcome_text tallies numbers (present story))
 is_text netlist blocks viewers story tallies numbers met count replayed = record {
   now = story;
   tallies = tallies;

@@ -4,8 +4,8 @@ pub use Rattle.std.proofs.lemmas.List.{drop_all, drop_more, length-map}
 pub use Rattle.std.proofs.lemmas.Result.{err_from_is_err_and}
 pub use Rattle.mp_commands.proofs.lemmas.command_runs.RunLemmas.{refused, refused_unseated, wrote, wrote_part}
 pub use Rattle.mp_commands.specs.declared.command_runs.run_fault.RunFault.TheVariants.{OutOfMemory}
-pub use Rattle.mp_commands.specs.Desks.{IsDeskText, blocks_of, met_text, viewer_line}
-pub use Rattle.mp_commands.specs.Keepers.{IsKeptAfter, IsOneMore, judged, opened}
+pub use Rattle.mp_commands.specs.Desks.{IsDeskText, blocks_of, outcome_text, viewer_line}
+pub use Rattle.mp_commands.specs.ScriptSessions.{IsKeptAfter, IsOneMore, judged, opened}
 pub use Rattle.mp_commands.specs.MeetingFaults.{run_fault_of}
 pub use Rattle.mp_commands.specs.Names.{Ask, Change, Circuit, Edit, EditError, Failed, IsCircuit, Kept, Line, LineError, Outgoing, RefusedBy, Story, WriteError, after, after_each, are_divided, counted_edit, go_on, is_batch, later_parts, line_at, lines_from, lines_of_each, may_want, parts_of, present, replay}
 pub use Rattle.mp_commands.specs.Replies.{IsKeptNext, IsNext, PutsEdit, PutsReply, edit_text, outcome, reply}

@@ -1,3 +1,4 @@
 pub mod views
 pub mod answers
 pub mod command_runs
+pub mod live

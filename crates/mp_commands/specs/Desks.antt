@@ -19,8 +19,8 @@ abbrev pub viewer_line : ℕ → ℕ → List ℕ
 viewer_line j number = codes "viewer " ++ (decimal j ++ (codes " saw " ++ (decimal number ++ (10 ∷ []))))
 
 -- the lines of a meeting that led to this netlist
-abbrev pub met_text : List Tally → List ℕ → Circuit → List ℕ
-met_text tallies numbers last = (lines_from tally_line 1 tallies ++ lines_from viewer_line 1 numbers) ++ waves_text last
+abbrev pub outcome_text : List Tally → List ℕ → Circuit → List ℕ
+outcome_text tallies numbers last = (lines_from tally_line 1 tallies ++ lines_from viewer_line 1 numbers) ++ waves_text last
 
 -- a text that may be written: there was a meeting, whose accepted edits lead from the netlist to the one whose waves are written
 pub record IsDeskText (netlist : Circuit) (blocks : List (List (List ℕ))) (viewers : ℕ) (text : List ℕ) : Type 0 where
@@ -31,4 +31,4 @@ pub record IsDeskText (netlist : Circuit) (blocks : List (List (List ℕ))) (vie
   pub meeting : IsMeeting netlist blocks now tallies numbers
   pub replayed : replay netlist now.edits ≡ Ok last
   pub viewers_are : length numbers ≡ viewers
-  pub form : text ≡ met_text tallies numbers last
+  pub form : text ≡ outcome_text tallies numbers last

@@ -1,5 +1,5 @@
 pub mod Names
-pub mod Keepers
+pub mod ScriptSessions
 pub mod Replies
 pub mod Plays
 pub mod LineAnswers

@@ -1,7 +1,7 @@
 -- The lines of a session's edits make the session again.
 use Rattle.std.specs.Prelude.{◌≡◌, ◌≤◌, ◌∷◌}
 use Rattle.mp_commands.specs.Names.{Edit, Circuit, IsCircuit, replay, lines_of, Kept, ℕ, false, List, [], length, Ok, max_edits, edit_lines}
-use Rattle.mp_commands.specs.Keepers.{opened}
+use Rattle.mp_commands.specs.ScriptSessions.{opened}
 use Rattle.mp_commands.specs.Replies.{IsNext}
 
 -- lines lead from what is kept before them to what is kept after them, where memory is wanting for none

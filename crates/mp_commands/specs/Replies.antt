@@ -4,7 +4,7 @@ use Rattle.mp_commands.specs.Names.{Edit, EditError, Circuit, may_want, LineErro
 use Rattle.mp_records.specs.declared.edit_error.EditError.TheVariants.{OutOfMemory}
 use Rattle.mp_streams.specs.Outgoing.{Writes as Sends}
 use Rattle.mp_streams.specs.WriteErrors.{Writes}
-use Rattle.mp_commands.specs.Keepers.{judged, IsKeptAfter}
+use Rattle.mp_commands.specs.ScriptSessions.{judged, IsKeptAfter}
 
 -- the netlist after an edit, or why the edit is refused, where its memory was wanting or not
 abbrev pub outcome : Bool → Kept → Edit → Result Circuit EditError

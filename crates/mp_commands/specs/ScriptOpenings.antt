@@ -1,7 +1,7 @@
 -- How the input of a netlist opens that a script edits.
 use Rattle.std.specs.Prelude.{◌≡◌}
 use Rattle.mp_commands.specs.Names.{Circuit, Kept, has_valid_crew, Options, ℕ, List, Option, Result, Ok, opening_with, StaysShutWith, HasInput, RunFault}
-use Rattle.mp_commands.specs.Keepers.{opened}
+use Rattle.mp_commands.specs.ScriptSessions.{opened}
 
 abbrev pub opening : Options → List ℕ → Result Circuit RunFault
 opening options = opening_with (has_valid_crew options)

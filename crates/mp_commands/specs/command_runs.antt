@@ -4,6 +4,7 @@ pub mod OptionLimits
 pub mod RunFaults
 pub mod Openings
 pub mod Runs
+pub mod ViewRuns
 pub mod OpenedInputs
 pub mod CheckRuns
 pub mod Clauses

@@ -1,3 +1,4 @@
+pub mod SignedEdits
 pub mod SeatReplies
 pub mod TalkFaults
 pub mod LiveDesks

@@ -5,7 +5,7 @@ ghost use Rattle.mp_commands.specs.Desks.{IsDeskText, blocks_of, has_valid_desk}
 
 use crate::command_runs::{InputCommand, Options, RunFault, opened};
 use crate::meeting_faults::fault_of_meeting;
-use crate::met_lines::put_met;
+use crate::outcome_lines::put_outcome;
 use crate::sessions::Sessions;
 use mp_desk::DeskSize;
 use mp_phase::Crew;
@@ -43,7 +43,7 @@ impl<P: Sessions + Drop> InputCommand for DeskCommand<P> {
         let (netlist, (crew, size)) = opened(alloc, front, desk_crew(options, blocks.len()))?;
         let session = self.sessions.open(rt, alloc, &netlist, crew)?;
         match P::meet(rt, alloc, session, blocks.as_slice(), size) {
-            Ok(met) => Ok(put_met(out, &met, crew)?),
+            Ok(outcome) => Ok(put_outcome(out, &outcome, crew)?),
             Err(fault) => Err(fault_of_meeting(fault)),
         }
     }

@@ -11,7 +11,7 @@ mod desk;
 pub mod laws;
 mod live;
 mod meeting_faults;
-mod met_lines;
+mod outcome_lines;
 mod play;
 mod player;
 mod replies;
@@ -30,7 +30,8 @@ pub use command_runs::{
 pub use desk::DeskCommand;
 pub use live::{LiveOutcome, Prompted, SeatScribe, fault_of_talk, serve_live};
 pub use meeting_faults::fault_of_meeting;
-pub use met_lines::put_met;
+pub use mp_engine::Progress;
+pub use outcome_lines::put_outcome;
 pub use play::Play;
 pub use player::Player;
 pub use replies::put_reply;

@@ -4,6 +4,7 @@
 mod live_desk;
 mod prompted;
 mod seat_scribe;
+mod signed_edits;
 mod talk_faults;
 
 pub use live_desk::{LiveOutcome, serve_live};

@@ -1,7 +1,7 @@
 //! The command `play`.
 ghost use Rattle.std.specs.Prelude.{◌≡◌, false};
 ghost use Rattle.mp_commands.specs.Names.{lines_of, first_part, later_parts, has_valid_crew, opening_of};
-ghost use Rattle.mp_commands.specs.Keepers.{opened as opened_kept};
+ghost use Rattle.mp_commands.specs.ScriptSessions.{opened as opened_kept};
 ghost use Rattle.mp_commands.specs.Plays.{AreReplies, PutsReplies};
 
 use crate::command_runs::{InputCommand, Options, RunFault, opened};
@@ -39,8 +39,8 @@ impl<P: Sessions + Drop> InputCommand for Play<P> {
         let text = input.as_slice();
         let (front, script) = divided(alloc, text)?;
         let (netlist, crew) = opened(alloc, front, options.crew())?;
-        let mut keeper = ScriptSession::new(&self.sessions, rt, alloc, &netlist, crew)?;
-        Ok(put_replies(rt, alloc, out, &mut keeper, script)?)
+        let mut session = ScriptSession::new(&self.sessions, rt, alloc, &netlist, crew)?;
+        Ok(put_replies(rt, alloc, out, &mut session, script)?)
     }
 }
 
@@ -49,15 +49,15 @@ fn put_replies<R: Threads + Wait + Sync, T: Sink, P: Sessions>(
     rt: &R,
     alloc: Global,
     out: &mut Out<T>,
-    keeper: &mut ScriptSession<P>,
+    session: &mut ScriptSession<P>,
     script: &[u8],
 ) -> Result<(), WriteError>
-    ensures { PutsReplies result out.old out.new keeper.old (lines_of script.now) }
+    ensures { PutsReplies result out.old out.new session.old (lines_of script.now) }
 {
     let mut rest = script;
     while !rest.is_empty() {
         let (line, others) = first_line(rest);
-        put_reply(rt, alloc, out, keeper, line)?;
+        put_reply(rt, alloc, out, session, line)?;
         rest = others;
     }
     Ok(())

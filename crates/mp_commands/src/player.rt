@@ -16,7 +16,7 @@ use std::thread::Threads;
 #[derive(Drop)]
 pub struct Player<P: Sessions> {
     alloc: Global,
-    keeper: ScriptSession<P>,
+    session: ScriptSession<P>,
 }
 
 impl<P: Sessions> Model for Player<P> {
@@ -24,7 +24,7 @@ impl<P: Sessions> Model for Player<P> {
 
     ghost Value = { Kept };
 
-    ghost view = { λ player. player.keeper };
+    ghost view = { λ player. player.session };
 }
 
 impl<P: Sessions> Player<P> {
@@ -34,10 +34,10 @@ impl<P: Sessions> Player<P> {
     ghost use Rattle.mp_commands.specs.LineAnswers.{IsAnswer};
 
     /// Who edits what is kept.
-    pub fn new(alloc: Global, keeper: ScriptSession<P>) -> Self
-        ensures { result ≡ keeper }
+    pub fn new(alloc: Global, session: ScriptSession<P>) -> Self
+        ensures { result ≡ session }
     {
-        Player { alloc, keeper }
+        Player { alloc, session }
     }
 
     /// Answers each line, and passes the answer on to the sink, before it reads the next one. It ends when the source ends.
@@ -71,7 +71,7 @@ impl<P: Sessions> Answerer for Player<P> {
         out: &mut Out<T>,
     ) -> Result<(), WriteError> {
         match line {
-            Some(line) => put_reply(rt, self.alloc, out, &mut self.keeper, line),
+            Some(line) => put_reply(rt, self.alloc, out, &mut self.session, line),
             None => Ok(put_too_long(out)?),
         }
     }

@@ -18,13 +18,13 @@ pub fn put_reply<R: Threads + Wait + Sync, T: Sink, P: Sessions>(
     rt: &R,
     alloc: Global,
     out: &mut Out<T>,
-    keeper: &mut ScriptSession<P>,
+    session: &mut ScriptSession<P>,
     line: &[u8],
 ) -> Result<(), WriteError>
-    ensures { PutsReply result out.old out.new keeper.old keeper.new (line_at line.now) }
+    ensures { PutsReply result out.old out.new session.old session.new (line_at line.now) }
 {
     match read_line(alloc, line) {
-        Ok(read) => put_line_reply(rt, alloc, out, keeper, read),
+        Ok(read) => put_line_reply(rt, alloc, out, session, read),
         Err(LineError::OutOfMemory) => Err(WriteError::OutOfMemory),
         Err(error) => Ok(put_unread(out, error)?),
     }
@@ -35,15 +35,15 @@ fn put_line_reply<R: Threads + Wait + Sync, T: Sink, P: Sessions>(
     rt: &R,
     alloc: Global,
     out: &mut Out<T>,
-    keeper: &mut ScriptSession<P>,
+    session: &mut ScriptSession<P>,
     line: Line,
 ) -> Result<(), WriteError>
-    ensures { PutsReply result out.old out.new keeper.old keeper.new (Ok line) }
+    ensures { PutsReply result out.old out.new session.old session.new (Ok line) }
 {
     match line {
         Line::Empty => Ok(()),
-        Line::Change(edit) => Ok(put_change(rt, out, keeper, edit)?),
-        Line::Ask(question) => put_answer(rt, alloc, out, &keeper.snapshot(), &question),
+        Line::Change(edit) => Ok(put_change(rt, out, session, edit)?),
+        Line::Ask(question) => put_answer(rt, alloc, out, &session.snapshot(), &question),
     }
 }
 
@@ -51,12 +51,12 @@ fn put_line_reply<R: Threads + Wait + Sync, T: Sink, P: Sessions>(
 fn put_change<R: Threads + Wait + Sync, T: Sink, P: Sessions>(
     rt: &R,
     out: &mut Out<T>,
-    keeper: &mut ScriptSession<P>,
+    session: &mut ScriptSession<P>,
     edit: Edit,
 ) -> Result<(), Failed>
-    ensures { PutsEdit result out.old out.new keeper.old keeper.new edit }
+    ensures { PutsEdit result out.old out.new session.old session.new edit }
 {
-    match keeper.change(rt, edit) {
+    match session.change(rt, edit) {
         Ok(accepted) => put_accepted(out, accepted),
         Err(error) => put_refused(out, error),
     }

@@ -21,7 +21,7 @@ pub fn open_keeper<R: Threads + Wait + Sync, S: Source, P: Sessions>(
     source: &mut S,
     options: &Options,
 ) -> Result<ScriptSession<P>, RunFault>
-    ensures opened { IfOk result (λ keeper. OpensAs (S.left source.old) options.now keeper) }
+    ensures opened { IfOk result (λ session. OpensAs (S.left source.old) options.now session) }
     ensures refused { IfErr result (StaysShut (S.left source.old) options.now) }
     ensures taken { TakesInput (S.left source.old) (S.left source.new) }
     ensures read_faults { S.fault_count source.new ≡ counted_reads result (S.fault_count source.old) }

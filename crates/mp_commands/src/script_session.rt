@@ -23,13 +23,13 @@ impl<P: Sessions> Model for ScriptSession<P> {
 
     ghost Value = { Kept };
 
-    ghost view = { λ keeper. kept_at (P.Session.story keeper.session) (P.work keeper.session) };
+    ghost view = { λ script. kept_at (P.Session.story script.session) (P.work script.session) };
 }
 
 impl<P: Sessions> ScriptSession<P> {
     ghost use Rattle.std.specs.Prelude.{◌≡◌, Ok, IfOk, IfErr, OnOk, OnErr, length};
     ghost use Rattle.mp_commands.specs.Names.{RefusedBy};
-    ghost use Rattle.mp_commands.specs.Keepers.{opened, judged, IsOneMore};
+    ghost use Rattle.mp_commands.specs.ScriptSessions.{opened, judged, IsOneMore};
 
     /// The netlist before the first edit.
     pub fn new<R: Threads + Wait + Sync>(
@@ -39,7 +39,7 @@ impl<P: Sessions> ScriptSession<P> {
         netlist: &Netlist,
         crew: Crew,
     ) -> Result<Self, AllocError>
-        ensures { IfOk result (λ keeper. keeper ≡ opened netlist.now) }
+        ensures { IfOk result (λ script. script ≡ opened netlist.now) }
     {
         Ok(ScriptSession {
             session: sessions.open(rt, alloc, netlist, crew)?,

@@ -1,8 +1,9 @@
 -- What the commands write.
-use Rattle.std.specs.Prelude.{ℕ, List, map, Option, Some, None, if◌then◌else◌}
+use Rattle.std.specs.Prelude.{ℕ, Bool, true, List, map, nat_le, Option, Some, None, if◌then◌else◌, ◌&&◌}
 use Rattle.mp_netlist.specs.Circuit.{Circuit}
 use Rattle.mp_commands.specs.answers.Names.{report_text, dump, graph, verilog, waits, measure, waves_text, why_of, path_of, picture_text}
 use Rattle.mp_commands.specs.views.CausePictures.{cause_picture}
+use Rattle.mp_commands.specs.views.Limits.{max_columns}
 use Rattle.mp_commands.specs.declared.views.drawing.Drawing.{Drawing}
 use Rattle.mp_commands.specs.declared.views.drawing.Drawing.TheVariants as drawings
 use Rattle.mp_picture.specs.declared.mark.Charset.TheVariants as charsets
@@ -12,6 +13,7 @@ use Rattle.mp_request.specs.declared.picture_words.PictureWords.{PictureWords}
 use Rattle.mp_request.specs.declared.request.Command.{Command}
 use Rattle.mp_request.specs.declared.request.Command.TheVariants.{Waves, Report, Dump, Show, Why, Path, Waits, Measure, Graph, Verilog}
 use Rattle.mp_request.specs.Wires.{wires_of}
+use Rattle.mp_text.specs.Limits.{max_steps}
 
 -- the names of the wires that a command speaks of, as they were given
 abbrev pub names_in : Command → List (List ℕ)
@@ -43,3 +45,9 @@ text_of (Path wire time) = Some (λ n. path_of n wire.now time)
 text_of (Waits time) = Some (λ n. waits n time)
 text_of (Measure from to) = Some (λ n. measure n from to)
 text_of command = None
+
+-- whether the numbers of a command are in their ranges
+abbrev pub has_valid_numbers : Command → Bool
+has_valid_numbers (Show words) = nat_le 1 words.columns && nat_le words.columns max_columns
+has_valid_numbers (Why wire time steps) = nat_le 1 steps && nat_le steps max_steps
+has_valid_numbers command = true

@@ -1,2 +1,3 @@
 pub mod CommandTexts
+pub mod CommandRuns
 pub mod InputFiles

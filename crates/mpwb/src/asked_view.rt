@@ -1,7 +1,8 @@
 //! The view that a command writes.
-ghost use Rattle.std.specs.Prelude.{◌≡◌, IfSome};
-ghost use Rattle.mp_commands.specs.views.Views.{view_text};
-ghost use Rattle.mpwb.specs.CommandTexts.{drawing_of, names_in, numerals_of, picture_of, text_of};
+ghost use Rattle.std.specs.Prelude.{◌≡◌, ◌&&◌, IfSome, is_some, nat_le};
+ghost use Rattle.mp_commands.specs.views.Limits.{max_columns};
+ghost use Rattle.mp_commands.specs.views.Views.{view_text, view_wires};
+ghost use Rattle.mpwb.specs.CommandTexts.{drawing_of, has_valid_numbers, names_in, numerals_of, picture_of, text_of};
 
 use mp_commands::{
     AskedPicture, CausePicture, Charset, Drawing, Numerals, PathLines, PictureText, TimeRange,
@@ -10,11 +11,13 @@ use mp_commands::{
 use mp_netlist::Name;
 use mp_request::{Command, PictureWords};
 
-/// The view that a command writes and nothing else, if the wires of which the command speaks have these names; `None` if a number of the command is out
-/// of its range, and for other commands.
+/// The view that a command writes and nothing else, if the wires of which the command speaks have these names. There is one exactly if the numbers of
+/// the command are in their ranges; for other commands there is none.
 pub(crate) fn view_of<'a>(command: &Command<'a>, names: &'a [Name]) -> Option<View<'a>>
     requires { names.now ≡ names_in command.now }
-    ensures { IfSome result (λ view. IfSome (text_of command.now) (λ text. view_text view ≡ text)) }
+    ensures valid { IfSome (text_of command.now) (λ text. is_some result ≡ has_valid_numbers command.now) }
+    ensures text { IfSome result (λ view. IfSome (text_of command.now) (λ text. view_text view ≡ text)) }
+    ensures wires { IfSome result (λ view. view_wires view ≡ names_in command.now) }
 {
     match command {
         Command::Waves => Some(View::Waves),
@@ -42,7 +45,9 @@ pub(crate) fn view_of<'a>(command: &Command<'a>, names: &'a [Name]) -> Option<Vi
 /// The picture of the wires of these names that the words ask for, if its number of columns is in its range. If causes are asked for, the first wire has
 /// the level that they lead to, and the others are shown.
 fn shown<'a>(names: &'a [Name], words: &PictureWords<'a>) -> Option<View<'a>>
-    ensures { IfSome result (λ view. view_text view ≡ picture_of words.now names.now words.now.causes) }
+    ensures valid { is_some result ≡ (nat_le 1 words.now.columns && nat_le words.now.columns max_columns) }
+    ensures text { IfSome result (λ view. view_text view ≡ picture_of words.now names.now words.now.causes) }
+    ensures wires { IfSome result (λ view. view_wires view ≡ names.now) }
 {
     let asked = AskedPicture::new(names, words.from, words.to, words.columns)?;
     let numerals = numerals_of(words);

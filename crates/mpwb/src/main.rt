@@ -8,6 +8,7 @@ mod input_file;
 mod live_desk;
 mod live_play;
 mod open_sessions;
+mod progress_file;
 mod running;
 mod showing;
 mod telling;
@@ -16,10 +17,11 @@ use crate::explained::explain;
 use crate::input_file::{FileFault, open_file};
 use crate::live_desk::run_live_desk;
 use crate::live_play::run_live_play;
+use crate::progress_file::open_progress;
 use crate::running::run_on;
 use crate::showing::show_fault;
 use crate::telling::{fault_of_telling, tell_fault, tell_unread};
-use mp_commands::{Options, RunFault, exit_status};
+use mp_commands::{Options, Progress, RunFault, exit_status};
 use mp_request::{Command, CommandLine, Request, read_words, tell};
 use mp_streams::{ReadSource, Source};
 use std::env;
@@ -80,13 +82,15 @@ fn run_told<R: Runtime + Threads + Wait + Sync + AllocGlobal>(
     request: &Request<'_>,
     is_typed: bool,
 ) -> u8 {
+    let progress = open_progress(files);
+    let options = options_of(request, progress.as_ref());
     let Some(path) = request.file else {
-        return ended(rt, request, run_input(rt, request));
+        return ended(rt, request, run_input(rt, request, &options));
     };
     match open_file(rt, path) {
         Ok(file) => {
             let mut source = ReadSource::new(file);
-            let run = run_file(files, rt, &mut source, request, is_typed);
+            let run = run_file(files, rt, &mut source, request, &options, is_typed);
             ended(rt, request, run)
         }
         Err(FileFault::Known(cause)) => {
@@ -125,9 +129,10 @@ fn show_if_checked<R: Runtime + AllocGlobal>(rt: &R, fault: &RunFault, request: 
 fn run_input<R: Runtime + Threads + Wait + Sync + AllocGlobal>(
     rt: &R,
     request: &Request<'_>,
+    options: &Options,
 ) -> Result<u8, RunFault> {
     let mut input = ReadSource::new(rt.reader());
-    run_on(rt, &mut input, request, &options_of(request))
+    run_on(rt, &mut input, request, options)
 }
 
 /// Runs the command on a file, and returns the status with which the program ends.
@@ -136,25 +141,27 @@ fn run_file<R: Runtime + Threads + Wait + Sync + AllocGlobal, S: Source>(
     rt: &R,
     file: &mut S,
     request: &Request<'_>,
+    options: &Options,
     is_typed: bool,
 ) -> Result<u8, RunFault> {
     match request.command {
         Command::Play => {
-            run_live_play(rt, file, &options_of(request), is_typed)?;
+            run_live_play(rt, file, options, is_typed)?;
             Ok(0)
         }
         Command::LiveDesk { folder, designers } => {
-            run_live_desk(files, rt, file, &options_of(request), folder, designers)
+            run_live_desk(files, rt, file, options, folder, designers)
         }
-        _ => run_on(rt, file, request, &options_of(request)),
+        _ => run_on(rt, file, request, options),
     }
 }
 
-/// The numbers of the request.
-fn options_of(request: &Request<'_>) -> Options {
+/// The numbers of the request, and where the run writes how far it is.
+fn options_of<'a>(request: &Request<'_>, progress: Option<&'a Progress>) -> Options<'a> {
     Options {
         workers: request.workers,
         least: request.least,
         viewers: request.viewers,
+        progress,
     }
 }

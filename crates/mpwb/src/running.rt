@@ -1,6 +1,7 @@
 //! How each command is run.
-ghost use Rattle.std.specs.Prelude.{◌≡◌, [], IfOk, IfSome, OnOk, map};
-ghost use Rattle.mp_commands.specs.command_runs.Runs.{WritesText};
+ghost use Rattle.std.specs.Prelude.{◌≡◌, [], IfOk, IfSome, map};
+ghost use Rattle.mp_commands.specs.command_runs.Clauses.{TakesInput, counted_reads};
+ghost use Rattle.mpwb.specs.CommandRuns.{RunsCommand};
 ghost use Rattle.mpwb.specs.CommandTexts.{names_in, text_of};
 
 use crate::asked_view::view_of;
@@ -46,7 +47,9 @@ fn run_named<R: Threads + Wait + Sync + AllocGlobal, S: Source, T: Sink>(
 ) -> Result<(), RunFault>
     requires empty { out.old.held ≡ [] }
     requires names { names.now ≡ names_in command.now }
-    ensures { OnOk result (IfSome (text_of command.now) (λ text. WritesText (S.left source.old) text out.old out.new)) }
+    ensures written { IfSome (text_of command.now) (λ text. RunsCommand command.now text options.now result (S.left source.old) out.old out.new) }
+    ensures taken { IfSome (text_of command.now) (λ text. TakesInput (S.left source.old) (S.left source.new)) }
+    ensures read_faults { IfSome (text_of command.now) (λ text. S.fault_count source.new ≡ counted_reads result (S.fault_count source.old)) }
 {
     let sessions = OpenSessions;
     match command {

@@ -4,6 +4,9 @@ use mp_commands::{RunFault, fault_line};
 use mp_request::TellError;
 use std::str;
 
+/// The name in the message for a file whose name is empty.
+const NO_NAME: &str = "a file with an empty name";
+
 /// The fault of a run that couldn't print its message.
 pub(crate) fn fault_of_telling(error: TellError) -> RunFault {
     match error {
@@ -23,7 +26,8 @@ pub(crate) fn tell_fault<R: Eprint + AllocGlobal>(rt: &R, fault: &RunFault, wire
 
 /// Writes why the file of this name can't be read, if the memory for it can be had.
 pub(crate) fn tell_unread<R: Eprint + AllocGlobal>(rt: &R, name: &str, cause: FileCause) {
-    if let Ok(line) = unread_line(rt.alloc(), name, cause) {
+    let shown = if name.is_empty() { NO_NAME } else { name };
+    if let Ok(line) = unread_line(rt.alloc(), shown, cause) {
         let _ = rt.eprintln(line.as_str());
     }
 }

@@ -1,6 +1,8 @@
 -- How an input opens.
 use Rattle.std.specs.Prelude.{◌+◌, if◌then◌else◌}
 use Rattle.mp_commands.specs.command_runs.Names.{ℕ, Bool, List, length, take, Option, Some, None, Result, Ok, Err, nat_le, Circuit, TooLong, TextError, Fresh, after_lines, RunFault, Text, BadCount, NoSuchWire, missing_at, text_limit}
+use Rattle.mp_commands.specs.declared.views.view.View.{View}
+use Rattle.mp_commands.specs.views.Views.{view_wires}
 
 -- a fault of the text is told before one of the options
 abbrev pub counted_netlist : Result Circuit TextError → Bool → Result Circuit RunFault
@@ -22,9 +24,9 @@ with_wires names (Ok n) = with_all (missing_at n names) n
 with_wires names (Err fault) = Err fault
 
 -- a netlist in which the wires of a view stand
-abbrev pub viewed_opening : {V : Type 0} → (V → List (List ℕ)) → Option V → Result Circuit RunFault → Result Circuit RunFault
-viewed_opening wires None opening = opening
-viewed_opening wires (Some view) opening = with_wires (wires view) opening
+abbrev pub viewed_opening : Option View → Result Circuit RunFault → Result Circuit RunFault
+viewed_opening None opening = opening
+viewed_opening (Some view) opening = with_wires (view_wires view) opening
 
 -- the fault of an input that is too long
 abbrev pub too_long : RunFault

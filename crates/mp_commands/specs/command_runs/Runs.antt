@@ -1,8 +1,8 @@
 -- What a run takes of its source, and what it makes of its output.
 use Rattle.std.specs.Prelude.{◌≡◌, ◌⊎◌, ◌+◌, ◌<◌, ◌≤◌}
-use Rattle.mp_commands.specs.command_runs.Names.{ℕ, length, IfSome, Some, None, Bool, true, List, [], Option, Result, Ok, Err, IsOk, IsOkAnd, Outgoing, ConsumesUpTo, Writes, WriteError, Circuit, lines_of, text_limit, RunFault, Text, BadCount, ReadFailed, WriteFailed, OutOfMemory, NoPlace, NoSuchWire}
+use Rattle.mp_commands.specs.command_runs.Names.{ℕ, length, IfSome, Some, None, Bool, true, List, [], Option, Result, Ok, Err, IsOk, IsOkAnd, Outgoing, ConsumesUpTo, Writes, WriteError, Circuit, text_limit, RunFault, Text, BadCount, ReadFailed, WriteFailed, OutOfMemory, NoPlace, NoSuchWire}
 use Rattle.mp_streams.specs.declared.write_error.WriteError.TheVariants as writes
-use Rattle.mp_commands.specs.command_runs.Openings.{opening_of, too_long}
+use Rattle.mp_commands.specs.command_runs.Openings.{too_long}
 
 -- the input of a run: all bytes of its source, where it tells them, and else no more than an input may have, and one
 abbrev pub IsInput : Option (List ℕ) → List ℕ → Type 0
@@ -48,7 +48,3 @@ Ran seats (Err fault) opening IsText old new = Refuses seats opening fault × (n
 abbrev pub RanFrom : {S : Type 0} → Result (Unit {0}) RunFault → Option (List ℕ) → (List ℕ → Type 0) → Outgoing S → Outgoing S → Type 0
 RanFrom (Err ReadFailed) left Holds old new = new ≡ old
 RanFrom result left Holds old new = HasInput left Holds
-
--- the source had the text of a netlist, and what is written is all of this text of the netlist
-abbrev pub WritesText : {S : Type 0} → Option (List ℕ) → (Circuit → List ℕ) → Outgoing S → Outgoing S → Type 0
-WritesText left text old new = HasInput left (λ input. IsOkAnd (opening_of (lines_of input) true) (λ n. Writes {T = Unit {0}} (Ok tt) old new (text n)))

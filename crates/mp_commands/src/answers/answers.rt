@@ -56,16 +56,18 @@ pub fn put_answer<R: Threads + Sync, T: Sink>(
             put_view(rt, alloc, out, of, &View::Measure(range))
         }
         Question::Why { wire, time, steps } => {
-            put_view(rt, alloc, out, of, &View::Why(why(wire, *time, *steps)))
-        }
-        Question::Path { wire, time } => {
+            let (time, steps) = (*time, *steps);
             put_view(
                 rt,
                 alloc,
                 out,
                 of,
-                &View::Path(PathLines { wire, time: *time }),
+                &View::Why(WhyLines { wire, time, steps }),
             )
+        }
+        Question::Path { wire, time } => {
+            let lines = PathLines { wire, time: *time };
+            put_view(rt, alloc, out, of, &View::Path(lines))
         }
     }
 }
@@ -86,14 +88,6 @@ fn shown(from: u64, to: u64, wires: &WireNames) -> PictureText<'_>
         drawing: Drawing::Text(Charset::Unicode),
         numerals: Numerals::Decimal,
     }
-}
-
-/// The chain of causes that a script asks for.
-fn why(wire: &Name, time: u64, steps: u32) -> WhyLines<'_>
-    ensures wire { result.wire.now ≡ wire.now }
-    ensures numbers { (result.time ≡ time) × (result.steps ≡ steps) }
-{
-    WhyLines { wire, time, steps }
 }
 
 /// Writes a view, or that a wire of it doesn't stand.

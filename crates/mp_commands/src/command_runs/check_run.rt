@@ -8,7 +8,7 @@ use crate::command_runs::options::Options;
 use crate::command_runs::run_fault::RunFault;
 use crate::views::Evaluated;
 use mp_check::{check, put_check};
-use mp_engine::find_waves;
+use mp_engine::{Progress, find_waves};
 use mp_netlist::Netlist;
 use mp_phase::Crew;
 use mp_streams::{Out, Sink, Source};
@@ -36,7 +36,7 @@ pub fn run_check<R: Threads + Wait + Sync, S: Source, T: Sink>(
     ensures read_faults { S.fault_count source.new ≡ counted_reads result (S.fault_count source.old) }
 {
     let (netlist, crew) = read_opening(alloc, source, options.crew())?;
-    let is_wrong = check_netlist(rt, alloc, out, &netlist, crew)?;
+    let is_wrong = check_netlist(rt, alloc, out, &netlist, crew, options.progress)?;
     // the run is over: all memory goes back to the system at once
     forget(netlist);
     out.flush()?;
@@ -50,11 +50,12 @@ fn check_netlist<R: Threads + Wait + Sync, T: Sink>(
     out: &mut Out<T>,
     netlist: &Netlist,
     crew: Crew,
+    progress: Option<&Progress>,
 ) -> Result<bool, RunFault>
     ensures checked { IfOk result (ChecksNetlist out.old out.new netlist.now) }
     ensures stopped { IfErr result (StopsNetlist out.old out.new netlist.now) }
 {
-    let waves = find_waves(rt, alloc, netlist, &crew)?;
+    let waves = find_waves(rt, alloc, netlist, &crew, progress)?;
     let of = Evaluated {
         netlist,
         waves: &waves,

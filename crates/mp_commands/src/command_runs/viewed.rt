@@ -1,11 +1,12 @@
 //! The command that writes a view.
 ghost use Rattle.std.specs.Prelude.{◌≡◌, ◌&&◌};
 ghost use Rattle.mp_commands.specs.views.Views.{view_text, view_wires};
-ghost use Rattle.mp_commands.specs.command_runs.Clauses.{[], OnOk, WritesText, false, is_some, Some, Ok, IfSome, IsSomeAnd, Ran, lines_of, has_valid_crew, opening_of, viewed_opening, with_wires};
+ghost use Rattle.mp_commands.specs.command_runs.ViewRuns.{RunsView};
+ghost use Rattle.mp_commands.specs.command_runs.Clauses.{[], OnOk, false, is_some, Some, Ok, IfSome, IsSomeAnd, Ran, TakesInput, counted_reads, lines_of, has_valid_crew, opening_of, viewed_opening, with_wires};
 
 use crate::command_runs::command::{InputCommand, run_command};
 use crate::command_runs::opening::opened_input;
-use crate::command_runs::options::Options;
+use crate::command_runs::options::{Finders, Options};
 use crate::command_runs::run_fault::RunFault;
 use crate::views::{Evaluated, View};
 use mp_engine::find_waves;
@@ -39,7 +40,7 @@ impl<'a> Viewed<'a> {
 }
 
 impl<'a> InputCommand for Viewed<'a> {
-    ghost opening = { λ command input options. viewed_opening view_wires command.view (opening_of (lines_of input) (has_valid_crew options && is_some command.view)) };
+    ghost opening = { λ command input options. viewed_opening command.view (opening_of (lines_of input) (has_valid_crew options && is_some command.view)) };
 
     ghost IsText = { λ command _ _ n text. IsSomeAnd command.view (λ view. text ≡ view_text view n) };
 
@@ -54,7 +55,8 @@ impl<'a> InputCommand for Viewed<'a> {
         options: &Options,
     ) -> Result<(), RunFault> {
         let (netlist, (view, crew)) = opened_input(alloc, input, self.crewed(options))?;
-        match answer_of(rt, alloc, out, &netlist, view, crew) {
+        let progress = options.progress;
+        match answer_of(rt, alloc, out, &netlist, view, Finders { crew, progress }) {
             Ok(()) => {
                 // the run is over: all memory goes back to the system at once
                 forget(netlist);
@@ -78,7 +80,10 @@ pub fn run_view<R: Threads + Wait + Sync, S: Source, T: Sink>(
     view: Option<View<'_>>,
 ) -> Result<(), RunFault>
     requires { out.old.held ≡ [] }
-    ensures { OnOk result (IsSomeAnd view.entry (λ v. WritesText (S.left source.old) (view_text v) out.old out.new)) }
+    ensures written { RunsView view.entry (has_valid_crew options.now) result (S.left source.old) out.old out.new }
+    ensures all { OnOk result (out.new.held ≡ []) }
+    ensures taken { TakesInput (S.left source.old) (S.left source.new) }
+    ensures read_faults { S.fault_count source.new ≡ counted_reads result (S.fault_count source.old) }
 {
     run_command(rt, alloc, source, out, options, &Viewed { view })
 }
@@ -90,14 +95,15 @@ fn answer_of<R: Threads + Wait + Sync, T: Sink>(
     out: &mut Out<T>,
     netlist: &Netlist,
     view: &View<'_>,
-    crew: Crew,
+    finders: Finders<'_>,
 ) -> Result<(), RunFault>
     ensures { Ran false result (with_wires (view_wires view.now) (Ok netlist.now)) (λ n text. text ≡ view_text view.now n) out.old out.new }
 {
     if let Some(place) = view.missing(netlist) {
         return Err(RunFault::NoSuchWire(place));
     }
-    let waves = find_waves(rt, alloc, netlist, &crew)?;
+    let Finders { crew, progress } = finders;
+    let waves = find_waves(rt, alloc, netlist, &crew, progress)?;
     let of = Evaluated {
         netlist,
         waves: &waves,

@@ -1,14 +1,14 @@
 //! A live desk from its beginning to what it writes at the end.
-ghost use Rattle.std.specs.Prelude.{◌≡◌, ◌++◌, [], Ok, IfOk};
+ghost use Rattle.std.specs.Prelude.{◌≡◌, [], Ok, IfOk};
 ghost use Rattle.mp_commands.specs.Names.{present};
-ghost use Rattle.mp_commands.specs.Desks.{met_text};
+ghost use Rattle.mp_commands.specs.Desks.{outcome_text};
 ghost use Rattle.mp_commands.specs.live.LiveDesks.{EndsWith, IsLiveDesk};
 
 use crate::command_runs::RunFault;
 use crate::live::seat_scribe::SeatScribe;
 use crate::live::talk_faults::fault_of_talk;
 use crate::meeting_faults::fault_of_meeting;
-use crate::met_lines::put_met;
+use crate::outcome_lines::put_outcome;
 use mp_desk::DeskOutcome;
 use mp_phase::Crew;
 use mp_seats::{HostFault, Hosted, Pipes, TalkFault};
@@ -41,7 +41,7 @@ pub fn serve_live<R: Threads + Wait + Sync, S: EditSession + Send, I: Source, T:
 where
     S::Prepared: Send,
     requires { out.old.held ≡ [] }
-    ensures live { IfOk result (λ live. IsLiveDesk (S.story session) (S.story live.session) (pipes.now.places.now.designers ++ pipes.now.places.now.viewers) live.ended lines.old lines.new out.old out.new) }
+    ensures live { IfOk result (λ live. IsLiveDesk (S.story session) (S.story live.session) pipes.now live.ended lines.old lines.new out.old out.new) }
     ensures flushed { out.new.held ≡ [] }
 {
     match pipes.host(rt, session, scribe, lines, out) {
@@ -58,7 +58,7 @@ fn closed<S: EditSession, T: Sink>(
 ) -> LiveOutcome<S>
     requires { out.old.held ≡ [] }
     ensures session { result.session ≡ hosted.outcome.session }
-    ensures ends { EndsWith hosted.talked result.ended out.old out.new (met_text hosted.outcome.tallies.items hosted.outcome.numbers.items (present (S.story hosted.outcome.session))) }
+    ensures ends { EndsWith hosted.talked result.ended out.old out.new (outcome_text hosted.outcome.tallies.items hosted.outcome.numbers.items (present (S.story hosted.outcome.session))) }
     ensures flushed { out.new.held ≡ [] }
 {
     let Hosted { outcome, talked } = hosted;
@@ -75,7 +75,7 @@ fn close<S: EditSession, T: Sink>(
     out: &mut Out<T>,
 ) -> Result<(), RunFault>
     requires { out.old.held ≡ [] }
-    ensures ends { EndsWith talked result out.old out.new (met_text outcome.now.tallies.items outcome.now.numbers.items (present (S.story outcome.now.session))) }
+    ensures ends { EndsWith talked result out.old out.new (outcome_text outcome.now.tallies.items outcome.now.numbers.items (present (S.story outcome.now.session))) }
     ensures flushed { out.new.held ≡ [] }
 {
     match talked {
@@ -90,10 +90,10 @@ fn put_closing<S: EditSession, T: Sink>(
     outcome: &DeskOutcome<S>,
     crew: Crew,
 ) -> Result<(), RunFault>
-    ensures ends { EndsWith (Ok tt) result out.old out.new (met_text outcome.now.tallies.items outcome.now.numbers.items (present (S.story outcome.now.session))) }
+    ensures ends { EndsWith (Ok tt) result out.old out.new (outcome_text outcome.now.tallies.items outcome.now.numbers.items (present (S.story outcome.now.session))) }
     ensures flushed { out.new.held ≡ [] }
 {
-    put_met(out, outcome, crew)?;
+    put_outcome(out, outcome, crew)?;
     out.flush()?;
     Ok(())
 }

@@ -1,11 +1,12 @@
 //! How replies of seats are written.
 ghost use Rattle.std.specs.Prelude.{◌≡◌};
 ghost use Rattle.mp_streams.specs.Outgoing.{Writes};
-ghost use Rattle.mp_commands.specs.live.SeatReplies.{asks_for_work, no_work_text, seat_reply};
+ghost use Rattle.mp_commands.specs.live.SeatReplies.{asks_for_work, asked_edits, no_work_text, seat_reply};
 
 use crate::answers::{
     Snapshot, put_accepted, put_answer, put_coded, put_refused, put_too_long, put_unread,
 };
+use crate::live::signed_edits::put_signed;
 use mp_depend::Work;
 use mp_phase::Crew;
 use mp_seats::{Reply, ReplyWriter};
@@ -16,8 +17,9 @@ use std::alloc::Global;
 use std::sync::Wait;
 use std::thread::Threads;
 
-/// Writes the replies of seats as `play` writes them, with the crew that looks at versions. A version doesn't keep what was evaluated for its last
-/// edit: the question `work` is answered `refused 23 NoWork`. An edit at a seat that can't edit is answered `refused 22 NotADesigner`.
+/// Writes the replies of seats as `play` writes them, with the crew that looks at versions. Each line of `edits` ends with who made the edit. A
+/// version doesn't keep what was evaluated for its last edit: the question `work` is answered `refused 23 NoWork`. An edit at a seat that can't edit
+/// is answered `refused 22 NotADesigner`.
 #[derive(Clone, Copy)]
 pub struct SeatScribe {
     pub alloc: Global,
@@ -36,10 +38,14 @@ impl ReplyWriter for SeatScribe {
         rt: &R,
         out: &mut Out<T>,
         version: &Version,
+        authors: &[usize],
         question: &Question,
     ) -> Result<(), WriteError> {
         if asks_for_work(question) {
             return Ok(put_no_work(out)?);
+        }
+        if let Some(from) = asked_edits(question) {
+            return Ok(put_signed(out, version, authors, from)?);
         }
         let work = Work::none(self.alloc);
         let of = Snapshot {
@@ -60,6 +66,16 @@ fn asks_for_work(question: &Question) -> bool
     ensures { result ≡ asks_for_work question.now }
 {
     matches!(question, Question::Work)
+}
+
+/// From which number on it asks for the accepted edits, if it asks for these.
+fn asked_edits(question: &Question) -> Option<u64>
+    ensures { result ≡ asked_edits question.now }
+{
+    match question {
+        Question::Edits { from } => Some(*from),
+        _ => None,
+    }
 }
 
 /// Writes a reply.

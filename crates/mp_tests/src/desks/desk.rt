@@ -77,7 +77,7 @@ fn submits<L: DeskName, R: Threads + Wait + Sync + Drop>(
 /// The number of the version that the viewer reads.
 fn number_read<L: DeskName>(viewer: &mut Viewer<L>) -> Option<u32> {
     match viewer.read() {
-        Ok(version) => Some(version.number()),
+        Ok(read) => Some(read.version.number()),
         Err(_) => None,
     }
 }

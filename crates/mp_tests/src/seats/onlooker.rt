@@ -1,9 +1,9 @@
 //! One who sits at a seat, makes no edits, and has no memory to read.
+use mp_desk::SignedVersion;
 use mp_netlist::Edit;
 use mp_seats::{Occupant, Refusal};
-use mp_version::Version;
 use std::alloc::AllocError;
-use std::sync::{Arc, Wait};
+use std::sync::Wait;
 use std::thread::Threads;
 
 /// Refuses edits, and reads nothing.
@@ -25,7 +25,7 @@ impl Occupant for Onlooker {
         Err(Refusal::NotADesigner)
     }
 
-    fn read(&mut self) -> Result<Arc<Version>, AllocError> {
+    fn read(&mut self) -> Result<SignedVersion, AllocError> {
         Err(AllocError)
     }
 

@@ -14,7 +14,7 @@ impl ReplyWriter for Words {
     ghost use Rattle.std.specs.Prelude.{[]};
     ghost use Rattle.mp_tests.specs.seats.Words.{word};
 
-    ghost answer_text = { λ _ _. [] };
+    ghost answer_text = { λ _ _ _. [] };
 
     ghost reply_text = { word };
 
@@ -23,6 +23,7 @@ impl ReplyWriter for Words {
         _rt: &R,
         _out: &mut Out<T>,
         _version: &Version,
+        _authors: &[usize],
         _question: &Question,
     ) -> Result<(), WriteError> {
         Ok(())

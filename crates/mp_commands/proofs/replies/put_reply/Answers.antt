@@ -11,7 +11,7 @@ returns-in_err-put_unread-in-Err g c =
     let r = c.from_residual in
     let other : is_memory c.in-Err.error ≡ false = search rules in
     let put = c.in_err-put_unread-in-Err.ensures in
-    unread_replied r.result _ _ c.args.keeper.now c.args.line.now c.in-Err.error c.in-Err.ensures.read other (puts_as r.result WriteFailed r.ensures.1 refl put)
+    unread_replied r.result _ _ c.args.session.now c.args.line.now c.in-Err.error c.in-Err.ensures.read other (puts_as r.result WriteFailed r.ensures.1 refl put)
 
 pub returns-in-Err-OutOfMemory : goal.returns-in-Err-OutOfMemory
-returns-in-Err-OutOfMemory g c = memory_replied _ c.args.out.now c.args.keeper.now c.args.line.now refl
+returns-in-Err-OutOfMemory g c = memory_replied _ c.args.out.now c.args.session.now c.args.line.now refl

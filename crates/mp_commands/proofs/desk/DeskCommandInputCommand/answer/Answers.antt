@@ -23,28 +23,28 @@ returns g c =
     let is_opened = rw (c.desk_crew.ensures.valid, c.len.ensures, count, c.in_ok-front.ensures.front, c.as_slice-text.ensures.value) at c.in_ok-netlist.ensures.netlist in
     refused true _ _ _ (Err c.fault_of_meeting.result) (run_fault_of c.in-Err.fault) c.fault_of_meeting.ensures (refused_meeting _ c.in-Err.fault (rw is_opened refl))
 
-pub returns-in_err-put_met-in-Ok : goal.returns-in_err-put_met-in-Ok
-returns-in_err-put_met-in-Ok g c =
+pub returns-in_err-put_outcome-in-Ok : goal.returns-in_err-put_outcome-in-Ok
+returns-in_err-put_outcome-in-Ok g c =
     let viewers = c.args.options.now.viewers in
-    let m = c.in-Ok.met in
-    let r = c.from_residual-in_err-put_met-in-Ok in
+    let m = c.in-Ok.outcome in
+    let r = c.from_residual-in_err-put_outcome-in-Ok in
     let count = blocks_count c.args.input.items c.in_ok-front.blocks.items (vec_len c.in_ok-front.blocks) (search rules) (rw c.as_slice-text.ensures.value at c.in_ok-front.ensures.blocks) in
     let is_opened = rw (c.desk_crew.ensures.valid, c.len.ensures, count, c.in_ok-front.ensures.front, c.as_slice-text.ensures.value) at c.in_ok-netlist.ensures.netlist in
     let sizes = rw c.in_ok-netlist.ensures.crew at c.desk_crew.ensures.size in
     let seen : length m.numbers.items ≡ viewers = search rules in
     let meeting = rw (c.in_ok-session.ensures.story, c.as_slice.ensures.value, c.in_ok-front.ensures.blocks, c.as_slice-text.ensures.value) at c.in-Ok.ensures.met in
-    let text = is_text c.in_ok-netlist.netlist (blocks_of c.args.input.items) viewers _ m.tallies.items m.numbers.items meeting seen c.in_err-put_met-in-Ok.ensures.replayed in
+    let text = is_text c.in_ok-netlist.netlist (blocks_of c.args.input.items) viewers _ m.tallies.items m.numbers.items meeting seen c.in_err-put_outcome-in-Ok.ensures.replayed in
     wrote_part true _ _ c.in_ok-netlist.netlist is_opened _ text _ _ r.result writes.WriteFailed r.ensures.1
-    (puts_as (Err writes.WriteFailed) writes.WriteFailed refl refl c.in_err-put_met-in-Ok.ensures.written)
+    (puts_as (Err writes.WriteFailed) writes.WriteFailed refl refl c.in_err-put_outcome-in-Ok.ensures.written)
 
 pub returns-in-Ok : goal.returns-in-Ok
 returns-in-Ok g c =
     let viewers = c.args.options.now.viewers in
-    let m = c.in-Ok.met in
+    let m = c.in-Ok.outcome in
     let count = blocks_count c.args.input.items c.in_ok-front.blocks.items (vec_len c.in_ok-front.blocks) (search rules) (rw c.as_slice-text.ensures.value at c.in_ok-front.ensures.blocks) in
     let is_opened = rw (c.desk_crew.ensures.valid, c.len.ensures, count, c.in_ok-front.ensures.front, c.as_slice-text.ensures.value) at c.in_ok-netlist.ensures.netlist in
     let sizes = rw c.in_ok-netlist.ensures.crew at c.desk_crew.ensures.size in
     let seen : length m.numbers.items ≡ viewers = search rules in
     let meeting = rw (c.in_ok-session.ensures.story, c.as_slice.ensures.value, c.in_ok-front.ensures.blocks, c.as_slice-text.ensures.value) at c.in-Ok.ensures.met in
-    let text = is_text c.in_ok-netlist.netlist (blocks_of c.args.input.items) viewers _ m.tallies.items m.numbers.items meeting seen c.in_ok-put_met-in-Ok.ensures.replayed in
-    wrote true _ _ c.in_ok-netlist.netlist is_opened _ text _ _ (puts_ok c.in_ok-put_met-in-Ok.ensures.written)
+    let text = is_text c.in_ok-netlist.netlist (blocks_of c.args.input.items) viewers _ m.tallies.items m.numbers.items meeting seen c.in_ok-put_outcome-in-Ok.ensures.replayed in
+    wrote true _ _ c.in_ok-netlist.netlist is_opened _ text _ _ (puts_ok c.in_ok-put_outcome-in-Ok.ensures.written)

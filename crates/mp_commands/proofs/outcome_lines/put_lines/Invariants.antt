@@ -1,6 +1,6 @@
 use Rattle.std.specs.Prelude.{◌+◌}
 use Rattle.mp_commands.proofs.Names.{drop, Left, lines_from}
-use Rattle.mp_commands.proofs.met_lines.put_lines.Given as goal
+use Rattle.mp_commands.proofs.outcome_lines.put_lines.Given as goal
 
 -- the lines from this place on are left to write
 abbrev pub invariant-loop-place : goal.invariant-loop-place

@@ -1,7 +1,7 @@
 //! The lines of a meeting.
 ghost use Rattle.std.specs.Prelude.{◌≡◌, ℕ, List, Ok};
 ghost use Rattle.mp_commands.specs.Names.{replay, present, Writes, lines_from};
-ghost use Rattle.mp_commands.specs.Desks.{tally_line, viewer_line, met_text};
+ghost use Rattle.mp_commands.specs.Desks.{tally_line, viewer_line, outcome_text};
 
 use crate::views::{Evaluated, put_wave_lines};
 use mp_desk::{DeskOutcome, Tally};
@@ -10,22 +10,22 @@ use mp_streams::{Failed, Out, Sink, Text};
 use mp_version::EditSession;
 
 /// Writes a line for each designer, a line for each viewer, and the lines of the waves after the meeting.
-pub fn put_met<S: EditSession, T: Sink>(
+pub fn put_outcome<S: EditSession, T: Sink>(
     out: &mut Out<T>,
-    met: &DeskOutcome<S>,
+    outcome: &DeskOutcome<S>,
     crew: Crew,
 ) -> Result<(), Failed>
-    ensures replayed { replay (S.story met.now.session).base (S.story met.now.session).edits ≡ Ok (present (S.story met.now.session)) }
-    ensures written { Writes result out.old out.new (met_text met.now.tallies.items met.now.numbers.items (present (S.story met.now.session))) }
+    ensures replayed { replay (S.story outcome.now.session).base (S.story outcome.now.session).edits ≡ Ok (present (S.story outcome.now.session)) }
+    ensures written { Writes result out.old out.new (outcome_text outcome.now.tallies.items outcome.now.numbers.items (present (S.story outcome.now.session))) }
 {
-    let version = met.session.version();
+    let version = outcome.session.version();
     let of = Evaluated {
         netlist: version.now(),
         waves: version.waves(),
         crew,
     };
-    put_lines(out, met.tallies.as_slice())?;
-    put_lines(out, met.numbers.as_slice())?;
+    put_lines(out, outcome.tallies.as_slice())?;
+    put_lines(out, outcome.numbers.as_slice())?;
     put_wave_lines(out, &of)
 }
 

@@ -1,7 +1,7 @@
 use Rattle.std.specs.Prelude.{◌≡◌, ◌+◌}
 use Rattle.mp_commands.proofs.Names.{[], drop, ap, arith, rules, drop_all, left_whole, left_none, lines_from}
 use Rattle.mp_commands.proofs.DeskLemmas.{line_put, line_failed}
-use Rattle.mp_commands.proofs.met_lines.put_lines.Goals as goal
+use Rattle.mp_commands.proofs.outcome_lines.put_lines.Goals as goal
 
 pub loop-place-init : goal.loop-place-init
 loop-place-init g c = left_whole c.args.out.now (lines_from g.L.NumberedLine.line 1 c.args.things.now)
