@@ -1,5 +1,5 @@
 -- A line that is written is read as its words.
-use Rattle.mp_text.proofs.Names.{◌≡◌, ◌+◌, ◌<◌, ◌==◌, ◌∷◌, ◌++◌, ℕ, true, false, suc, List, [], append_assoc, length, filter, All, Ok, refl, ap, arith, position_or_len, list_all, nat_tests, append-nil, All-head, All-tail, All-cons, All-nil, list_all-append, spaced, written_line, IsPlain, is_plain_byte, plain_allowed, plain_no_gap, plain_no_hash, All-passing, list_all-passing, lines_of, is_line_feed, is_allowed, line_words, words_of, statement_part, is_word, is_gap}
+use Rattle.mp_text.proofs.Names.{◌≡◌, ◌∷◌, ◌++◌, ℕ, true, false, List, [], append_assoc, All, Ok, refl, arith, list_all, nat_tests, append-nil, All-head, All-tail, list_all-append, spaced, written_line, IsPlain, plain_allowed, All-passing, list_all-passing, lines_of, is_line_feed, is_allowed, line_words, words_of}
 use Rattle.mp_text.proofs.lemmas.lexing.LineWordLemmas.{words_of-gap, words_of-last}
 use Rattle.mp_text.proofs.lemmas.lexing.LineLemmas.{lines_of-line as lines_of-ended}
 

@@ -1,5 +1,5 @@
 -- The words of a line, taken off its front one by one.
-use Rattle.mp_text.proofs.lemmas.lexing.Names.{◌≡◌, ◌+◌, ◌<◌, ◌≤◌, ◌==◌, ◌&&◌, ◌∷◌, ◌++◌, ℕ, Bool, true, false, suc, List, [], Bor, append_assoc, append-nil, length, map, map_push, take, drop, drop-cons, get_or, length-drop, length-take-le, take-append-drop, All, All-head, All-tail, All-cons, All-nil, All-push, and_parts, IsAscii, IsAscii-from_all, Result, Ok, Err, refl, sym, ap, subst, ◌∙◌, arith, nat_tests, position_or_len, list_all, list_all-append, slice_split, slice_split_none, is_gap, is_word, is_word_byte, is_allowed, statement_part, words_of, texts, with_front, LineError}
+use Rattle.mp_text.proofs.lemmas.lexing.Names.{◌≡◌, ◌+◌, ◌<◌, ◌≤◌, ◌==◌, ◌&&◌, ◌∷◌, ◌++◌, ℕ, Bool, true, false, suc, List, [], Bor, append_assoc, append-nil, length, map_push, take, drop, drop-cons, get_or, length-drop, length-take-le, take-append-drop, All, All-head, All-tail, All-cons, All-nil, and_parts, IsAscii, IsAscii-from_all, Result, Ok, Err, refl, sym, ap, subst, ◌∙◌, arith, nat_tests, position_or_len, list_all, list_all-append, slice_split, slice_split_none, is_gap, is_word, is_word_byte, is_allowed, statement_part, words_of, texts, with_front, LineError}
 use Rattle.std.specs.Prelude.{filter, if◌then◌else◌}
 use Rattle.std.proofs.lemmas.List.Splits.{slice_split_at}
 use Rattle.mp_text.specs.declared.lexing.line_error.LineError.TheVariants.{NotAscii}
