@@ -12,7 +12,8 @@ working s = record { seen = s.seen; accepted = s.accepted; number = s.number; si
 abbrev pub tally_of : DesignerTally → Tally
 tally_of s = record { accepted = s.accepted; refused = s.refused }
 
--- a desk that was opened with so many edits is closed at this story: it extends what each designer has seen, its other edits are theirs, and so many edits each viewer saw at last, all that a designer was told of among them
+-- a desk that was opened with so many edits is closed at this story: it extends what each designer has seen, its other edits are theirs, and so many edits
+-- each viewer saw at last, all that a designer was told of among them
 pub record HasAdjourned (opening : ℕ) (sittings : List DesignerTally) (viewers : ℕ) (now : Story) (tallies : List Tally) (numbers : List ℕ) : Type 0 where
   pub whole : All (λ s. s.wanting ≡ false) sittings
   pub seen : ExtendsEach now (map working sittings)
