@@ -2,7 +2,7 @@
 //!
 //! `automata` has modules of width 1 as automata, which answer all events of a unit from one table. `events` has the event wheel, the fanout, and the
 //! loops of a unit. `datapath` has the same for modules with data, and `timers` a timer wheel of numbers. Begin with `automata/automaton.rt` and
-//! `events/event_wheel.rt`.
+//! `events/wheel.rt`.
 #![tactic(auto)]
 
 pub mod automata;
@@ -20,7 +20,7 @@ pub use datapath::{
 };
 pub use events::{
     EventSlot, EventWheel, Fanout, FanoutEntry, FanoutRow, OutputPort, OutputPorts, OutputTable,
-    WaveTable, add_event, add_fanout_events, fire_modules, schedule_copies, schedule_if,
-    toggle_wires,
+    Slot, WaveTable, Wheel, add_event, add_fanout_events, fire_modules, schedule_copies,
+    schedule_if, toggle_wires,
 };
 pub use timers::{NEVER, TimerWheel};

@@ -4,7 +4,7 @@ use Rattle.mp_modules.specs.declared.memory.Memory.{Memory}
 use Rattle.mp_modules.specs.Memories.{output_of}
 use Rattle.mp_kernel.specs.declared.automata.events.Events.{Events}
 use Rattle.mp_kernel.specs.declared.automata.toggles.Toggles.{Toggles}
-use Rattle.mp_kernel.specs.automata.Codes.{bit, events_code, toggles_code}
+use Rattle.mp_kernel.specs.automata.Codes.{events_code, toggles_code}
 
 -- the number of some inputs and some outputs: bit p is the input p, and bit 4 + p the output p
 abbrev pub ports_code : Events → Toggles → ℕ

@@ -1,17 +1,10 @@
 -- The slots of a level wheel.
-use Rattle.std.specs.Prelude.{ℕ, ◌-◌, Bool, List, [], ◌∷◌, ◌++◌, Option, Some, None, take, drop, slice_set, slice_index_or, if◌then◌else◌}
+use Rattle.std.specs.Prelude.{ℕ, ◌-◌, Bool, List, [], ◌∷◌, Option, Some, None, if◌then◌else◌}
 use Rattle.std.specs.List.{flat_map}
 use Rattle.mp_kernel.specs.declared.events.output_port.OutputPort.{OutputPort}
 use Rattle.mp_kernel.specs.events.Firing.{copy_at}
 use Rattle.mp_kernel.specs.declared.datapath.level_change.LevelChange.{LevelChange}
-
--- with one more entry in a slot
-abbrev pub with_entry : List (List LevelChange) → ℕ → LevelChange → List (List LevelChange)
-with_entry slots k change = slice_set slots k (slice_index_or slots k [] ++ change ∷ [])
-
--- the slots of a circle, from a place on
-abbrev pub turned_by : ℕ → List (List LevelChange) → List (List LevelChange)
-turned_by next slots = drop next slots ++ take next slots
+pub use Rattle.mp_kernel.specs.events.EventWheels.{with_entry}
 
 -- the wheel with these entries: how many units after the next, and the change
 abbrev pub scheduled : List (List LevelChange) → List (ℕ × LevelChange) → List (List LevelChange)

@@ -6,9 +6,9 @@ ghost use Rattle.mp_kernel.specs.datapath.LevelWheels.{scheduled as levels_sched
 ghost use Rattle.mp_kernel.specs.datapath.DataModules.{CanFire, stepped, events_of, changes_of};
 ghost use Rattle.mp_kernel.specs.datapath.DataFiring.{ArePlaced, HaveStepped, stepped_in, events_in, changes_in, fired_by, changed_by};
 
+use crate::datapath::LevelWheel;
 use crate::datapath::data_module::DataModule;
 use crate::datapath::level_scheduling::schedule_level_if;
-use crate::datapath::level_wheel::LevelWheel;
 use crate::events::{EventWheel, schedule_if};
 use std::alloc::AllocError;
 

@@ -3,8 +3,8 @@ ghost use Rattle.std.specs.Prelude.{◌≡◌, ◌<◌, OnOk, All, length};
 ghost use Rattle.mp_kernel.specs.events.Firing.{HasSlot};
 ghost use Rattle.mp_kernel.specs.datapath.LevelWheels.{scheduled, entry_if, copied_from};
 
+use crate::datapath::LevelWheel;
 use crate::datapath::level_change::LevelChange;
-use crate::datapath::level_wheel::LevelWheel;
 use crate::events::OutputPort;
 use std::alloc::AllocError;
 

@@ -7,8 +7,8 @@ ghost use Rattle.mp_kernel.specs.events.Firing.{UnitState, HasSlot, HaveSlots, s
 ghost use Rattle.mp_kernel.specs.events.LevelFlips.{levels_at, flipped, HaveFlipped};
 
 use crate::automata::{AutomatonState, PortLevels, TransitionTable};
+use crate::events::EventWheel;
 use crate::events::batches::{batch_end, is_large};
-use crate::events::event_wheel::EventWheel;
 use crate::events::output_port::OutputPort;
 use crate::events::output_table::OutputTable;
 use std::alloc::AllocError;

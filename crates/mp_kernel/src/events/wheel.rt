@@ -1,50 +1,50 @@
-//! The event wheel.
+//! The event wheel, and the wheel of levels to come.
 
 ghost use Rattle.std.specs.Prelude.{◌≡◌, ◌+◌, ◌-◌, ◌<◌, ◌≤◌, nat_lt, if◌then◌else◌};
 ghost use Rattle.std.specs.List.{list_all};
 ghost use Rattle.mp_kernel.specs.events.EventWheels.{is_empty};
 
-use crate::events::event_slot::EventSlot;
+use crate::events::slot::Slot;
 use std::alloc::{AllocError, Global};
 use std::marker::Model;
 use std::mem::swap;
 
-/// An event wheel: a slot for each of the next units, the next first, with the wires that toggle in it, as far as is known. The slots form a circle,
-/// and `next` is the place of the slot of the next unit.
+/// A wheel: a slot for each of the next units, the next first, with what happens in it, as far as is known. The slots form a circle, and `next` is the
+/// place of the slot of the next unit.
 #[derive(Drop)]
-pub struct EventWheel {
-    slots: Vec<EventSlot>,
+pub struct Wheel<E: Copy> {
+    slots: Vec<Slot<E>>,
     next: usize,
 }
 
-impl Model for EventWheel {
-    ghost use Rattle.std.specs.Prelude.{List, ℕ, ◌-◌, ◌≤◌, length};
+impl<E: Copy> Model for Wheel<E> {
+    ghost use Rattle.std.specs.Prelude.{List, ◌-◌, ◌≤◌, length};
     ghost use Rattle.mp_kernel.specs.events.EventWheels.{turned_by};
 
-    ghost Value = { List (List ℕ) };
+    ghost Value = { List (List E) };
 
     ghost view = { λ wheel. turned_by wheel.next wheel.slots.items };
 
     ghost invariant = { λ wheel. wheel.next ≤ length wheel.slots.items - 1 };
 }
 
-impl EventWheel {
+impl<E: Copy> Wheel<E> {
     ghost use Rattle.std.specs.Prelude.{◌≡◌, ◌↔◌, ℕ, ◌-◌, ◌<◌, ◌≤◌, ◌++◌, ◌∷◌, [], drop, length, IsTrue, IfOk, OnOk, slice_index_or, slice_set};
     ghost use Rattle.mp_kernel.specs.events.EventWheels.{with_entry, AreEmpty};
 
-    /// A wheel of this number of units, in which nothing toggles.
-    pub fn new(alloc: Global, units: usize) -> Result<EventWheel, AllocError>
+    /// A wheel of this number of units, in which nothing happens.
+    pub fn new(alloc: Global, units: usize) -> Result<Wheel<E>, AllocError>
         ensures places { IfOk result (λ wheel. length wheel ≡ units) }
         ensures empty { IfOk result (λ wheel. (k : ℕ) → slice_index_or wheel k [] ≡ []) }
     {
         let mut slots = Vec::with_capacity(alloc, units)?;
         for _unit in 0..units {
-            slots.push(EventSlot::new(alloc))?;
+            slots.push(Slot::new(alloc))?;
         }
-        Ok(EventWheel { slots, next: 0 })
+        Ok(Wheel { slots, next: 0 })
     }
 
-    /// Whether nothing toggles in the next unit, as far as is known.
+    /// Whether nothing happens in the next unit, as far as is known.
     #[inline(always)]
     pub fn is_quiet(&self) -> bool
         requires { 0 < length self.now }
@@ -53,15 +53,15 @@ impl EventWheel {
         self.slots[self.next].is_empty()
     }
 
-    /// Whether nothing toggles in any unit to come, as far as is known.
+    /// Whether nothing happens in any unit to come, as far as is known.
     pub fn is_idle(&self) -> bool
         ensures { IsTrue result ↔ AreEmpty self.now }
     {
         are_empty(self.slots.as_slice())
     }
 
-    /// The wires that toggle `units` after the next unit, as far as is known.
-    pub fn slot(&self, units: usize) -> &[u32]
+    /// What happens `units` after the next unit, as far as is known.
+    pub fn slot(&self, units: usize) -> &[E]
         ensures { result.now ≡ slice_index_or self.now units [] }
     {
         if units >= self.slots.len() {
@@ -72,7 +72,7 @@ impl EventWheel {
     }
 
     /// Swaps the slot `units` after the next one with another slot.
-    pub fn swap_slot(&mut self, units: usize, other: &mut EventSlot)
+    pub fn swap_slot(&mut self, units: usize, other: &mut Slot<E>)
         requires { units < length self.old }
         ensures wheel { self.new ≡ slice_set self.old units other.old }
         ensures other { other.new ≡ slice_index_or self.old units [] }
@@ -83,7 +83,7 @@ impl EventWheel {
 
     /// Begins the next unit: its slot becomes the present one, and the former present slot is emptied and becomes that of the last unit.
     #[inline(always)]
-    pub fn turn(&mut self, present: &mut EventSlot)
+    pub fn turn(&mut self, present: &mut Slot<E>)
         requires { 0 < length self.old }
         ensures present { present.new ≡ slice_index_or self.old 0 [] }
         ensures turned { self.new ≡ drop 1 self.old ++ [] ∷ [] }
@@ -97,7 +97,7 @@ impl EventWheel {
         self.next = place_after(self.next, 1, self.slots.len());
     }
 
-    /// Begins the next unit, in which nothing toggles.
+    /// Begins the next unit, in which nothing happens.
     #[inline(always)]
     pub fn skip(&mut self)
         requires some { 0 < length self.old }
@@ -107,21 +107,21 @@ impl EventWheel {
         self.next = place_after(self.next, 1, self.slots.len());
     }
 
-    /// Schedules a toggle of the wire `delay` units after the present one.
+    /// Schedules an entry `delay` units after the present one.
     #[inline(always)]
-    pub fn schedule(&mut self, delay: usize, wire: u32) -> Result<(), AllocError>
+    pub fn schedule(&mut self, delay: usize, entry: E) -> Result<(), AllocError>
         requires some { 0 < delay }
         requires within { delay ≤ length self.old }
-        ensures { OnOk result (self.new ≡ with_entry self.old (delay - 1) wire) }
+        ensures { OnOk result (self.new ≡ with_entry self.old (delay - 1) entry) }
     {
         let place = place_after(self.next, delay - 1, self.slots.len());
-        self.slots[place].push(wire)?;
+        self.slots[place].push(entry)?;
         Ok(())
     }
 }
 
 /// Whether nothing is in any of the slots.
-fn are_empty(slots: &[EventSlot]) -> bool
+fn are_empty<E: Copy>(slots: &[Slot<E>]) -> bool
     ensures { result ≡ list_all is_empty slots.now }
 {
     slots.iter().all(|slot| slot.as_slice().is_empty())

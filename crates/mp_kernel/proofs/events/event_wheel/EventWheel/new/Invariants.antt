@@ -1,5 +1,0 @@
-use Rattle.std.proofs.Common.{◌≡◌, [], ℕ, length, slice_index_or}
-use Rattle.mp_kernel.proofs.events.event_wheel.EventWheel.new.Given as goal
-
-abbrev pub invariant-loop-unit : goal.invariant-loop-unit
-invariant-loop-unit l = (length l.slots.items ≡ l._unit) × ((k : ℕ) → slice_index_or l.slots.items k [] ≡ [])
