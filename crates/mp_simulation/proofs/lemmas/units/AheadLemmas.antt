@@ -13,7 +13,8 @@ use Rattle.mp_kernel.specs.declared.datapath.level_change.LevelChange.{LevelChan
 use Rattle.mp_kernel.specs.datapath.LevelWheels.{scheduled, entry_at}
 use Rattle.mp_simulation.specs.units.DataLevels.{is_data, changes_of, IsLevelAt}
 use Rattle.mp_simulation.specs.units.DataWheels.{data_slot, ahead, HaveLevels}
-use Rattle.mp_simulation.proofs.lemmas.units.LevelWheelLemmas.{is_change, changes_each, HoldsIn, HoldsOf, holds_scheduled, turned_length, turned_at}
+use Rattle.mp_simulation.proofs.lemmas.bits.TurnLemmas.{turned_at, turned_length}
+use Rattle.mp_simulation.proofs.lemmas.units.LevelWheelLemmas.{is_change, changes_each, HoldsIn, HoldsOf, holds_scheduled}
 
 -- the number has data, and a change at a time
 abbrev pub has_change : Circuit → (ℕ → ℕ × ℕ) → ℕ → ℕ → Bool

@@ -38,7 +38,8 @@ use Rattle.mp_simulation.specs.units.DataWheels.{data_slot, ahead_by, ahead, Are
 use Rattle.mp_simulation.specs.units.DataSeats.{AreDataModules}
 use Rattle.mp_simulation.specs.units.NetlistSimulations.{IsSimulated, AreStimuli}
 use Rattle.mp_simulation.specs.units.Units.{present_of, others_of}
-use Rattle.mp_simulation.proofs.lemmas.units.LevelWheelLemmas.{HoldsOf, holds_scheduled, turned_at}
+use Rattle.mp_simulation.proofs.lemmas.bits.TurnLemmas.{turned_at}
+use Rattle.mp_simulation.proofs.lemmas.units.LevelWheelLemmas.{HoldsOf, holds_scheduled}
 use Rattle.mp_simulation.proofs.lemmas.units.AheadLemmas.{AreEntered}
 use Rattle.mp_simulation.proofs.lemmas.units.LevelCopyLemmas.{copied_hold}
 use Rattle.mp_simulation.proofs.lemmas.units.FiringLemmas.{events_none, events_data, events_driven, changes_none, changes_driven, changes_hold, changed_levels, stepped_next}

@@ -1,14 +1,12 @@
 -- Changes of level are scheduled: how often a number is in a slot, and what holds of each change.
-use Rattle.std.proofs.Common.{◌≡◌, ◌≢◌, ℕ, suc, ◌+◌, ◌<◌, ◌≤◌, Bool, true, false, cond, nat_lt, drop, List, [], ◌∷◌, ◌++◌, All, length, refl, sym, ap, ◌∙◌, arith, get_or-set_same, get_or-set_other, subst}
+use Rattle.std.proofs.Common.{◌≡◌, ◌≢◌, ℕ, ◌+◌, ◌<◌, ◌≤◌, Bool, true, false, cond, nat_lt, List, [], ◌∷◌, ◌++◌, All, length, refl, sym, ap, ◌∙◌, arith, get_or-set_same, get_or-set_other, subst}
 use Rattle.std.specs.Prelude.{◌==◌, ◌&&◌, slice_index_or}
 use Rattle.std.specs.List.{count_by, sum_by, flat_map}
 use Rattle.std.proofs.lemmas.Bool.{eqb-true, eqb-false}
 use Rattle.std.proofs.lemmas.Bool.Decides.{nat_tests}
-use Rattle.std.proofs.lemmas.List.{length-set, length-append, length-drop, get_or-drop, get_or_append_left, set_past}
+use Rattle.std.proofs.lemmas.List.{length-set, set_past}
 use Rattle.std.proofs.lemmas.List.Elements.{All-head, All-tail, All-push}
 use Rattle.std.proofs.lemmas.List.Sums.{sum_by-append, sum_by-cons}
-use Rattle.std.proofs.Math.ListN.{get_or-eq_default}
-use Rattle.std.proofs.Math.Seq.{get_or-append_seam}
 use Rattle.mp_kernel.specs.automata.Codes.{bit}
 use Rattle.mp_kernel.specs.declared.datapath.level_change.LevelChange.{LevelChange}
 use Rattle.mp_kernel.specs.datapath.LevelWheels.{with_entry, scheduled}
@@ -100,29 +98,3 @@ holds_scheduled P slots (entry ∷ entries) was each =
     holds_scheduled P (with_entry slots entry.0 entry.1) entries
     (λ k. entry_holds P slots entry.0 entry.1 k (entry.0 == k) refl was (All-head (HoldsOf P) entry entries each))
     (All-tail (HoldsOf P) entry entries each)
-
--- the first slot goes, and one in which nothing changes comes behind the last
-pub turned_length : (slots : List (List LevelChange)) → 0 < length slots → length (drop 1 slots ++ [] ∷ []) ≡ length slots
-turned_length slots some = length-append (drop 1 slots) ([] ∷ []) ∙ ap (λ k. k + 1) (length-drop 1 slots) ∙ omega arith
-
-last_when : (rest : List (List LevelChange)) (k : ℕ) → length rest ≤ k → (last : Bool) → (k == length rest) ≡ last → slice_index_or (rest ++ [] ∷ []) k [] ≡ []
-last_when rest k beyond true is =
-    let same : k ≡ length rest = eqb-true k (length rest) is in
-    ap (λ i. slice_index_or (rest ++ [] ∷ []) i []) same ∙ get_or-append_seam rest [] [] []
-last_when rest k beyond false is =
-    let differs = eqb-false k (length rest) is in
-    let long = length-append rest ([] ∷ []) in
-    get_or-eq_default (rest ++ [] ∷ []) [] (omega arith)
-
-turned_when : (rest : List (List LevelChange)) (k : ℕ) (low : Bool) → nat_lt k (length rest) ≡ low → slice_index_or (rest ++ [] ∷ []) k [] ≡ slice_index_or rest k []
-turned_when rest k true is =
-    let within : k < length rest = grind (arith, nat_tests) in
-    get_or_append_left rest ([] ∷ []) [] k within
-turned_when rest k false is =
-    let beyond : length rest ≤ k = grind (arith, nat_tests) in
-    last_when rest k beyond (k == length rest) refl ∙ sym (get_or-eq_default rest [] beyond)
-
-pub turned_at : (slots : List (List LevelChange)) (k : ℕ) → data_slot (drop 1 slots ++ [] ∷ []) k ≡ data_slot slots (suc k)
-turned_at slots k =
-    let next : 1 + k ≡ suc k = omega arith in
-    turned_when (drop 1 slots) k (nat_lt k (length (drop 1 slots))) refl ∙ get_or-drop 1 slots k [] ∙ ap (λ i. slice_index_or slots i []) next

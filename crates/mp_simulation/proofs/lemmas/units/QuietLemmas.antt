@@ -19,7 +19,6 @@ use Rattle.mp_simulation.specs.units.DataLevels.{number_of_change}
 use Rattle.mp_simulation.specs.units.DataWaves.{pushed}
 use Rattle.mp_simulation.specs.units.DataWheels.{data_slot}
 use Rattle.mp_simulation.specs.units.Units.{present_of, others_of, HaveToggled, HaveAdvanced, HaveTurned, HasApplied}
-use Rattle.mp_simulation.proofs.lemmas.units.LevelWheelLemmas.{turned_length as changes_turned}
 
 -- the simulation whose wheels have gone on
 abbrev pub skipped : NetlistSimulation → List (List ℕ) → List (List ℕ) → List (List LevelChange) → NetlistSimulation
@@ -76,7 +75,7 @@ module _ (s : NetlistSimulation) (sound : IsSoundRun s.bits) (wires : next_slot 
     waves = sym (ap (λ (cs : List LevelChange). pushed s.wires.waves.items time (cs ++ [])) still);
     next = refl;
     wheel = changes_turn ∙ sym (ap (λ (cs : List LevelChange). scheduled (drop 1 s.wires.wheel ++ [] ∷ []) (copied_from s.wires.next.items (cs ++ []))) still);
-    units = ap (length {A = List LevelChange}) changes_turn ∙ changes_turned s.wires.wheel some;
+    units = ap (length {A = List LevelChange}) changes_turn ∙ turned_length s.wires.wheel some;
   }
 
   -- nothing is all that changes, and it has been applied

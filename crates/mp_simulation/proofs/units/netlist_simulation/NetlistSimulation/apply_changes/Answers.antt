@@ -13,7 +13,6 @@ use Rattle.mp_simulation.specs.units.DataLevels.{number_of_change}
 use Rattle.mp_simulation.specs.units.DataWaves.{building_at, pushed}
 use Rattle.mp_simulation.specs.units.NetlistSimulations.{AreStimuli}
 use Rattle.mp_simulation.specs.units.Units.{present_of}
-use Rattle.mp_simulation.proofs.lemmas.units.LevelWheelLemmas.{turned_length as changes_turned}
 use Rattle.mp_simulation.proofs.lemmas.units.PassLemmas.{can_begin, wires_in, late_in, changes_in, once, over, levels_as, copied_as}
 use Rattle.mp_simulation.proofs.units.netlist_simulation.NetlistSimulation.apply_changes.Goals as goal
 
@@ -98,7 +97,7 @@ advance-requires-2-clause-within c =
     let is = c.requires.fit.is in
     let begun = c.in_ok-begin_unit.ensures in
     let applied = c.in_ok-apply.ensures in
-    let units = ap (length {A = List LevelChange}) (applied.wheel ∙ begun.wheel) ∙ changes_turned s.wires.wheel is.wires.some in
+    let units = ap (length {A = List LevelChange}) (applied.wheel ∙ begun.wheel) ∙ turned_length s.wires.wheel is.wires.some in
     subst (λ (ports : List OutputPort). All (HasSlot (length c.apply.new.self.wheel)) ports) (sym (applied.next ∙ begun.next))
     (subst (λ k. All (HasSlot k) s.wires.next.items) (sym units) is.wires.within)
 
@@ -119,7 +118,7 @@ returns-clause-numbers c =
       data_next = advanced.next ∙ applied.next ∙ begun.next;
       units = e.units;
       copy_units = late.places ∙ ap (length {A = List ℕ}) copies.wheel ∙ turned_length s.bits.copies.wheel is.sound.copies.some;
-      change_units = advanced.places ∙ ap (length {A = List LevelChange}) (applied.wheel ∙ begun.wheel) ∙ changes_turned s.wires.wheel is.wires.some;
+      change_units = advanced.places ∙ ap (length {A = List LevelChange}) (applied.wheel ∙ begun.wheel) ∙ turned_length s.wires.wheel is.wires.some;
       places = refl;
       seats = refl;
     }
@@ -182,7 +181,7 @@ returns-clause-applied c n t ok now is sets =
           next = advanced.next ∙ applied.next ∙ begun.next;
           wheel = copied_as s c.args.levels.now c.advance-2.new.self.wheel c.apply.new.self.wheel c.apply.new.self.next.items c.apply.new.self.present
               (applied.wheel ∙ begun.wheel) (applied.next ∙ begun.next) (applied.present ∙ present) advanced.wheel;
-          units = advanced.places ∙ ap (length {A = List LevelChange}) (applied.wheel ∙ begun.wheel) ∙ changes_turned s.wires.wheel is.wires.some;
+          units = advanced.places ∙ ap (length {A = List LevelChange}) (applied.wheel ∙ begun.wheel) ∙ turned_length s.wires.wheel is.wires.some;
         };
         modules = refl;
       };

@@ -4,7 +4,6 @@ use Rattle.mp_kernel.specs.declared.events.fanout_entry.FanoutEntry.{FanoutEntry
 use Rattle.mp_kernel.specs.declared.events.output_port.OutputPort.{OutputPort}
 use Rattle.mp_simulation.proofs.lemmas.bits.TurnLemmas.{turned_length}
 use Rattle.mp_kernel.specs.declared.datapath.level_change.LevelChange.{LevelChange}
-use Rattle.mp_simulation.proofs.lemmas.units.LevelWheelLemmas.{turned_length as changes_turned}
 use Rattle.mp_simulation.specs.declared.units.netlist_simulation.NetlistSimulation.{NetlistSimulation}
 use Rattle.mp_simulation.specs.units.NetlistSimulations.{IsSimulated, AreStimuli, IsStill}
 use Rattle.mp_simulation.specs.units.Units.{IsApplied}
@@ -46,7 +45,7 @@ returns-clause-numbers c =
       data_next = refl {A = List OutputPort};
       units = ap (length {A = List ℕ}) c.skip.ensures ∙ turned_length s.bits.simulator.wheel sound.simulator.some;
       copy_units = ap (length {A = List ℕ}) c.skip-2.ensures ∙ turned_length s.bits.copies.wheel sound.copies.some;
-      change_units = ap (length {A = List LevelChange}) c.skip-3.ensures ∙ changes_turned s.wires.wheel c.requires.wheel;
+      change_units = ap (length {A = List LevelChange}) c.skip-3.ensures ∙ turned_length s.wires.wheel c.requires.wheel;
       places = refl;
       seats = refl {A = ℕ};
     }
