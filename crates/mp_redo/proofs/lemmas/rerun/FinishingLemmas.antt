@@ -1,8 +1,7 @@
 -- A re-evaluation that has ended has the last states and the waves of the new netlist.
-use Rattle.std.proofs.Common.{◌≡◌, ℕ, ◌+◌, ◌-◌, ◌<◌, ◌≤◌, Bool, true, false, not, cond, List, [], ◌∷◌, ◌++◌, drop, Option, Some, None, IsSome, option_map, option_to_list, length, slice_index_or, max, refl, ap, sym, subst, ◌∙◌, arith, inl, inr}
+use Rattle.std.proofs.Common.{◌≡◌, ℕ, ◌+◌, ◌-◌, ◌<◌, ◌≤◌, Bool, true, false, not, cond, List, [], ◌∷◌, ◌++◌, Option, Some, None, IsSome, option_map, length, max, refl, ap, sym, subst, ◌∙◌, arith, inl, inr}
 use Rattle.std.specs.Prelude.{◌&&◌, ◌==◌}
 use Rattle.std.proofs.lemmas.Bool.{cases_lt, cases_eq, both_ways, lt-ltb, eqb-true, eq-eqb}
-use Rattle.std.proofs.lemmas.List.{drop_more}
 use Rattle.mp_wave.specs.Waveform.{Waveform, level_of, wave_upto}
 use Rattle.mp_wave.proofs.ChangesLemmas.{levels_of_wave, form_of_wave}
 use Rattle.mp_wave.proofs.WaveformLemmas.{same_levels}
@@ -268,24 +267,6 @@ run_made n run same waves ends kept = record {
   ends = λ m. slot_is (length n.modules) (end_memory n) run.ends (λ k past. no_module n (λ (r : ModuleRecord). state n k (n.horizon - 1)) k past) ends m;
   checkpoints = λ m c. checkpoint_is n m c run same kept;
 }
-
--- ---- lists that are gone through
-
-abbrev rest_of : {A : Type 0} → List A → List A
-rest_of [] = []
-rest_of (y ∷ ys) = ys
-
--- the next item of a list
-pub next_item : {A : Type 0} (item : Option A) (rest all : List A) (w : ℕ) (e : A) → IsSome item → w < length all → drop w all ≡ option_to_list item ++ rest →
-    (item ≡ Some (slice_index_or all w e)) × (rest ≡ drop (w + 1) all)
-next_item None rest all w e some within taken = cc
-next_item (Some v) rest all w e some within taken =
-    let is = sym (drop_more all w e within) ∙ taken in
-    (ap (λ l. Some (slice_index_or l 0 e)) (sym is), sym (ap rest_of is))
-
-pub one_item : {A : Type 0} (item : Option A) → IsSome item → length (option_to_list item) ≡ 1
-one_item None some = cc
-one_item (Some v) some = refl
 
 -- each border below the horizon is up to the last block's begin
 pub last_block : (new : Circuit) (b : ℕ) → IsBorder new.horizon b → b < new.horizon → b ≤ block_of new.horizon (new.horizon - 1)

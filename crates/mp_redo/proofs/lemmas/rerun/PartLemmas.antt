@@ -4,52 +4,26 @@ use Rattle.std.specs.Prelude.{◌==◌, slice_index_or}
 use Rattle.std.proofs.lemmas.Bool.{cases_lt, and_right}
 use Rattle.std.proofs.lemmas.List.{get_or_past}
 use Rattle.std.proofs.lemmas.Option.{none-some, same_Some}
-use Rattle.mp_modules.specs.declared.kind.Kind.{Kind}
-use Rattle.mp_modules.specs.declared.kind.Kind.TheVariants as kinds
 use Rattle.mp_modules.specs.declared.memory.Memory.{Memory}
-use Rattle.mp_modules.specs.Kinds.{has_width}
-use Rattle.mp_modules.specs.storage.AnyModules.{any_part_of}
 use Rattle.mp_records.specs.declared.ports.Output.{Output}
 use Rattle.mp_records.specs.declared.module_record.ModuleRecord.{ModuleRecord}
-use Rattle.mp_records.specs.Inputs.{input_at}
 use Rattle.mp_records.specs.Outputs.{output_at}
-use Rattle.mp_netlist.specs.Circuit.{Circuit, IsCircuit, wire_at, width_of, module_at, module_width}
-use Rattle.mp_model.specs.Levels.{built}
+use Rattle.mp_netlist.specs.Circuit.{Circuit, IsCircuit, module_at, module_width}
 use Rattle.mp_model.specs.Waves.{state}
 use Rattle.mp_kernel.specs.declared.events.output_port.OutputPort.{OutputPort}
 use Rattle.mp_kernel.specs.events.Firing.{no_port, HasSlot, HaveSlots}
 use Rattle.mp_simulation.specs.bits.Schedules.{output_port_of}
 use Rattle.mp_kernel.specs.declared.datapath.data_module.DataModule.{DataModule}
-use Rattle.mp_kernel.specs.datapath.DataParts.{data_part, any_part, outputs_in}
+use Rattle.mp_kernel.specs.datapath.DataParts.{any_part, outputs_in}
 use Rattle.mp_simulation.specs.units.DataSeats.{IsDataSeat, drives_data, bit_port_of, number_at}
 use Rattle.mp_simulation.specs.run.Seating.{AreOutputsWithin}
 use Rattle.mp_simulation.specs.run.Wirings.{AreByPort}
 use Rattle.mp_active.specs.excerpt.Numberings.{Numbering, ReadsNumbers, place_in, scope_of}
 use Rattle.mp_active.specs.excerpt.Activating.{with_module}
 use Rattle.mp_redo.specs.rerun.Returning.{IsPartIn}
+use Rattle.mp_simulation.proofs.lemmas.run.PartLemmas.{data_part_is}
 use Rattle.mp_simulation.proofs.lemmas.run.WidthLemmas.{data_first}
 
--- ---- it does what a module of its kind does
-by_kind : (kind : Kind) (params : List ℕ) (width k : ℕ) → (cond (has_width kind) k 1 == 1) ≡ false → any_part (data_part (any_part_of kind params width)) ≡ any_part_of kind params width
-unfolding any_part_of
-by_kind kinds.Buf params width k wide = refl
-by_kind kinds.Not params width k wide = cc
-by_kind kinds.Xor params width k wide = cc
-by_kind kinds.C params width k wide = cc
-by_kind kinds.Toggle params width k wide = cc
-by_kind kinds.Select params width k wide = cc
-by_kind kinds.Call params width k wide = cc
-by_kind kinds.Arbiter params width k wide = cc
-by_kind kinds.Reg params width k wide = refl
-by_kind kinds.AddC params width k wide = refl
-by_kind kinds.XorC params width k wide = refl
-by_kind kinds.Sum params width k wide = refl
-by_kind kinds.Bit params width k wide = refl
-
-does_as : (n : Circuit) (r : ModuleRecord) → (module_width n r == 1) ≡ false → any_part (data_part (built n r)) ≡ built n r
-does_as n r wide = by_kind r.kind r.params (module_width n r) (width_of (wire_at n (input_at r 0).wire.0)) wide
-
--- ---- only its first output has data
 -- ---- the wheels have slots for its outputs
 port_slot : (n : Circuit) → IsCircuit n → (units m p : ℕ) (r : ModuleRecord) → module_at n m ≡ Some r → AreOutputsWithin n units → 0 < units → HasSlot units (output_port_of (output_at r p))
 port_slot n ok units m p r at within some = elim (cases_lt p (length r.outputs)) as (λ _. HasSlot units (output_port_of (output_at r p))) [
@@ -83,7 +57,7 @@ is_seat n ok active numbering numbers events changes m t r ports memory part at 
   record_of = r;
   stands = at;
   inactive = ap (place_in n (with_module active m m) m) at ∙ ap (λ b. cond b (Some m) None) (and_right (with_module active m m) (module_width n r == 1) wide);
-  does = ap any_part is.does ∙ does_as n r wide;
+  does = ap any_part is.does ∙ data_part_is n r wide;
   outputs = is.outputs ∙ ap outputs_in stays;
   sources = reads;
   reads = input_is;

@@ -11,9 +11,10 @@ use Rattle.mp_partition.specs.runs.Outcomes.{AreSlots}
 use Rattle.mp_partition.proofs.lemmas.runs.OutcomeLemmas.{slots_push}
 use Rattle.mp_simulation.specs.units.DataWaves.{no_building, building_at}
 use Rattle.mp_simulation.specs.run.Runs.{wave_for}
+use Rattle.mp_simulation.proofs.lemmas.run.FoundLemmas.{next_item, one_item}
 use Rattle.mp_redo.specs.rerun.Finishing.{until_in}
 use Rattle.mp_redo.specs.rerun.Splicing.{IsSplicedAt}
-use Rattle.mp_redo.proofs.lemmas.rerun.FinishingLemmas.{next_item, one_item, from_start}
+use Rattle.mp_redo.proofs.lemmas.rerun.FinishingLemmas.{from_start}
 use Rattle.mp_redo.proofs.rerun.finishing.all_waves.Goals as goal
 
 pub wave_in-requires-clause-old : goal.wave_in-requires-clause-old
