@@ -17,9 +17,9 @@ use crate::wait::Wait;
 use mp_model::Waves;
 use mp_netlist::{ModuleId, Netlist, WireId};
 use mp_questions::Late;
-use mp_questions::timing::wire_name;
 use mp_report::put_report;
 use mp_streams::{Failed, Out, Sink, Text};
+use mp_text::wire_name;
 
 /// Writes what a check of a netlist found: the lines of the report, a line `TIME bundle NAME late UNITS` for each change of data that is late, a line
 /// `TIME deadlock MODULE waits for WIRE, ..` for each deadlock, and a line `note wire NAME ..` for each note on a wire. Times are in units from 0.

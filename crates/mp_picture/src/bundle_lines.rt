@@ -5,9 +5,10 @@ ghost use Rattle.mp_netlist.specs.Circuit.{bundle_at};
 ghost use Rattle.mp_picture.specs.Graphs.{bundle_node, bundle_edge, bundle_lines};
 
 use crate::edges::tail;
-use crate::nodes::{Id, put_node, wire_name};
+use crate::nodes::{Id, put_node};
 use mp_netlist::{BundleId, BundleRecord, Netlist, WireId};
 use mp_streams::{Failed, Out, Sink, Text};
+use mp_text::wire_name;
 
 /// Writes the lines of a bundle, and nothing if there is no bundle: its node, and a line to it from each of its wires.
 pub(crate) fn put_bundle_lines<S: Sink>(

@@ -7,9 +7,10 @@ ghost use Rattle.mp_picture.specs.Found.{module_name};
 ghost use Rattle.mp_picture.specs.Graphs.{edge, own_lines, own_edge, tail_kind, tail_name, tail_port, tail_delay, input_delay, output_delay};
 
 use crate::edge_port::{EdgePort, bubble, input_port, output_port};
-use crate::nodes::{Id, put_node, wire_name};
+use crate::nodes::{Id, put_node};
 use mp_netlist::{Driver, ModuleId, Netlist, WireId};
 use mp_streams::{Failed, Out, Sink, Text};
+use mp_text::wire_name;
 
 /// A node, and the place at which an edge meets it.
 #[derive(Clone, Copy)]

@@ -5,9 +5,9 @@ ghost use Rattle.mp_picture.specs.Found.{place_name};
 ghost use Rattle.mp_picture.specs.Diagrams.{longest, margin};
 
 use crate::found::place_name;
-use crate::nodes::wire_name;
 use mp_model::Place;
 use mp_netlist::{Netlist, WireId};
+use mp_text::wire_name;
 
 /// The number of blanks after the longest name.
 const GAP: usize = 2;

@@ -2,12 +2,11 @@
 ghost use Rattle.std.specs.Prelude.{◌≡◌, Some};
 ghost use Rattle.mp_streams.specs.Outgoing.{Writes};
 ghost use Rattle.mp_netlist.specs.Circuit.{module_at};
-ghost use Rattle.mp_text.specs.Written.{wire_name};
 ghost use Rattle.mp_picture.specs.Graphs.{node, module_node, shape_of};
 
 use crate::edge_port::{input_cells, output_cells};
 use mp_modules::Kind;
-use mp_netlist::{ModuleId, ModuleRecord, Netlist, WireId};
+use mp_netlist::{ModuleId, ModuleRecord, Netlist};
 use mp_streams::{Failed, Out, Sink, Text};
 use mp_text::Spaced;
 
@@ -79,15 +78,5 @@ fn shape_of(kind: Kind) -> &'static str
         Kind::Xor => " shape=diamond",
         Kind::Reg | Kind::Toggle | Kind::Select | Kind::Call | Kind::Arbiter => " shape=record",
         Kind::Buf | Kind::Not => " shape=triangle orientation=270 margin=0",
-    }
-}
-
-/// The name of a wire; empty if there is none.
-pub(crate) fn wire_name(netlist: &Netlist, wire: WireId) -> &str
-    ensures { result.now ≡ wire_name netlist.now wire }
-{
-    match netlist.wire(wire) {
-        Some(found) => found.name.as_str(),
-        None => "",
     }
 }

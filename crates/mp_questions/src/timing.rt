@@ -21,7 +21,6 @@ mod waits;
 
 pub use delayed_input::DelayedInput;
 pub use extremes::Extremes;
-pub use lines::wire_name;
 pub use measure::put_measure;
 pub use missing::missing_input;
 pub use range::TimeRange;

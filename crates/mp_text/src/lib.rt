@@ -40,6 +40,7 @@ pub use lexing::{
     word_count, words,
 };
 pub use lines::{LINE_BYTES, LineReader, TooLong};
+pub use port_texts::wire_name;
 pub use question::Question;
 pub use reading::{read_lines, read_netlist};
 pub use script_line::Line;

@@ -19,7 +19,7 @@ impl Port for Input {
     ghost port_text = { input_text };
 
     fn put_spaced<S: Sink>(&self, out: &mut Out<S>, netlist: &Netlist) -> Result<(), Failed> {
-        let name = wire_word(netlist, self.wire);
+        let name = wire_name(netlist, self.wire);
         if self.delay == 0 {
             return (" ", name).put_to(out);
         }
@@ -55,21 +55,21 @@ impl<'a, P: Port> Text for Ports<'a, P> {
 }
 
 /// The name of the wire at an output, `-` if there is none.
-fn output_word(netlist: &Netlist, wire: Option<WireId>) -> &[u8]
+fn output_word(netlist: &Netlist, wire: Option<WireId>) -> &str
     ensures { result.now ≡ output_name netlist.now wire }
 {
     match wire {
-        Some(id) => wire_word(netlist, id),
-        None => b"-",
+        Some(id) => wire_name(netlist, id),
+        None => "-",
     }
 }
 
-/// The name of the wire of this number; nothing if there is none.
-pub fn wire_word(netlist: &Netlist, wire: WireId) -> &[u8]
+/// The name of the wire of this number; empty if there is none.
+pub fn wire_name(netlist: &Netlist, wire: WireId) -> &str
     ensures { result.now ≡ wire_name netlist.now wire }
 {
     match netlist.wire(wire) {
-        Some(found) => found.name.as_str().as_bytes(),
-        None => b"",
+        Some(found) => found.name.as_str(),
+        None => "",
     }
 }

@@ -3,7 +3,7 @@ ghost use Rattle.std.specs.Prelude.{◌≡◌};
 ghost use Rattle.mp_text.specs.Clauses.{Some, Writes, wire_line, module_line, stimulus_line, bundle_line};
 
 use crate::lexing::ChangeTexts;
-use crate::port_texts::{Ports, wire_word};
+use crate::port_texts::{Ports, wire_name};
 use crate::spaced::Spaced;
 use mp_netlist::{BundleRecord, ModuleRecord, Netlist, WireRecord};
 use mp_streams::{Failed, Out, Sink, Text};
@@ -63,9 +63,9 @@ pub fn put_bundle<S: Sink>(
 ) -> Result<(), Failed>
     ensures { Writes result out.old out.new (bundle_line netlist.now (Some bundle.now)) }
 {
-    let request = (" ", wire_word(netlist, bundle.request));
-    let acknowledge = (" ", wire_word(netlist, bundle.acknowledge));
-    let payload = (" ", wire_word(netlist, bundle.payload));
+    let request = (" ", wire_name(netlist, bundle.request));
+    let acknowledge = (" ", wire_name(netlist, bundle.acknowledge));
+    let payload = (" ", wire_name(netlist, bundle.payload));
     let start = ("bundle ", bundle.name.as_str());
     (
         start,

@@ -16,10 +16,10 @@ use crate::causes::levels::Levels;
 use crate::causes::moment::Moment;
 use crate::causes::tracer::Tracer;
 use crate::causes::wire_change::WireChange;
-use crate::timing::wire_name;
 use mp_model::Waves;
 use mp_netlist::{Netlist, WireId};
 use mp_streams::{Failed, Out, Sink, Text, WriteError};
+use mp_text::wire_name;
 use std::alloc::Global;
 
 /// Writes why a wire has its level at a time: its last change with the cause, then the change that it follows with the cause of that, and so on, back

@@ -5,10 +5,11 @@ ghost use Rattle.mp_streams.specs.Outgoing.{Writes};
 ghost use Rattle.mp_netlist.specs.Circuit.{IsBundle};
 ghost use Rattle.mp_questions.specs.timing.Waits.{bundle_wait, busy_wait};
 
-use crate::timing::lines::{put_since, wire_name};
+use crate::timing::lines::put_since;
 use crate::timing::wait_moment::WaitMoment;
 use mp_netlist::{BundleId, BundleRecord};
 use mp_streams::{Failed, Out, Sink};
+use mp_text::wire_name;
 
 /// Writes the lines of the bundles.
 pub(crate) fn put_bundles<S: Sink>(out: &mut Out<S>, at: &WaitMoment<'_>) -> Result<(), Failed>

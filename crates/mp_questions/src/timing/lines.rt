@@ -1,11 +1,11 @@
 //! The lines of what waits.
-ghost use Rattle.std.specs.Prelude.{◌≡◌, ◌<◌, length};
+ghost use Rattle.std.specs.Prelude.{◌<◌, length};
 ghost use Rattle.mp_streams.specs.Outgoing.{Writes};
-ghost use Rattle.mp_text.specs.Written.{wire_name};
 ghost use Rattle.mp_questions.specs.timing.Waits.{input_line, since_line};
 
-use mp_netlist::{ModuleRecord, Netlist, WireId};
+use mp_netlist::{ModuleRecord, Netlist};
 use mp_streams::{Failed, Out, Sink, Text};
+use mp_text::wire_name;
 
 /// Writes a name, what it does, with what, and since when.
 pub(crate) fn put_since<S: Sink, T: Text>(
@@ -35,14 +35,4 @@ pub(crate) fn put_input<S: Sink>(
     let input = found.inputs.as_slice()[port];
     let what = wire_name(netlist, input.wire);
     put_since(out, found.name.as_str(), does, &what, since)
-}
-
-/// The name of a wire; empty if there is none.
-pub fn wire_name(netlist: &Netlist, wire: WireId) -> &str
-    ensures { result.now ≡ wire_name netlist.now wire }
-{
-    match netlist.wire(wire) {
-        Some(found) => found.name.as_str(),
-        None => "",
-    }
 }
