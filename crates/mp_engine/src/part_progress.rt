@@ -2,8 +2,6 @@
 
 use crate::part_of::PartOf;
 use crate::region_runs::RegionRun;
-use mp_simulation::NetlistSimulation;
-use mp_wave::WaveBuilder;
 use std::alloc::Global;
 
 /// The lines that the run of a partition writes. Each partition counts the changes of the wires that it drives. The first one also counts those that
@@ -50,26 +48,11 @@ impl<'a> PartProgress<'a> {
 
     /// How often wires have changed that the partition drives, and inbound ones; in the first partition also those that stimuli set.
     fn count_changes(&self, run: &RegionRun) -> usize {
-        let count = count_all(&run.simulation);
+        let count = run.simulation.count_changes();
         if self.of.part == 0 {
             count
         } else {
             count.saturating_sub(run.stimuli.place)
         }
     }
-}
-
-/// How often the wires of a simulation have changed.
-fn count_all(simulation: &NetlistSimulation) -> usize {
-    let toggles = simulation.bits.simulator.waves.count_toggles();
-    toggles.saturating_add(count_levels(&simulation.wires.waves))
-}
-
-/// How many changes these waves have so far.
-fn count_levels(waves: &[WaveBuilder]) -> usize {
-    let mut count = 0usize;
-    for wave in waves {
-        count = count.saturating_add(wave.wave().changes().len());
-    }
-    count
 }

@@ -18,7 +18,7 @@ use crate::run::stimuli::Stimuli;
 use crate::units::NetlistSimulation;
 use mp_netlist::{Netlist, WireId};
 use mp_partition::Region;
-use mp_wave::{ToggleWave, Wave, WaveBuilder};
+use mp_wave::{ToggleWave, Wave};
 use std::alloc::{AllocError, Global};
 
 /// Every so often, after this number of units, the run checks whether only stimuli will change anything. A check looks at as many slots as the
@@ -77,10 +77,7 @@ impl WavesRun {
     pub fn count_changes(&self) -> usize {
         match &self.simulation {
             AnySimulation::Narrow(simulation) => simulation.simulator.waves.count_toggles(),
-            AnySimulation::Wide(simulation) => {
-                let toggles = simulation.bits.simulator.waves.count_toggles();
-                toggles.saturating_add(count_levels(&simulation.wires.waves))
-            }
+            AnySimulation::Wide(simulation) => simulation.count_changes(),
         }
     }
 
@@ -182,15 +179,6 @@ fn is_seen_idle(simulation: &Simulation, time: u32) -> bool
     ensures { IsTrue result → IsIdle simulation.now }
 {
     time.is_multiple_of(LOOK_UNITS) && simulation.is_idle()
-}
-
-/// How many changes these waves have so far.
-fn count_levels(waves: &[WaveBuilder]) -> usize {
-    let mut count = 0usize;
-    for wave in waves {
-        count = count.saturating_add(wave.wave().changes().len());
-    }
-    count
 }
 
 /// The waves of a simulation that has come to the horizon, if all wires have width 1.

@@ -117,6 +117,15 @@ impl NetlistSimulation {
         }
     }
 
+    /// How often wires have changed so far.
+    pub fn count_changes(&self) -> usize {
+        let mut count = self.bits.simulator.waves.count_toggles();
+        for wave in &self.wires.waves {
+            count = count.saturating_add(wave.wave().changes().len());
+        }
+        count
+    }
+
     /// Whether nothing changes in the next unit that isn't set from outside.
     #[inline(always)]
     pub fn is_still(&self) -> bool

@@ -1,9 +1,9 @@
 -- A simulation of a whole netlist goes on, and its waves at the end.
 use Rattle.std.proofs.Common.{◌≡◌, ℕ, ◌+◌, ◌-◌, ◌<◌, ◌≤◌, Bool, true, false, List, [], ◌∷◌, ◌++◌, Option, Some, None, is_some, IsSome, option_to_list, drop, All, length, nat_lt, refl, sym, ap, ◌∙◌, arith, inl, inr}
-use Rattle.std.specs.Prelude.{◌&&◌, slice_index_or}
+use Rattle.std.specs.Prelude.{◌&&◌}
 use Rattle.std.proofs.lemmas.Bool.{cases_lt, cases_eq}
 use Rattle.std.proofs.lemmas.Bool.Decides.{nat_tests}
-use Rattle.std.proofs.lemmas.List.{get_or_past, get_or_push, get_or_append_left, drop_more}
+use Rattle.std.proofs.lemmas.List.{get_or_past, get_or_push, get_or_append_left}
 use Rattle.mp_wave.specs.Waveform.{Waveform, wave_upto}
 use Rattle.mp_records.specs.declared.wire_record.WireRecord.{WireRecord}
 use Rattle.mp_netlist.specs.Slots.{slot_at}
@@ -24,6 +24,7 @@ use Rattle.mp_simulation.proofs.lemmas.bits.ListedLemmas.{all_below}
 use Rattle.mp_simulation.proofs.lemmas.bits.SimulationLemmas.{can_go_on}
 use Rattle.mp_simulation.specs.run.Runs.{wave_in}
 use Rattle.mp_simulation.specs.run.Evaluations.{IsEvaluated}
+use Rattle.mp_simulation.proofs.lemmas.run.FoundLemmas.{next_item}
 
 known_is : (o : Option ℕ) (units known : ℕ) → is_some o ≡ true → known_after o units known ≡ units
 known_is None units known some = cc
@@ -86,18 +87,6 @@ wave_of_slot : (n : Circuit) (w : ℕ) (wave : Waveform) (slot : Option WireReco
 wave_of_slot n w wave None is = refl
 wave_of_slot n w wave (Some r) is = ap (λ (v : Waveform). Some v) is
 
-abbrev rest_of : List Waveform → List Waveform
-rest_of [] = []
-rest_of (y ∷ ys) = ys
-
-first_of : (item : Option Waveform) (x : Waveform) (rest xs : List Waveform) → IsSome item → x ∷ xs ≡ option_to_list item ++ rest → (item ≡ Some x) × (rest ≡ xs)
-first_of None x rest xs some same = cc
-first_of (Some v) x rest xs some same = (ap (λ (l : List Waveform). Some (slice_index_or l 0 x)) (sym same), sym (ap rest_of same))
-
-pub one_item : (item : Option Waveform) → IsSome item → length (option_to_list item) ≡ 1
-one_item None some = cc
-one_item (Some v) some = refl
-
 -- the next wave is that of its wire
 pub one_wave : (n : Circuit) (s : Simulation) (w : ℕ) (left rest : List Waveform) (item : Option Waveform) → IsEvaluated n (n.horizon - 1) s → ((u : ℕ) → level n w u ≤ 1) → w < length n.wires →
     left ≡ drop w s.simulator.waves → left ≡ option_to_list item ++ rest → IsSome item →
@@ -107,8 +96,7 @@ one_wave n s w left rest item is bits low left_is taken some =
     let within : w < length s.simulator.waves = omega arith in
     let test : nat_lt w (length n.wires) ≡ true = grind (arith, nat_tests) in
     let wave = wave_at s.simulator.waves w in
-    let first = first_of item (wave_at s.simulator.waves w) rest (drop (w + 1) s.simulator.waves) some
-    (sym (drop_more s.simulator.waves w (record { initial = 0; changes = [] }) within) ∙ sym left_is ∙ taken) in
+    let first = next_item item rest s.simulator.waves w (record { initial = 0; changes = [] }) some within (sym left_is ∙ taken) in
     (ap (wave_in (wire_at n w)) first.0 ∙ wave_of_slot n w (wave_at s.simulator.waves w) (wire_at n w) ((is.running.simulator.stands.waves w within (is.traces w ∙ test)).whole bits), first.1)
 
 -- one more wave is that of its wire

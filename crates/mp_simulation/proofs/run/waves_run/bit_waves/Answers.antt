@@ -3,7 +3,8 @@ use Rattle.std.proofs.lemmas.List.{length_push}
 use Rattle.std.specs.Vec.Iter.{into_iter_items, into_iter_len}
 use Rattle.mp_wave.specs.Waveform.{Waveform}
 use Rattle.mp_simulation.proofs.lemmas.run.NarrowLemmas.{bit_level}
-use Rattle.mp_simulation.proofs.lemmas.run.RunLemmas.{one_item, one_wave, waves_more, all_waves}
+use Rattle.mp_simulation.proofs.lemmas.run.FoundLemmas.{one_item}
+use Rattle.mp_simulation.proofs.lemmas.run.RunLemmas.{one_wave, waves_more, all_waves}
 use Rattle.mp_simulation.proofs.run.waves_run.bit_waves.Goals as goal
 
 pub loop-w-preserved : goal.loop-w-preserved
