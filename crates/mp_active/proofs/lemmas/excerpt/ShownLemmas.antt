@@ -39,7 +39,8 @@ use Rattle.mp_active.specs.excerpt.Showing.{IsSeatShown, IsAsleep, AreBitsShown,
 use Rattle.mp_active.proofs.lemmas.excerpt.ExcerptLemmas.{excerpt_ok, length_active, length_on, module_active, is_here, drives_here, module_width_there, built_there}
 use Rattle.mp_active.proofs.lemmas.excerpt.LevelLemmas.{excerpt_state}
 use Rattle.mp_active.proofs.lemmas.excerpt.TestLemmas.{swapped, bit_true}
-use Rattle.mp_active.proofs.lemmas.excerpt.TraceLemmas.{same_wave, same_trace}
+use Rattle.mp_partition.proofs.lemmas.regions.PartLemmas.{same_wave}
+use Rattle.mp_active.proofs.lemmas.excerpt.TraceLemmas.{same_trace}
 use Rattle.mp_active.proofs.lemmas.excerpt.ChangeLemmas.{decided_by, data_there, bit_there, level_there, late_there, event_there, copy_number, data_number, data_level}
 use Rattle.mp_active.proofs.lemmas.excerpt.StateLemmas.{no_remainder}
 use Rattle.mp_active.proofs.lemmas.excerpt.PlaceLemmas.{seated, placed, placeless, wide_when, no_seat, seat_test, bit_parts, rest_there, bit_ports_there, level_port_there}

@@ -24,7 +24,8 @@ use Rattle.mp_active.specs.excerpt.Numberings.{Numbering}
 use Rattle.mp_active.specs.excerpt.Levels.{shown_level, shown_late, shown_change, shown_delay, shown_ahead, IsCopyShown, IsChangeShown}
 use Rattle.mp_active.specs.excerpt.Showing.{Shows}
 use Rattle.mp_active.specs.excerpt.Starting.{StartsShow, StartsAreSimulated, RegionsAreExcerpts}
-use Rattle.mp_active.proofs.lemmas.excerpt.TraceLemmas.{same_wave, same_trace}
+use Rattle.mp_partition.proofs.lemmas.regions.PartLemmas.{same_wave}
+use Rattle.mp_active.proofs.lemmas.excerpt.TraceLemmas.{same_trace}
 use Rattle.mp_active.proofs.lemmas.excerpt.TestLemmas.{either, no_tests, swapped, cond_same}
 use Rattle.mp_active.proofs.lemmas.excerpt.CopyLemmas.{later_far}
 use Rattle.mp_active.proofs.lemmas.excerpt.ChangeLemmas.{shown_bit, known_ahead}

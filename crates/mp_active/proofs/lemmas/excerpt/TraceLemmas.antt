@@ -1,21 +1,9 @@
 -- What is kept of a wire's changes up to a time rests on the levels up to it.
 use Rattle.std.proofs.Common.{◌≡◌, ℕ, ◌+◌, ◌≤◌, ◌++◌, zero, suc, refl, ap, sym, subst, ◌∙◌, arith}
-use Rattle.mp_wave.specs.Waveform.{Waveform, changes_after, change_after, wave_upto}
+use Rattle.mp_wave.specs.Waveform.{Waveform}
 use Rattle.mp_wave.specs.ToggleWaves.{time_after, times_upto}
+use Rattle.mp_partition.proofs.lemmas.regions.PartLemmas.{same_wave}
 use Rattle.mp_simulation.specs.bits.Traces.{IsTrace}
-
-same_changes : (f g : ℕ → ℕ) (time n last : ℕ) → time + n ≤ last → ((t : ℕ) → t ≤ last → f t ≡ g t) → changes_after f time n ≡ changes_after g time n
-same_changes f g time zero last low same = refl
-same_changes f g time (suc n) last low same =
-    ap (λ xs. xs ++ change_after f (time + n)) (same_changes f g time n last (omega (arith, low)) same) ∙ ap (λ xs. changes_after g time n ++ xs) (same_change (time + n) (omega (arith, low)))
-  where
-    same_change : (t : ℕ) → suc t ≤ last → change_after f t ≡ change_after g t
-    same_change t low = let now = same t (omega (arith, low)) in let next = same (suc t) low in rw (now, next) refl
-
-pub same_wave : (f g : ℕ → ℕ) (last : ℕ) → ((t : ℕ) → t ≤ last → f t ≡ g t) → wave_upto f last ≡ wave_upto g last
-same_wave f g last same =
-    ap (λ v. let w : Waveform = record { initial = v; changes = changes_after f 0 last } in w) (same 0 (omega arith))
-    ∙ ap (λ xs. let w : Waveform = record { initial = g 0; changes = xs } in w) (same_changes f g 0 last last (omega arith) same)
 
 same_times : (f g : ℕ → ℕ) (t last : ℕ) → t ≤ last → ((u : ℕ) → u ≤ last → f u ≡ g u) → times_upto f t ≡ times_upto g t
 same_times f g zero last low same = refl

@@ -36,7 +36,8 @@ use Rattle.mp_active.specs.excerpt.Numberings.{Numbering, place_of}
 use Rattle.mp_active.specs.excerpt.Levels.{shown_level, shown_late, shown_change, shown_delay, shown_ahead, IsEventShown, IsCopyShown, IsChangeShown}
 use Rattle.mp_active.specs.excerpt.Showing.{IsSeatShown, IsAsleep, AreBitsShown, AreWiresShown, AreModulesShown, Shows}
 use Rattle.mp_active.specs.excerpt.Turning.{with_wire, IsTurnedOn, TurningShows}
-use Rattle.mp_active.proofs.lemmas.excerpt.TraceLemmas.{same_wave, trace_as}
+use Rattle.mp_partition.proofs.lemmas.regions.PartLemmas.{same_wave}
+use Rattle.mp_active.proofs.lemmas.excerpt.TraceLemmas.{trace_as}
 use Rattle.mp_active.proofs.lemmas.excerpt.TestLemmas.{or_false, no_tests}
 use Rattle.mp_active.proofs.lemmas.excerpt.CopyLemmas.{none_before}
 use Rattle.mp_active.proofs.lemmas.excerpt.KeptLemmas.{numbers_kept}

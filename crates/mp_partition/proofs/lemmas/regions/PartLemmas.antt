@@ -36,7 +36,8 @@ same_changes f g time (suc n) last low same =
     same_change : (t : ℕ) → suc t ≤ last → change_after f t ≡ change_after g t
     same_change t low = let now = same t (omega (arith, low)) in let next = same (suc t) low in rw (now, next) refl
 
-same_wave : (f g : ℕ → ℕ) (last : ℕ) → ((t : ℕ) → t ≤ last → f t ≡ g t) → wave_upto f last ≡ wave_upto g last
+-- what is kept of a wire's changes up to a time rests on the levels up to it
+pub same_wave : (f g : ℕ → ℕ) (last : ℕ) → ((t : ℕ) → t ≤ last → f t ≡ g t) → wave_upto f last ≡ wave_upto g last
 same_wave f g last same =
     ap (λ v. let w : Waveform = record { initial = v; changes = changes_after f 0 last } in w) (same 0 (omega arith))
     ∙ ap (λ xs. let w : Waveform = record { initial = g 0; changes = xs } in w) (same_changes f g 0 last last (omega arith) same)
