@@ -12,6 +12,7 @@ pub mod InputLemmas
 pub mod QuietLemmas
 pub mod MemberLemmas
 pub mod FindingLemmas
+pub mod StepLemmas
 pub mod ModuleFitLemmas
 pub mod LevelFitLemmas
 mod MappingLemmas

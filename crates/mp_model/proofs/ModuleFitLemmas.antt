@@ -1,5 +1,5 @@
 -- The levels at the outputs of a module are no wider than the outputs.
-use Rattle.std.proofs.Common.{◌≡◌, ℕ, ◌+◌, ◌-◌, ◌%◌, ◌^◌, ◌<◌, ◌≤◌, Bool, true, false, cond, ◌==◌, ◌&&◌, List, [], ◌∷◌, length, slice_index, slice_set, zero, suc, refl, sym, subst, arith}
+use Rattle.std.proofs.Common.{◌≡◌, ℕ, ◌+◌, ◌-◌, ◌%◌, ◌^◌, ◌<◌, ◌≤◌, Bool, true, false, cond, ◌==◌, List, [], ◌∷◌, length, slice_index, slice_set, zero, suc, sym, subst, arith}
 use Rattle.std.specs.Prelude.{min, nat_lt}
 use Rattle.std.specs.List.{list_all}
 use Rattle.std.proofs.lemmas.Bool.{and_parts, ltb-true}
@@ -7,24 +7,20 @@ use Rattle.std.proofs.lemmas.Nat.{pow_pos, mod_below, xor_lt}
 use Rattle.mp_modules.specs.declared.kind.Kind.{Kind}
 use Rattle.mp_modules.specs.declared.kind.Kind.TheVariants as kinds
 use Rattle.mp_modules.specs.declared.memory.Memory.{Memory}
-use Rattle.mp_modules.specs.declared.memory.Client.{Client}
-use Rattle.mp_modules.specs.declared.memory.Client.TheVariants.{Nobody, First, Second}
 use Rattle.mp_modules.specs.declared.rendezvous.Rendezvous.{Rendezvous}
 use Rattle.mp_modules.specs.Kinds.{input_width, output_width, param_count, param_bound, are_params}
-use Rattle.mp_modules.specs.Memories.{with_one_output, output_of, is_event, flipped, seen}
-use Rattle.mp_modules.specs.Clients.{is_free}
+use Rattle.mp_modules.specs.Memories.{with_one_output, output_of, seen}
 use Rattle.mp_modules.specs.Merge.{merged}
 use Rattle.mp_modules.specs.CElement.{bubbled, joined}
-use Rattle.mp_modules.specs.Toggle.{toggle_step, turn}
-use Rattle.mp_modules.specs.Select.{select_step, chosen}
-use Rattle.mp_modules.specs.Call.{returned, ended, called, before_calls, after_first_call, call_step}
-use Rattle.mp_modules.specs.Arbiter.{is_owner_done, released, granted, promoted, made_wait, requested, is_engaged, before_requests, after_first_request, arbiter_step}
+use Rattle.mp_modules.specs.Toggle.{toggle_step}
+use Rattle.mp_modules.specs.Select.{select_step}
+use Rattle.mp_modules.specs.Call.{call_step}
+use Rattle.mp_modules.specs.Arbiter.{arbiter_step}
 use Rattle.mp_modules.specs.Tables.{rendezvous}
 use Rattle.mp_modules.specs.storage.Reg.{is_open}
 use Rattle.mp_modules.specs.storage.Widths.{modulus}
-use Rattle.mp_modules.specs.declared.storage.any_module.AnyModule.{AnyModule}
-use Rattle.mp_modules.specs.declared.storage.any_module.AnyModule.TheVariants as parts
 use Rattle.mp_modules.specs.storage.AnyModules.{any_part_of, start, settle, step}
+use Rattle.mp_model.proofs.StepLemmas.{settle_steps, by_toggle, by_select, by_call, by_arbiter}
 
 -- ---- outputs of one bit
 
@@ -34,13 +30,13 @@ pub record Fits (bound : ℕ) (memory : Memory) : Type 0 where
   pub others : (p : ℕ) → output_of memory (suc p) < 2
 
 -- each output is a bit
-abbrev Low : Memory → Type 0
-Low memory = (p : ℕ) → output_of memory p < 2
+abbrev LowOutputs : List ℕ → Type 0
+LowOutputs outputs = (p : ℕ) → slice_index outputs p < 2
 
-fits_low : (memory : Memory) → Low memory → Fits 2 memory
+fits_low : (memory : Memory) → LowOutputs memory.outputs → Fits 2 memory
 fits_low memory low = record { first = low 0; others = λ p. low (suc p) }
 
-low_fits : (memory : Memory) → Fits 2 memory → Low memory
+low_fits : (memory : Memory) → Fits 2 memory → LowOutputs memory.outputs
 low_fits memory fits zero = fits.first
 low_fits memory fits (suc p) = fits.others p
 
@@ -51,10 +47,6 @@ low_in (suc (suc p)) = omega arith
 
 fits_one : (bound : ℕ) (x : List ℕ) (v : ℕ) → v < bound → Fits bound (with_one_output x v)
 fits_one bound x v below = record { first = below; others = low_in }
-
-low_cond : (test : Bool) (a b : Memory) → Low a → Low b → Low (cond test a b)
-low_cond true a b first second = first
-low_cond false a b first second = second
 
 below_cond : (test : Bool) (a b bound : ℕ) → a < bound → b < bound → cond test a b < bound
 below_cond true a b bound first second = first
@@ -67,59 +59,8 @@ low_set (x ∷ xs) zero v (suc p) low each = each (suc p)
 low_set (x ∷ xs) (suc i) v zero low each = each 0
 low_set (x ∷ xs) (suc i) v (suc p) low each = low_set xs i v p low (λ q. each (suc q))
 
-low_flipped : (port : ℕ) (memory : Memory) → Low memory → Low (flipped port memory)
-low_flipped port memory low p = low_set memory.outputs port (1 - slice_index memory.outputs port) p (omega arith) low
-
--- ---- the kinds without data
-
-low_toggle : (memory : Memory) (x : List ℕ) → Low memory → Low (toggle_step memory x)
-low_toggle memory x low = low_cond (is_event memory x 0) (flipped (turn memory) memory) memory (low_flipped (turn memory) memory low) low
-
-low_select : (memory : Memory) (x : List ℕ) → Low memory → Low (select_step memory x)
-low_select memory x low = low_cond (is_event memory x 0) (flipped (chosen x) memory) memory (low_flipped (chosen x) memory low) low
-
-low_returned : (client : Client) (memory : Memory) → Low memory → Low (returned client memory)
-low_returned Nobody memory low = low
-low_returned First memory low = low_flipped 1 memory low
-low_returned Second memory low = low_flipped 2 memory low
-
-low_ended : (event : Bool) (memory : Memory) → Low memory → Low (ended event memory)
-low_ended event memory low = low_cond event (returned memory.served memory) memory (low_returned memory.served memory low) low
-
-low_called : (client : Client) (event : Bool) (memory : Memory) → Low memory → Low (called client event memory)
-low_called client event memory low = low_cond (event && is_free memory.served) (record (flipped 0 memory) { served = client }) memory (low_flipped 0 memory low) low
-
-low_call : (memory : Memory) (x : List ℕ) → Low memory → Low (call_step memory x)
-low_call memory x low =
-    low_called Second (is_event memory x 1) (after_first_call memory x)
-    (low_called First (is_event memory x 0) (before_calls memory x) (low_ended (is_event memory x 2) memory low))
-
-low_released : (first second : Bool) (memory : Memory) → Low memory → Low (released first second memory)
-low_released first second memory low = low_cond (is_owner_done memory.served first second) (record memory { served = Nobody }) memory low low
-
-low_granted : (client : Client) (memory : Memory) → Low memory → Low (granted client memory)
-low_granted Nobody memory low = low
-low_granted First memory low = low_flipped 0 memory low
-low_granted Second memory low = low_flipped 1 memory low
-
-low_promoted : (memory : Memory) → Low memory → Low (promoted memory)
-low_promoted memory low =
-    low_cond (is_free memory.served) (cond memory.waiting.first (granted First memory) (cond memory.waiting.second (granted Second memory) memory)) memory
-    (low_cond memory.waiting.first (granted First memory) (cond memory.waiting.second (granted Second memory) memory) (low_granted First memory low)
-    (low_cond memory.waiting.second (granted Second memory) memory (low_granted Second memory low) low))
-    low
-
-low_requested : (client : Client) (event : Bool) (memory : Memory) → Low memory → Low (requested client event memory)
-low_requested client false memory low = low
-low_requested client true memory low =
-    low_cond (is_engaged client memory) memory (cond (is_free memory.served) (granted client memory) (made_wait client memory)) low
-    (low_cond (is_free memory.served) (granted client memory) (made_wait client memory) (low_granted client memory low) low)
-
-low_arbiter : (memory : Memory) (x : List ℕ) → Low memory → Low (arbiter_step memory x)
-low_arbiter memory x low =
-    low_requested Second (is_event memory x 1) (after_first_request memory x)
-    (low_requested First (is_event memory x 0) (before_requests memory x)
-    (low_promoted (released (is_event memory x 2) (is_event memory x 3) memory) (low_released (is_event memory x 2) (is_event memory x 3) memory low)))
+low_flips : (xs : List ℕ) (port : ℕ) → LowOutputs xs → LowOutputs (slice_set xs port (1 - slice_index xs port))
+low_flips xs port low p = low_set xs port (1 - slice_index xs port) p (omega arith) low
 
 low_bubbled : (bubble : Bool) (level : ℕ) → level < 2 → bubbled bubble level < 2
 low_bubbled bubble level low = below_cond bubble (1 - level) level 2 (omega arith) low
@@ -134,7 +75,7 @@ first_param : (bound : ℕ) (params : List ℕ) → 0 < bound → list_all (λ p
 first_param bound [] some all = some
 first_param bound (param ∷ params) some all = ltb-true param bound (and_parts (nat_lt param bound) (list_all (λ param. nat_lt param bound) params) all).0
 
-param_below : (kind : Kind) (width : ℕ) (params : List ℕ) → 0 < param_bound kind width → are_params kind width params ≡ true → slice_index params 0 < param_bound kind width
+pub param_below : (kind : Kind) (width : ℕ) (params : List ℕ) → 0 < param_bound kind width → are_params kind width params ≡ true → slice_index params 0 < param_bound kind width
 unfolding are_params
 param_below kind width params some valid =
     first_param (param_bound kind width) params some (and_parts (length params == param_count kind) (list_all (λ param. nat_lt param (param_bound kind width)) params) valid).1
@@ -166,10 +107,10 @@ module _ (width : ℕ) (params : List ℕ) (narrow : width ≤ 64) where
   step_fits kinds.Not memory x valid inputs fits = fits_one 2 x (1 - slice_index x 0) (omega arith)
   step_fits kinds.Xor memory x valid inputs fits = fits_one 2 x (merged x) (below_cond (slice_index x 0 == slice_index x 1) 0 1 2 (omega arith) (omega arith))
   step_fits kinds.C memory x valid inputs fits = fits_one 2 x (joined (rendezvous params) (output_of memory 0) x) (low_joined (rendezvous params) (output_of memory 0) x (inputs 0) fits.first)
-  step_fits kinds.Toggle memory x valid inputs fits = fits_low (toggle_step memory x) (low_toggle memory x (low_fits memory fits))
-  step_fits kinds.Select memory x valid inputs fits = fits_low (select_step memory x) (low_select memory x (low_fits memory fits))
-  step_fits kinds.Call memory x valid inputs fits = fits_low (call_step memory x) (low_call memory x (low_fits memory fits))
-  step_fits kinds.Arbiter memory x valid inputs fits = fits_low (arbiter_step memory x) (low_arbiter memory x (low_fits memory fits))
+  step_fits kinds.Toggle memory x valid inputs fits = fits_low (toggle_step memory x) (by_toggle LowOutputs low_flips memory x (low_fits memory fits))
+  step_fits kinds.Select memory x valid inputs fits = fits_low (select_step memory x) (by_select LowOutputs low_flips memory x (low_fits memory fits))
+  step_fits kinds.Call memory x valid inputs fits = fits_low (call_step memory x) (by_call LowOutputs low_flips memory x (low_fits memory fits))
+  step_fits kinds.Arbiter memory x valid inputs fits = fits_low (arbiter_step memory x) (by_arbiter LowOutputs low_flips memory x (low_fits memory fits))
   step_fits kinds.Reg memory x valid inputs fits = record {
     first = below_cond (is_open x) (slice_index x 0) (output_of memory 0) (2 ^ width) (inputs 0) fits.first;
     others = bits_behind x (inputs 1) (inputs 2);
@@ -196,17 +137,11 @@ module _ (width : ℕ) (params : List ℕ) (narrow : width ≤ 64) where
   start_fits kinds.Sum valid = fits_one (2 ^ width) [] _ (below_modulus width 0 narrow)
   start_fits kinds.Bit valid = fits_one 2 [] _ (omega arith)
 
-  settle_is : (part : AnyModule) (x : List ℕ) → settle part x ≡ step part (seen x (start part)) x
-  unfolding settle step start
-  settle_is (parts.Core part) x = refl
-  settle_is (parts.Reg part) x = refl
-  settle_is (parts.Computed part) x = refl
-
   seen_fits : (bound : ℕ) (memory : Memory) (x : List ℕ) → Fits bound memory → Fits bound (seen x memory)
   seen_fits bound memory x fits = record { first = fits.first; others = fits.others }
 
   pub settle_fits : (kind : Kind) (x : List ℕ) → are_params kind width params ≡ true → InputsFit kind width x → OutputsFit kind width (settle (any_part_of kind params width) x)
   settle_fits kind x valid inputs =
       let part = any_part_of kind params width in
-      subst (OutputsFit kind width) (sym (settle_is part x))
+      subst (OutputsFit kind width) (sym (settle_steps part x))
       (step_fits kind (seen x (start part)) x valid inputs (seen_fits (2 ^ output_width kind width 0) (start part) x (start_fits kind valid)))

@@ -1,24 +1,18 @@
 -- What becomes of a module, unit by unit, and since when its levels are what they are.
 use Rattle.std.proofs.Common.{◌≡◌, ℕ, ◌+◌, ◌≤◌, Bool, true, false, not, cond, ◌==◌, List, Option, Some, zero, suc, refl, sym, ap, subst, ◌∙◌, add-one, arith}
 use Rattle.std.specs.Prelude.{unwrap_or}
-use Rattle.mp_modules.specs.declared.core_module.CoreModule.{CoreModule}
-use Rattle.mp_modules.specs.declared.core_module.CoreModule.TheVariants as core
 use Rattle.mp_modules.specs.declared.memory.Memory.{Memory}
 use Rattle.mp_modules.specs.declared.memory.Client.TheVariants.{First, Second}
 use Rattle.mp_modules.specs.Memories.{input_levels, output_of}
-use Rattle.mp_modules.specs.Tables as tables
 use Rattle.mp_modules.specs.storage.AnyModules.{settle, step}
-use Rattle.mp_modules.specs.storage.Computed as computed
 use Rattle.mp_modules.specs.storage.QuietAny.{settled_stays, stepped_stays}
 use Rattle.mp_modules.specs.declared.storage.any_module.AnyModule.{AnyModule}
-use Rattle.mp_modules.specs.declared.storage.any_module.AnyModule.TheVariants as parts
-use Rattle.mp_modules.specs.declared.storage.computed.Computed.{Computed}
-use Rattle.mp_modules.specs.declared.storage.computed.Computed.TheVariants as outputs
 use Rattle.mp_records.specs.declared.module_record.ModuleRecord.{ModuleRecord}
 use Rattle.mp_netlist.specs.Circuit.{Circuit, IsCircuit, module_at}
 use Rattle.mp_model.specs.Levels.{built, inputs_by}
 use Rattle.mp_model.specs.Waves.{level, state}
 use Rattle.mp_model.proofs.BehaviourLemmas.{satisfies}
+use Rattle.mp_model.proofs.StepLemmas.{step_padded, settle_padded}
 use Rattle.mp_questions.specs.timing.Events.{last_event, since}
 use Rattle.mp_questions.specs.timing.Waits.{given, waiting}
 use Rattle.mp_questions.specs.timing.Hearing.{marked, bit, no_marks, IsWatch}
@@ -37,52 +31,6 @@ since_next f t last is = subst (λ (k : ℕ). marked last k (f t) (f k) ≡ sinc
 
 pub since_stays : (f : ℕ → ℕ) (t : ℕ) → f (t + 1) ≡ f t → since f t ≡ since f (t + 1)
 since_stays f t same = ap (λ (o : Option ℕ). unwrap_or o 0) (sym (last_quiet f t (no_event f t (sym same))))
-
--- ---- a step goes by the levels of the four ports that a module can have
-
-core_wide : (part : CoreModule) (m : Memory) (x : List ℕ) → tables.step part m (input_levels x) ≡ tables.step part m x
-core_wide core.Buf m x = refl
-core_wide core.Not m x = refl
-core_wide core.Xor m x = refl
-core_wide (core.C c) m x = refl
-core_wide core.Toggle m x = refl
-core_wide core.Select m x = refl
-core_wide core.Call m x = refl
-core_wide core.Arbiter m x = refl
-
-computed_wide : (part : Computed) (m : Memory) (x : List ℕ) → computed.step part m (input_levels x) ≡ computed.step part m x
-computed_wide (outputs.AddC k width) m x = refl
-computed_wide (outputs.XorC mask) m x = refl
-computed_wide (outputs.Sum width) m x = refl
-computed_wide (outputs.Bit place) m x = refl
-
-pub step_wide : (part : AnyModule) (m : Memory) (x : List ℕ) → step part m (input_levels x) ≡ step part m x
-unfolding step
-step_wide (parts.Core part) m x = core_wide part m x
-step_wide (parts.Reg part) m x = refl
-step_wide (parts.Computed part) m x = computed_wide part m x
-
-core_settled : (part : CoreModule) (x : List ℕ) → tables.settle part (input_levels x) ≡ tables.settle part x
-core_settled core.Buf x = refl
-core_settled core.Not x = refl
-core_settled core.Xor x = refl
-core_settled (core.C c) x = refl
-core_settled core.Toggle x = refl
-core_settled core.Select x = refl
-core_settled core.Call x = refl
-core_settled core.Arbiter x = refl
-
-computed_settled : (part : Computed) (x : List ℕ) → computed.settle part (input_levels x) ≡ computed.settle part x
-computed_settled (outputs.AddC k width) x = refl
-computed_settled (outputs.XorC mask) x = refl
-computed_settled (outputs.Sum width) x = refl
-computed_settled (outputs.Bit place) x = refl
-
-pub settle_wide : (part : AnyModule) (x : List ℕ) → settle part (input_levels x) ≡ settle part x
-unfolding settle
-settle_wide (parts.Core part) x = core_settled part x
-settle_wide (parts.Reg part) x = refl
-settle_wide (parts.Computed part) x = computed_settled part x
 
 -- marks that moved a unit further, from one state to another
 pub record HaveMoved (t : ℕ) (before now : Memory) (old new : Marks) : Type 0 where
@@ -109,13 +57,13 @@ module _ (n : Circuit) (ok : IsCircuit n) (m : ℕ) (r : ModuleRecord) (at : mod
   -- where the inputs stay, the state stays
   state_stays : (t : ℕ) → input_levels (x (t + 1)) ≡ input_levels (x t) → state n m (t + 1) ≡ state n m t
   state_stays t same =
-      (satisfies n ok).stepped m t r at ∙ sym (step_wide part (state n m t) (x (t + 1))) ∙ ap (step part (state n m t)) same ∙ step_wide part (state n m t) (x t) ∙ again t
+      (satisfies n ok).stepped m t r at ∙ sym (step_padded part (state n m t) (x (t + 1))) ∙ ap (step part (state n m t)) same ∙ step_padded part (state n m t) (x t) ∙ again t
 
   -- ---- a watch
 
   pub watch_first : (w : ClientWatch) → w.memory ≡ settle part (input_levels (x 0)) → w.marks ≡ no_marks → IsWatch n m r 0 w
   watch_first w memory none = record {
-    memory = memory ∙ settle_wide part (x 0) ∙ sym ((satisfies n ok).settled m r at);
+    memory = memory ∙ settle_padded part (x 0) ∙ sym ((satisfies n ok).settled m r at);
     marks = record {
       first_output = ap (λ (k : Marks). k.first_output) none;
       second_output = ap (λ (k : Marks). k.second_output) none;
@@ -133,7 +81,7 @@ module _ (n : Circuit) (ok : IsCircuit n) (m : ℕ) (r : ModuleRecord) (at : mod
   watch_next t w new is stepped moved =
       let was = is.memory in
       let now : new.memory ≡ state n m (t + 1) =
-      stepped ∙ ap (λ (s : Memory). step part s (input_levels (x (t + 1)))) was ∙ step_wide part (state n m t) (x (t + 1)) ∙ sym ((satisfies n ok).stepped m t r at) in
+      stepped ∙ ap (λ (s : Memory). step part s (input_levels (x (t + 1)))) was ∙ step_padded part (state n m t) (x (t + 1)) ∙ sym ((satisfies n ok).stepped m t r at) in
       record {
         memory = now;
         marks = record {

@@ -18,10 +18,10 @@ use Rattle.mp_netlist.specs.Circuit.{Circuit, IsCircuit, module_at}
 use Rattle.mp_model.specs.Levels.{built, inputs_by}
 use Rattle.mp_model.specs.Waves.{level, state}
 use Rattle.mp_model.proofs.BehaviourLemmas.{satisfies}
+use Rattle.mp_model.proofs.StepLemmas.{settle_steps}
 use Rattle.mp_kernel.specs.automata.Automata.{automaton_of}
 use Rattle.mp_kernel.specs.automata.Phases.{unserved, phase_of, clients_in}
 use Rattle.mp_kernel.specs.automata.BitModules.{clients_of}
-use Rattle.mp_simulation.proofs.lemmas.bits.StayLemmas.{settle_steps}
 
 abbrev HasClients : AnyModule → Memory → Type 0
 HasClients part m = clients_of m ≡ clients_in (automaton_of part) (phase_of part m)

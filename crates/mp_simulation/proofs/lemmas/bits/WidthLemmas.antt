@@ -1,23 +1,14 @@
 -- The states of modules of width 1 in a netlist.
-use Rattle.std.proofs.Common.{◌≡◌, ℕ, zero, suc, ◌+◌, ◌-◌, ◌^◌, ◌<◌, ◌≤◌, Bool, true, false, cond, ◌&&◌, List, [], ◌∷◌, length, map, slice_index, nat_lt, Some, refl, sym, ◌∙◌, arith, subst}
-use Rattle.std.specs.Prelude.{◌==◌, slice_index_or}
-use Rattle.std.specs.List.{list_all}
-use Rattle.std.proofs.lemmas.Bool.{and_parts, ltb-true}
+use Rattle.std.proofs.Common.{◌≡◌, ℕ, zero, suc, ◌+◌, ◌-◌, ◌^◌, ◌<◌, ◌≤◌, Bool, true, false, cond, List, [], ◌∷◌, length, map, slice_index, nat_lt, Some, refl, sym, ◌∙◌, arith, subst}
+use Rattle.std.specs.Prelude.{slice_index_or, slice_set}
 use Rattle.std.proofs.lemmas.List.{length-set}
 use Rattle.mp_modules.specs.declared.kind.Kind.{Kind}
 use Rattle.mp_modules.specs.declared.kind.Kind.TheVariants as kinds
 use Rattle.mp_modules.specs.declared.core_module.CoreModule.{CoreModule}
 use Rattle.mp_modules.specs.declared.core_module.CoreModule.TheVariants as core
 use Rattle.mp_modules.specs.declared.memory.Memory.{Memory}
-use Rattle.mp_modules.specs.declared.memory.Client.{Client}
-use Rattle.mp_modules.specs.declared.memory.Client.TheVariants.{Nobody, First, Second}
-use Rattle.mp_modules.specs.Kinds.{input_width, output_width, wide_inputs, wide_outputs, param_count, param_bound, are_params}
-use Rattle.mp_modules.specs.Memories.{input_levels, output_of, is_event, flipped, seen}
-use Rattle.mp_modules.specs.Clients.{is_free}
-use Rattle.mp_modules.specs.Toggle.{toggle_step, turn}
-use Rattle.mp_modules.specs.Select.{select_step, chosen}
-use Rattle.mp_modules.specs.Call.{returned, ended, called, before_calls, after_first_call, call_step}
-use Rattle.mp_modules.specs.Arbiter.{is_owner_done, released, granted, promoted, made_wait, requested, is_engaged, before_requests, after_first_request, arbiter_step}
+use Rattle.mp_modules.specs.Kinds.{input_width, output_width, wide_inputs, wide_outputs, are_params}
+use Rattle.mp_modules.specs.Memories.{input_levels, output_of, seen}
 use Rattle.mp_modules.specs.Tables as tables
 use Rattle.mp_modules.specs.declared.storage.computed.Computed.{Computed}
 use Rattle.mp_modules.specs.declared.storage.computed.Computed.TheVariants as computed
@@ -33,83 +24,34 @@ use Rattle.mp_model.specs.Waves.{level, state}
 use Rattle.mp_model.proofs.BehaviourLemmas.{satisfies}
 use Rattle.mp_model.proofs.InputLemmas.{input_is}
 use Rattle.mp_model.proofs.LevelFitLemmas.{level_fits}
-use Rattle.mp_model.proofs.ModuleFitLemmas.{InputsFit, OutputsFit, step_fits, settle_fits}
+use Rattle.mp_model.proofs.ModuleFitLemmas.{InputsFit, OutputsFit, param_below, step_fits, settle_fits}
+use Rattle.mp_model.proofs.StepLemmas.{settle_steps, by_toggle, by_select, by_call, by_arbiter}
 use Rattle.mp_kernel.specs.automata.BitModules.{AreBits, IsOfBits, IsBitState}
 use Rattle.mp_simulation.specs.bits.Widths.{HasBits, HaveBits}
-use Rattle.mp_simulation.proofs.lemmas.bits.StayLemmas.{settle_steps, states_stay}
+use Rattle.mp_simulation.proofs.lemmas.bits.StayLemmas.{states_stay}
 use Rattle.mp_simulation.proofs.lemmas.bits.PortEventLemmas.{held}
 use Rattle.mp_simulation.proofs.lemmas.bits.ClientLemmas.{clients_at}
 
 -- ---- three outputs
 
+abbrev AreThree : List ℕ → Type 0
+AreThree outputs = length outputs ≡ 3
+
 abbrev HasThree : Memory → Type 0
-HasThree memory = length memory.outputs ≡ 3
+HasThree memory = AreThree memory.outputs
 
-three_cond : (test : Bool) (a b : Memory) → HasThree a → HasThree b → HasThree (cond test a b)
-three_cond true a b first second = first
-three_cond false a b first second = second
-
-three_flipped : (port : ℕ) (memory : Memory) → HasThree memory → HasThree (flipped port memory)
-three_flipped port memory three = length-set memory.outputs port (1 - slice_index memory.outputs port) ∙ three
-
-three_toggle : (memory : Memory) (x : List ℕ) → HasThree memory → HasThree (toggle_step memory x)
-three_toggle memory x three = three_cond (is_event memory x 0) (flipped (turn memory) memory) memory (three_flipped (turn memory) memory three) three
-
-three_select : (memory : Memory) (x : List ℕ) → HasThree memory → HasThree (select_step memory x)
-three_select memory x three = three_cond (is_event memory x 0) (flipped (chosen x) memory) memory (three_flipped (chosen x) memory three) three
-
-three_returned : (client : Client) (memory : Memory) → HasThree memory → HasThree (returned client memory)
-three_returned Nobody memory three = three
-three_returned First memory three = three_flipped 1 memory three
-three_returned Second memory three = three_flipped 2 memory three
-
-three_ended : (event : Bool) (memory : Memory) → HasThree memory → HasThree (ended event memory)
-three_ended event memory three = three_cond event (returned memory.served memory) memory (three_returned memory.served memory three) three
-
-three_called : (client : Client) (event : Bool) (memory : Memory) → HasThree memory → HasThree (called client event memory)
-three_called client event memory three = three_cond (event && is_free memory.served) (record (flipped 0 memory) { served = client }) memory (three_flipped 0 memory three) three
-
-three_call : (memory : Memory) (x : List ℕ) → HasThree memory → HasThree (call_step memory x)
-three_call memory x three =
-    three_called Second (is_event memory x 1) (after_first_call memory x)
-    (three_called First (is_event memory x 0) (before_calls memory x) (three_ended (is_event memory x 2) memory three))
-
-three_released : (first second : Bool) (memory : Memory) → HasThree memory → HasThree (released first second memory)
-three_released first second memory three = three_cond (is_owner_done memory.served first second) (record memory { served = Nobody }) memory three three
-
-three_granted : (client : Client) (memory : Memory) → HasThree memory → HasThree (granted client memory)
-three_granted Nobody memory three = three
-three_granted First memory three = three_flipped 0 memory three
-three_granted Second memory three = three_flipped 1 memory three
-
-three_promoted : (memory : Memory) → HasThree memory → HasThree (promoted memory)
-three_promoted memory three =
-    three_cond (is_free memory.served) (cond memory.waiting.first (granted First memory) (cond memory.waiting.second (granted Second memory) memory)) memory
-    (three_cond memory.waiting.first (granted First memory) (cond memory.waiting.second (granted Second memory) memory) (three_granted First memory three)
-    (three_cond memory.waiting.second (granted Second memory) memory (three_granted Second memory three) three))
-    three
-
-three_requested : (client : Client) (event : Bool) (memory : Memory) → HasThree memory → HasThree (requested client event memory)
-three_requested client false memory three = three
-three_requested client true memory three =
-    three_cond (is_engaged client memory) memory (cond (is_free memory.served) (granted client memory) (made_wait client memory)) three
-    (three_cond (is_free memory.served) (granted client memory) (made_wait client memory) (three_granted client memory three) three)
-
-three_arbiter : (memory : Memory) (x : List ℕ) → HasThree memory → HasThree (arbiter_step memory x)
-three_arbiter memory x three =
-    three_requested Second (is_event memory x 1) (after_first_request memory x)
-    (three_requested First (is_event memory x 0) (before_requests memory x)
-    (three_promoted (released (is_event memory x 2) (is_event memory x 3) memory) (three_released (is_event memory x 2) (is_event memory x 3) memory three)))
+three_flips : (xs : List ℕ) (port : ℕ) → AreThree xs → AreThree (slice_set xs port (1 - slice_index xs port))
+three_flips xs port three = length-set xs port (1 - slice_index xs port) ∙ three
 
 three_core : (part : CoreModule) (memory : Memory) (x : List ℕ) → HasThree memory → HasThree (tables.step part memory x)
 three_core core.Buf memory x three = refl
 three_core core.Not memory x three = refl
 three_core core.Xor memory x three = refl
 three_core (core.C c) memory x three = refl
-three_core core.Toggle memory x three = three_toggle memory x three
-three_core core.Select memory x three = three_select memory x three
-three_core core.Call memory x three = three_call memory x three
-three_core core.Arbiter memory x three = three_arbiter memory x three
+three_core core.Toggle memory x three = by_toggle AreThree three_flips memory x three
+three_core core.Select memory x three = by_select AreThree three_flips memory x three
+three_core core.Call memory x three = by_call AreThree three_flips memory x three
+three_core core.Arbiter memory x three = by_arbiter AreThree three_flips memory x three
 
 three_computed : (part : Computed) (memory : Memory) (x : List ℕ) → HasThree (parts_computed.step part memory x)
 three_computed (computed.AddC addend width) memory x = refl
@@ -176,15 +118,6 @@ four_bits x bits (suc (suc zero)) = bits 2
 four_bits x bits (suc (suc (suc zero))) = bits 3
 four_bits x bits (suc (suc (suc (suc p)))) = omega arith
 
-first_below : (bound : ℕ) (params : List ℕ) → 0 < bound → list_all (λ param. nat_lt param bound) params ≡ true → slice_index params 0 < bound
-first_below bound [] some all = some
-first_below bound (param ∷ params) some all = ltb-true param bound (and_parts (nat_lt param bound) (list_all (λ param. nat_lt param bound) params) all).0
-
-param_low : (kind : Kind) (width : ℕ) (params : List ℕ) → 0 < param_bound kind width → are_params kind width params ≡ true → slice_index params 0 < param_bound kind width
-unfolding are_params
-param_low kind width params some valid =
-    first_below (param_bound kind width) params some (and_parts (length params == param_count kind) (list_all (λ param. nat_lt param (param_bound kind width)) params) valid).1
-
 -- a module of width 1 has ports of width 1
 kind_bits : (kind : Kind) (params : List ℕ) (width : ℕ) → width ≡ 1 → are_params kind width params ≡ true → IsOfBits (any_part_of kind params width)
 unfolding any_part_of
@@ -199,11 +132,11 @@ kind_bits kinds.Arbiter params width one valid = tt
 kind_bits kinds.Reg params width one valid = tt
 kind_bits kinds.AddC params width one valid = one
 kind_bits kinds.XorC params width one valid =
-    below_two (slice_index params 0) width one (param_low kinds.XorC width params (from_two 0 width one (omega arith)) valid)
+    below_two (slice_index params 0) width one (param_below kinds.XorC width params (from_two 0 width one (omega arith)) valid)
 kind_bits kinds.Sum params width one valid = one
 kind_bits kinds.Bit params width one valid =
     let some : 0 < width = omega arith in
-    let low : slice_index params 0 < width = param_low kinds.Bit width params some valid in
+    let low : slice_index params 0 < width = param_below kinds.Bit width params some valid in
     omega arith
 
 -- ---- in a netlist

@@ -13,6 +13,7 @@ use Rattle.mp_netlist.specs.Circuit.{Circuit, IsCircuit, module_at}
 use Rattle.mp_model.specs.Levels.{built, input_by, inputs_by}
 use Rattle.mp_model.specs.Waves.{level, state}
 use Rattle.mp_model.proofs.BehaviourLemmas.{satisfies}
+use Rattle.mp_model.proofs.StepLemmas.{step_padded}
 use Rattle.mp_kernel.specs.declared.automata.events.Events.{Events}
 use Rattle.mp_kernel.specs.automata.BitModules.{events_in}
 use Rattle.mp_kernel.specs.automata.Codes.{no_events}
@@ -22,7 +23,7 @@ use Rattle.mp_kernel.specs.events.Ports.{HasPorts}
 use Rattle.mp_kernel.proofs.lemmas.events.PortLemmas.{events_add_up}
 use Rattle.mp_simulation.specs.bits.PortEvents.{source_of, AreHeard}
 use Rattle.mp_simulation.specs.bits.Simulators.{AreOnlyDue}
-use Rattle.mp_simulation.proofs.lemmas.bits.StayLemmas.{step_padded, states_stay}
+use Rattle.mp_simulation.proofs.lemmas.bits.StayLemmas.{states_stay}
 use Rattle.mp_simulation.proofs.lemmas.bits.PortEventLemmas.{held, same_head, same_rest, ports_have_events}
 use Rattle.mp_simulation.proofs.lemmas.bits.NumberLemmas.{no_events_when}
 use Rattle.mp_kernel.specs.declared.datapath.data_module.DataModule.{DataModule}
