@@ -1,5 +1,5 @@
 -- Changes to come of delayed copies are put into the wheels, one after the other.
-use Rattle.std.proofs.Common.{◌≡◌, ℕ, ◌+◌, ◌-◌, ◌<◌, ◌≤◌, All, arith, Bool, true, false, List, [], ◌∷◌, cond, length, ap, ◌∙◌}
+use Rattle.std.proofs.Common.{◌≡◌, ℕ, ◌+◌, ◌-◌, ◌<◌, ◌≤◌, All, arith, Bool, List, [], ◌∷◌, cond, length, ap, ◌∙◌}
 use Rattle.std.proofs.lemmas.List.Elements.{All-map}
 use Rattle.mp_wave.specs.Waveform.{between}
 use Rattle.mp_simulation.specs.declared.bits.simulation.Simulation.{Simulation}
@@ -10,7 +10,7 @@ use Rattle.mp_simulation.specs.declared.units.data_wires.DataWires.{DataWires}
 use Rattle.mp_simulation.specs.declared.units.netlist_simulation.NetlistSimulation.{NetlistSimulation}
 use Rattle.mp_active.specs.steps.Putting.{IsAhead, toggles_of}
 use Rattle.mp_active.specs.steps.Copying.{HasPutCopy, copy_room, delayed}
-use Rattle.mp_active.proofs.lemmas.steps.PutLemmas.{scheduled_length, levels_length, all_between}
+use Rattle.mp_active.proofs.lemmas.steps.PutLemmas.{toggle_units, level_units, toggles_more, levels_more, same_room, all_between}
 
 -- of all entries these are left to be put
 pub record PutCopiesSoFar (with_data : Bool) (all left : List (ℕ × LevelChange)) (s now : NetlistSimulation) : Type 0 where
@@ -23,45 +23,21 @@ pub record PutCopiesSoFar (with_data : Bool) (all left : List (ℕ × LevelChang
   pub modules : now.modules ≡ s.modules
   pub room : copy_room with_data now ≡ copy_room with_data s
 
--- the wheels keep their units
-pub copy_units : (with_data : Bool) (entries : List (ℕ × LevelChange)) (s new : NetlistSimulation) → HasPutCopy with_data entries s new → length new.bits.copies.wheel ≡ length s.bits.copies.wheel
-copy_units true entries s new put = ap (length {A = List ℕ}) put.events
-copy_units false entries s new put = ap (length {A = List ℕ}) put.events ∙ scheduled_length s.bits.copies.wheel (toggles_of entries)
-
-pub copy_change_units : (with_data : Bool) (entries : List (ℕ × LevelChange)) (s new : NetlistSimulation) → HasPutCopy with_data entries s new → length new.wires.wheel ≡ length s.wires.wheel
-copy_change_units true entries s new put = ap (length {A = List LevelChange}) put.changes ∙ levels_length s.wires.wheel entries
-copy_change_units false entries s new put = ap (length {A = List LevelChange}) put.changes
-
 pub copy_more : (with_data : Bool) (all left : List (ℕ × LevelChange)) (entry : ℕ × LevelChange) (s mid new : NetlistSimulation) →
     PutCopiesSoFar with_data all (entry ∷ left) s mid → HasPutCopy with_data (entry ∷ []) mid new → PutCopiesSoFar with_data all left s new
-copy_more with_data all left entry s mid new so put = record {
-  bits = put.bits ∙ ap (λ (b : Simulation). record b { copies = record (b.copies) { wheel = new.bits.copies.wheel } }) so.bits;
-  events = events with_data all put.events so.events;
-  units = copy_units with_data (entry ∷ []) mid new put ∙ so.units;
-  wires = put.wires ∙ ap (λ (w : DataWires). record w { wheel = new.wires.wheel }) so.wires;
-  changes = changes with_data all put.changes so.changes;
-  change_units = copy_change_units with_data (entry ∷ []) mid new put ∙ so.change_units;
-  modules = put.modules ∙ so.modules;
-  room = rooms with_data (copy_units with_data (entry ∷ []) mid new put) (copy_change_units with_data (entry ∷ []) mid new put) ∙ so.room;
-}
-  where
-    rooms : (with_data : Bool) → length new.bits.copies.wheel ≡ length mid.bits.copies.wheel → length new.wires.wheel ≡ length mid.wires.wheel → copy_room with_data new ≡ copy_room with_data mid
-    rooms true bits wires = wires
-    rooms false bits wires = bits
-
-    events : (with_data : Bool) (all : List (ℕ × LevelChange)) →
-        new.bits.copies.wheel ≡ cond with_data mid.bits.copies.wheel (scheduled mid.bits.copies.wheel (toggles_of (entry ∷ []))) →
-        cond with_data mid.bits.copies.wheel (scheduled mid.bits.copies.wheel (toggles_of (entry ∷ left))) ≡ cond with_data s.bits.copies.wheel (scheduled s.bits.copies.wheel (toggles_of all)) →
-        cond with_data new.bits.copies.wheel (scheduled new.bits.copies.wheel (toggles_of left)) ≡ cond with_data s.bits.copies.wheel (scheduled s.bits.copies.wheel (toggles_of all))
-    events true all put so = put ∙ so
-    events false all put so = ap (λ (wheel : List (List ℕ)). scheduled wheel (toggles_of left)) put ∙ so
-
-    changes : (with_data : Bool) (all : List (ℕ × LevelChange)) →
-        new.wires.wheel ≡ cond with_data (levels_scheduled mid.wires.wheel (entry ∷ [])) mid.wires.wheel →
-        cond with_data (levels_scheduled mid.wires.wheel (entry ∷ left)) mid.wires.wheel ≡ cond with_data (levels_scheduled s.wires.wheel all) s.wires.wheel →
-        cond with_data (levels_scheduled new.wires.wheel left) new.wires.wheel ≡ cond with_data (levels_scheduled s.wires.wheel all) s.wires.wheel
-    changes true all put so = ap (λ (wheel : List (List LevelChange)). levels_scheduled wheel left) put ∙ so
-    changes false all put so = put ∙ so
+copy_more with_data all left entry s mid new so put =
+    let units = toggle_units with_data (entry ∷ []) mid.bits.copies.wheel new.bits.copies.wheel put.events in
+    let change_units = level_units with_data (entry ∷ []) mid.wires.wheel new.wires.wheel put.changes in
+    record {
+      bits = put.bits ∙ ap (λ (b : Simulation). record b { copies = record (b.copies) { wheel = new.bits.copies.wheel } }) so.bits;
+      events = toggles_more with_data all left entry s.bits.copies.wheel mid.bits.copies.wheel new.bits.copies.wheel put.events so.events;
+      units = units ∙ so.units;
+      wires = put.wires ∙ ap (λ (w : DataWires). record w { wheel = new.wires.wheel }) so.wires;
+      changes = levels_more with_data all left entry s.wires.wheel mid.wires.wheel new.wires.wheel put.changes so.changes;
+      change_units = change_units ∙ so.change_units;
+      modules = put.modules ∙ so.modules;
+      room = same_room with_data (length new.wires.wheel) (length mid.wires.wheel) (length new.bits.copies.wheel) (length mid.bits.copies.wheel) change_units units ∙ so.room;
+    }
 
 -- what the number before a copy has had, and the copy not yet
 pub delayed_ahead : (sooner delay now units : ℕ) (changes : List (ℕ × ℕ)) → sooner ≤ now → sooner < delay → delay - sooner ≤ units →

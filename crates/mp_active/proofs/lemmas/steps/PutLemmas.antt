@@ -34,48 +34,59 @@ levels_length slots [] = refl
 levels_length slots (entry ∷ entries) =
     levels_length (slice_set slots entry.0 (slice_index_or slots entry.0 [] ++ entry.1 ∷ [])) entries ∙ length-set slots entry.0 (slice_index_or slots entry.0 [] ++ entry.1 ∷ [])
 
+-- a wheel of wires of width 1, and one of wires with data, into which entries are put of wires that have data or don't: it keeps its units
+pub toggle_units : (with_data : Bool) (entries : List (ℕ × LevelChange)) (old new : List (List ℕ)) → new ≡ cond with_data old (scheduled old (toggles_of entries)) → length new ≡ length old
+toggle_units true entries old new put = ap (length {A = List ℕ}) put
+toggle_units false entries old new put = ap (length {A = List ℕ}) put ∙ scheduled_length old (toggles_of entries)
+
+pub level_units : (with_data : Bool) (entries : List (ℕ × LevelChange)) (old new : List (List LevelChange)) → new ≡ cond with_data (levels_scheduled old entries) old → length new ≡ length old
+level_units true entries old new put = ap (length {A = List LevelChange}) put ∙ levels_length old entries
+level_units false entries old new put = ap (length {A = List LevelChange}) put
+
+-- and one more entry is put
+pub toggles_more : (with_data : Bool) (all left : List (ℕ × LevelChange)) (entry : ℕ × LevelChange) (old mid new : List (List ℕ)) →
+    new ≡ cond with_data mid (scheduled mid (toggles_of (entry ∷ []))) →
+    cond with_data mid (scheduled mid (toggles_of (entry ∷ left))) ≡ cond with_data old (scheduled old (toggles_of all)) →
+    cond with_data new (scheduled new (toggles_of left)) ≡ cond with_data old (scheduled old (toggles_of all))
+toggles_more true all left entry old mid new put so = put ∙ so
+toggles_more false all left entry old mid new put so = ap (λ (wheel : List (List ℕ)). scheduled wheel (toggles_of left)) put ∙ so
+
+pub levels_more : (with_data : Bool) (all left : List (ℕ × LevelChange)) (entry : ℕ × LevelChange) (old mid new : List (List LevelChange)) →
+    new ≡ cond with_data (levels_scheduled mid (entry ∷ [])) mid →
+    cond with_data (levels_scheduled mid (entry ∷ left)) mid ≡ cond with_data (levels_scheduled old all) old →
+    cond with_data (levels_scheduled new left) new ≡ cond with_data (levels_scheduled old all) old
+levels_more true all left entry old mid new put so = ap (λ (wheel : List (List LevelChange)). levels_scheduled wheel left) put ∙ so
+levels_more false all left entry old mid new put so = put ∙ so
+
+pub same_room : (with_data : Bool) (a b c d : ℕ) → a ≡ b → c ≡ d → cond with_data a c ≡ cond with_data b d
+same_room true a b c d one two = one
+same_room false a b c d one two = two
+
 -- the wheels keep their units
 pub put_units : (with_data : Bool) (entries : List (ℕ × LevelChange)) (s new : NetlistSimulation) → HasPut with_data entries s new → length new.bits.simulator.wheel ≡ length s.bits.simulator.wheel
-put_units true entries s new put = ap (length {A = List ℕ}) put.events
-put_units false entries s new put = ap (length {A = List ℕ}) put.events ∙ scheduled_length s.bits.simulator.wheel (toggles_of entries)
+put_units with_data entries s new put = toggle_units with_data entries s.bits.simulator.wheel new.bits.simulator.wheel put.events
 
 pub put_change_units : (with_data : Bool) (entries : List (ℕ × LevelChange)) (s new : NetlistSimulation) → HasPut with_data entries s new → length new.wires.wheel ≡ length s.wires.wheel
-put_change_units true entries s new put = ap (length {A = List LevelChange}) put.changes ∙ levels_length s.wires.wheel entries
-put_change_units false entries s new put = ap (length {A = List LevelChange}) put.changes
+put_change_units with_data entries s new put = level_units with_data entries s.wires.wheel new.wires.wheel put.changes
 
 pub none_put : (with_data : Bool) (all : List (ℕ × LevelChange)) (s : NetlistSimulation) → PutSoFar with_data all all s s
 none_put with_data all s = record { bits = refl; events = refl; units = refl; wires = refl; changes = refl; change_units = refl; modules = refl; room = refl }
 
 pub put_more : (with_data : Bool) (all left : List (ℕ × LevelChange)) (entry : ℕ × LevelChange) (s mid new : NetlistSimulation) →
     PutSoFar with_data all (entry ∷ left) s mid → HasPut with_data (entry ∷ []) mid new → PutSoFar with_data all left s new
-put_more with_data all left entry s mid new so put = record {
-  bits = put.bits ∙ ap (λ (b : Simulation). record b { simulator = record (b.simulator) { wheel = new.bits.simulator.wheel } }) so.bits;
-  events = events with_data all put.events so.events;
-  units = put_units with_data (entry ∷ []) mid new put ∙ so.units;
-  wires = put.wires ∙ ap (λ (w : DataWires). record w { wheel = new.wires.wheel }) so.wires;
-  changes = changes with_data all put.changes so.changes;
-  change_units = put_change_units with_data (entry ∷ []) mid new put ∙ so.change_units;
-  modules = put.modules ∙ so.modules;
-  room = rooms with_data (put_units with_data (entry ∷ []) mid new put) (put_change_units with_data (entry ∷ []) mid new put) ∙ so.room;
-}
-  where
-    rooms : (with_data : Bool) → length new.bits.simulator.wheel ≡ length mid.bits.simulator.wheel → length new.wires.wheel ≡ length mid.wires.wheel → room with_data new ≡ room with_data mid
-    rooms true bits wires = wires
-    rooms false bits wires = bits
-
-    events : (with_data : Bool) (all : List (ℕ × LevelChange)) →
-        new.bits.simulator.wheel ≡ cond with_data mid.bits.simulator.wheel (scheduled mid.bits.simulator.wheel (toggles_of (entry ∷ []))) →
-        cond with_data mid.bits.simulator.wheel (scheduled mid.bits.simulator.wheel (toggles_of (entry ∷ left))) ≡ cond with_data s.bits.simulator.wheel (scheduled s.bits.simulator.wheel (toggles_of all)) →
-        cond with_data new.bits.simulator.wheel (scheduled new.bits.simulator.wheel (toggles_of left)) ≡ cond with_data s.bits.simulator.wheel (scheduled s.bits.simulator.wheel (toggles_of all))
-    events true all put so = put ∙ so
-    events false all put so = ap (λ (wheel : List (List ℕ)). scheduled wheel (toggles_of left)) put ∙ so
-
-    changes : (with_data : Bool) (all : List (ℕ × LevelChange)) →
-        new.wires.wheel ≡ cond with_data (levels_scheduled mid.wires.wheel (entry ∷ [])) mid.wires.wheel →
-        cond with_data (levels_scheduled mid.wires.wheel (entry ∷ left)) mid.wires.wheel ≡ cond with_data (levels_scheduled s.wires.wheel all) s.wires.wheel →
-        cond with_data (levels_scheduled new.wires.wheel left) new.wires.wheel ≡ cond with_data (levels_scheduled s.wires.wheel all) s.wires.wheel
-    changes true all put so = ap (λ (wheel : List (List LevelChange)). levels_scheduled wheel left) put ∙ so
-    changes false all put so = put ∙ so
+put_more with_data all left entry s mid new so put =
+    let units = put_units with_data (entry ∷ []) mid new put in
+    let change_units = put_change_units with_data (entry ∷ []) mid new put in
+    record {
+      bits = put.bits ∙ ap (λ (b : Simulation). record b { simulator = record (b.simulator) { wheel = new.bits.simulator.wheel } }) so.bits;
+      events = toggles_more with_data all left entry s.bits.simulator.wheel mid.bits.simulator.wheel new.bits.simulator.wheel put.events so.events;
+      units = units ∙ so.units;
+      wires = put.wires ∙ ap (λ (w : DataWires). record w { wheel = new.wires.wheel }) so.wires;
+      changes = levels_more with_data all left entry s.wires.wheel mid.wires.wheel new.wires.wheel put.changes so.changes;
+      change_units = change_units ∙ so.change_units;
+      modules = put.modules ∙ so.modules;
+      room = same_room with_data (length new.wires.wheel) (length mid.wires.wheel) (length new.bits.simulator.wheel) (length mid.bits.simulator.wheel) change_units units ∙ so.room;
+    }
 
 -- the changes between two times
 earlier_more : (from to : ℕ) (c : ℕ × ℕ) (changes : List (ℕ × ℕ)) (b : Bool) → nat_lt c.0 to ≡ b → from < c.0 → All (λ (c : ℕ × ℕ). (from < c.0) × (c.0 < to)) changes →

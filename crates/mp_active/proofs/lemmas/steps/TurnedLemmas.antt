@@ -31,7 +31,7 @@ use Rattle.mp_active.specs.steps.Putting.{entry_of, toggles_of}
 use Rattle.mp_active.specs.steps.Ahead.{is_entry_of}
 use Rattle.mp_active.specs.steps.Copying.{HasTurnedCopy, delayed, in_flight}
 use Rattle.mp_active.specs.steps.Chains.{AreBehind, AreTurned}
-use Rattle.mp_active.proofs.lemmas.steps.PutLemmas.{scheduled_length, levels_length}
+use Rattle.mp_active.proofs.lemmas.steps.PutLemmas.{toggle_units, level_units}
 use Rattle.mp_active.proofs.lemmas.steps.AheadLemmas.{counted_toggles}
 use Rattle.mp_active.proofs.lemmas.steps.FlightLemmas.{counted_flight, held_flight}
 use Rattle.mp_active.proofs.lemmas.steps.ReachedLemmas.{is_among, next_is, next_later, among_later}
@@ -154,14 +154,6 @@ module _ (n : Circuit) (w now : ℕ) (wave : Waveform) (form : IsWaveform wave) 
         ∙ changes_each s.wires.wheel (in_flight wave copy now) k x within
         ∙ ap (λ j. changes_of x (data_slot s.wires.wheel k) + j) (counted x k)
 
-    units_by : (b : Bool) → mid.bits.copies.wheel ≡ cond b s.bits.copies.wheel (scheduled s.bits.copies.wheel (toggles_of (in_flight wave copy now))) → length mid.bits.copies.wheel ≡ length s.bits.copies.wheel
-    units_by true is = ap (length {A = List ℕ}) is
-    units_by false is = ap (length {A = List ℕ}) is ∙ scheduled_length s.bits.copies.wheel (toggles_of (in_flight wave copy now))
-
-    change_units_by : (b : Bool) → mid.wires.wheel ≡ cond b (levels_scheduled s.wires.wheel (in_flight wave copy now)) s.wires.wheel → length mid.wires.wheel ≡ length s.wires.wheel
-    change_units_by true is = ap (length {A = List LevelChange}) is ∙ levels_length s.wires.wheel (in_flight wave copy now)
-    change_units_by false is = ap (length {A = List LevelChange}) is
-
     holds_by : (b : Bool) (P : ℕ → LevelChange → Type 0) → mid.wires.wheel ≡ cond b (levels_scheduled s.wires.wheel (in_flight wave copy now)) s.wires.wheel → HoldsIn P s.wires.wheel →
         All (HoldsOf P) (in_flight wave copy now) → HoldsIn P mid.wires.wheel
     holds_by true P is was each = subst (HoldsIn P) (sym is) (holds_scheduled P s.wires.wheel (in_flight wave copy now) was each)
@@ -199,10 +191,10 @@ module _ (n : Circuit) (w now : ℕ) (wave : Waveform) (form : IsWaveform wave) 
     one_turned : Turned (copy ∷ []) s mid
     one_turned = record {
       bits = head.bits;
-      units = units_by wide head.events;
+      units = toggle_units wide (in_flight wave copy now) s.bits.copies.wheel mid.bits.copies.wheel head.events;
       events = λ x k within. event_by wide x k within head.events;
       wires = head.wires;
-      change_units = change_units_by wide head.changes;
+      change_units = level_units wide (in_flight wave copy now) s.wires.wheel mid.wires.wheel head.changes;
       changes = λ x k within. change_by wide x k within head.changes;
       held = λ was. holds_by wide (λ k c. IsLevelAt n source (now + 1 + k) c) head.changes was (held_flight n w now wave form agree source copy had own);
       numbered = λ bound low was. holds_by wide (λ k c. c.number < bound) head.changes was (own_number bound low);

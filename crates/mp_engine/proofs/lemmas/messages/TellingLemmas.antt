@@ -1,5 +1,5 @@
 -- What the simulation of a part knows ahead of the wires that another part hears.
-use Rattle.std.proofs.Common.{◌≡◌, ◌⊎◌, ℕ, ◌+◌, ◌-◌, ◌<◌, ◌≤◌, Bool, true, false, not, cond, nat_lt, List, [], ◌∷◌, ◌++◌, Option, Some, None, is_some, All, length, slice_index_or, refl, sym, ap, ◌∙◌, arith, subst, inl, inr}
+use Rattle.std.proofs.Common.{◌≡◌, ◌⊎◌, ℕ, ◌+◌, ◌-◌, ◌<◌, ◌≤◌, Bool, true, false, not, cond, nat_lt, List, [], ◌∷◌, ◌++◌, None, is_some, All, length, slice_index_or, refl, sym, ap, ◌∙◌, arith, subst, inl, inr}
 use Rattle.std.specs.Prelude.{◌==◌, ◌&&◌}
 use Rattle.std.specs.List.{count_by}
 use Rattle.std.proofs.lemmas.Bool.{cases_lt, eq-eqb, eqb-true, and_parts}
@@ -8,7 +8,6 @@ use Rattle.std.proofs.lemmas.List.{get_or_past}
 use Rattle.std.proofs.lemmas.List.Elements.{All-append}
 use Rattle.std.proofs.lemmas.List.Sums.{sum_by-append, sum_by-cons}
 use Rattle.mp_records.specs.declared.ids.ModuleId.{ModuleId}
-use Rattle.mp_records.specs.declared.wire_record.WireRecord.{WireRecord}
 use Rattle.mp_records.specs.Outputs.{delay_of}
 use Rattle.mp_netlist.specs.declared.driver.Driver.{Driver}
 use Rattle.mp_netlist.specs.declared.driver.Driver.TheVariants.{Nothing, Stimulus, Port}
@@ -33,7 +32,7 @@ use Rattle.mp_simulation.proofs.lemmas.units.PresentLemmas.{change_here}
 use Rattle.mp_simulation.specs.declared.run.stimuli.StimulusChange.{StimulusChange}
 use Rattle.mp_simulation.specs.run.Stimuli.{is_change, IsSetting}
 use Rattle.mp_partition.specs.runs.Marks.{is_marked}
-use Rattle.mp_partition.specs.regions.Regions.{partition_of, region, slots_heard, width_in}
+use Rattle.mp_partition.specs.regions.Regions.{partition_of, region, slots_heard}
 use Rattle.mp_partition.specs.regions.Divisions.{heard_by, IsCrossing, IsDivision}
 use Rattle.mp_partition.proofs.lemmas.regions.DivisionLemmas.{divided_apart, divided_closed}
 use Rattle.mp_partition.proofs.lemmas.regions.PartLemmas.{IsSeen, region_level}
@@ -41,6 +40,7 @@ use Rattle.mp_partition.proofs.lemmas.regions.RegionLemmas.{length_heard, module
 use Rattle.mp_engine.specs.messages.Messages.{toggles_told, levels_told}
 use Rattle.mp_engine.proofs.lemmas.messages.MessageLemmas.{AreToldAt, toggles_all, levels_all, toggles_counted, levels_counted}
 use Rattle.mp_engine.proofs.lemmas.messages.CountLemmas.{some_bit}
+use Rattle.mp_engine.proofs.lemmas.region_runs.OwnStimuliLemmas.{by_width}
 
 last_true : (a : Bool) → a ≡ (a && true)
 last_true true = refl
@@ -63,16 +63,6 @@ both_sorts false true false true l k = refl
 both_sorts c false data_too known l k = absurd (let no : ⊥ = cc in no)
 both_sorts true true data_too false l k = absurd (let no : ⊥ = cc in no)
 both_sorts false true data_too false l k = absurd (let no : ⊥ = cc in no)
-
-by_width : (slot other : Option WireRecord) → width_in slot ≡ width_in other → has_data slot ≡ has_data other
-by_width None None same = refl
-by_width None (Some r) same = absurd (let no : ⊥ = cc in no)
-by_width (Some r) None same = absurd (let no : ⊥ = cc in no)
-by_width (Some r) (Some s) same = ap (λ (o : Option ℕ). width_data o) same
-  where
-    width_data : Option ℕ → Bool
-    width_data None = false
-    width_data (Some width) = not (width == 1)
 
 no_delay : (n : Circuit) (d : Driver) → ((m p : ℕ) → d ≡ Port (record { 0 = m }) p → ⊥) → driver_delay n d ≡ 0
 no_delay n Nothing never = refl

@@ -21,10 +21,7 @@ use Rattle.mp_simulation.proofs.lemmas.run.StimulusLemmas.{no_stimulus}
 use Rattle.mp_partition.specs.regions.Regions.{width_in, HasStimuli}
 use Rattle.mp_partition.specs.runs.Marks.{is_marked}
 use Rattle.mp_engine.specs.region_runs.RegionRuns.{is_set, AreComing, AreUnset}
-
-some_bit : (b : Bool) → 0 < bit b → b ≡ true
-some_bit true some = refl
-some_bit false some = absurd (omega arith)
+use Rattle.mp_engine.proofs.lemmas.messages.CountLemmas.{some_bit}
 
 -- what is in a list is counted there
 counted : {A : Type 0} (is_it : A → Bool) (xs : List A) (k : ℕ) (d : A) → k < length xs → is_it (slice_index_or xs k d) ≡ true → 0 < count_by is_it xs
