@@ -15,8 +15,13 @@ pub(crate) struct PartProgress<'a> {
 }
 
 impl<'a> PartProgress<'a> {
+    ghost use Rattle.std.specs.Prelude.{◌≡◌, false, true};
+    ghost use Rattle.mp_engine.specs.PartProgresses.{is_line_due};
+
     /// The lines of the run of a partition, with this many units from one to the next. It is at time 0.
-    pub(crate) fn new(of: PartOf<'a>, stretch: u32) -> PartProgress<'a> {
+    pub(crate) fn new(of: PartOf<'a>, stretch: u32) -> PartProgress<'a>
+        ensures { result ≡ record { of = of; stretch = stretch; passed = 0; counted = 0 } }
+    {
         PartProgress {
             of,
             stretch,
@@ -25,8 +30,13 @@ impl<'a> PartProgress<'a> {
         }
     }
 
-    /// A window is over that ends at a time.
-    pub(crate) fn pass(&mut self, alloc: Global, run: &RegionRun, time: u32) {
+    /// A window is over that ends at a time. If that is the end of a stretch or of the run, a line is written, and the next stretch begins.
+    pub(crate) fn pass(&mut self, alloc: Global, run: &RegionRun, time: u32)
+        ensures line { is_line_due self.old time ≡ true → self.new.passed ≡ time }
+        ensures none { is_line_due self.old time ≡ false → self.new.passed ≡ self.old.passed }
+        ensures of { self.new.of ≡ self.old.of }
+        ensures stretch { self.new.stretch ≡ self.old.stretch }
+    {
         let Some(progress) = self.of.progress else {
             return;
         };

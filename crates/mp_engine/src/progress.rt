@@ -1,5 +1,5 @@
 //! How far a run is, for somebody who waits for it.
-ghost use Rattle.std.specs.Prelude.{◌<◌};
+ghost use Rattle.std.specs.Prelude.{◌<◌, ◌≤◌};
 
 use mp_netlist::Netlist;
 use std::alloc::Global;
@@ -33,7 +33,9 @@ impl Progress {
     }
 
     /// Adds the units that a thread has run and the changes that it has counted in them. Returns those of all threads.
-    pub(crate) fn add(&self, units: u32, changes: usize) -> (u64, u64) {
+    pub(crate) fn add(&self, units: u32, changes: usize) -> (u64, u64)
+        ensures { units ≤ result.0 }
+    {
         let _ = self.changes.fetch_add(changes as u64, Ordering::SeqCst);
         let units = u64::from(units);
         let before = self.units.fetch_add(units, Ordering::SeqCst);
