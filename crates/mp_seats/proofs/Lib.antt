@@ -1,4 +1,3 @@
-mod MarkLemmas
 mod StepLemmas
 mod SeatLemmas
 pub mod lemmas

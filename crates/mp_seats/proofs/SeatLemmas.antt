@@ -6,7 +6,7 @@ use Rattle.mp_text.specs.lines.Incoming.{Incoming}
 use Rattle.mp_streams.specs.Outgoing.{Outgoing}
 use Rattle.mp_version.specs.Stories.{Story, one_more}
 use Rattle.mp_desk.specs.Extending.{Extends}
-use Rattle.mp_desk.proofs.PrefixLemmas.{prefix_self, prefix_trans, extends_self, extends_trans, extends_one_more}
+use Rattle.mp_desk.proofs.PrefixLemmas.{prefix_self, prefix_trans, prefix_last, extends_self, extends_trans, extends_length, extends_one_more, up_to-earlier}
 use Rattle.mp_seats.specs.declared.talk.talk_fault.TalkFault.{TalkFault}
 use Rattle.mp_seats.specs.talk.Answers.{AreAnswers}
 use Rattle.mp_seats.specs.talk.Conversations.{Conversed}
@@ -16,7 +16,6 @@ use Rattle.mp_seats.specs.Steps.{Seated, one_more_refused, IsAcceptedLine, IsRef
 use Rattle.mp_seats.specs.Seats.{IsSeat, IsVisit}
 use Rattle.mp_seats.proofs.StepLemmas.{step_begins}
 use Rattle.mp_seats.proofs.lemmas.talk.AnswerLemmas.{conversed_by}
-use Rattle.mp_seats.proofs.MarkLemmas.{longer, accepted_at, up_to-earlier, signed_at}
 
 module _ (w : Writing) (edits : Bool) where
   -- no lines
@@ -29,7 +28,7 @@ module _ (w : Writing) (edits : Bool) where
         marks = [];
         extends = extends;
         replies = λ now more. empty;
-        rise = λ now more. longer now start.seen (extends_trans now last.seen start.seen more extends);
+        rise = λ now more. extends_length now start.seen (extends_trans now last.seen start.seen more extends);
         accepted = omega (arith, accepted);
         refused = λ _ low. let refused : last.refused ≡ start.refused = ap (λ (s : Seated). s.refused) same in omega (arith, refused, low);
         told = ap (λ (s : Seated). s.told) same;
@@ -67,11 +66,11 @@ module _ (w : Writing) (edits : Bool) where
           replies = λ now more. (
             piece,
             later,
-            (step.edit, step.edits_may, step.is_edit, accepted_at now step.before step.edit (extends_trans now last.seen (one_more step.before step.edit) more onward_last), step.replied),
+            (step.edit, step.edits_may, step.is_edit, prefix_last now.edits step.before.edits step.edit (extends_trans now last.seen (one_more step.before step.edit) more onward_last).begins, step.replied),
             rest.replies now more,
             is,
           );
-          rise = λ now more. (longer step.before start.seen step.extends, subst (λ (n : ℕ). Rise n (length now.edits) rest.marks) size (rest.rise now more));
+          rise = λ now more. (extends_length step.before start.seen step.extends, subst (λ (n : ℕ). Rise n (length now.edits) rest.marks) size (rest.rise now more));
           accepted = omega (arith, count, counted);
           refused = unrefused (ap (λ (s : Seated). s.refused) step.stands);
           told = rest.told ∙ ap (λ (told : ℕ). told_of told rest.marks) (ap (λ (s : Seated). s.told) step.stands);
@@ -79,7 +78,7 @@ module _ (w : Writing) (edits : Bool) where
           begins = prefix_trans start.signed next.signed last.signed begins rest.begins;
           signed = λ authors more. (
             subst (λ (place : ℕ). slice_get authors place ≡ Some start.number) step.each
-                (signed_at authors step.authors start.number (subst (λ (signed : List ℕ). IsPrefix signed authors) signed (prefix_trans next.signed last.signed authors rest.begins more))),
+                (prefix_last authors step.authors start.number (subst (λ (signed : List ℕ). IsPrefix signed authors) signed (prefix_trans next.signed last.signed authors rest.begins more))),
             subst (λ (author : ℕ). AreSigned author authors (places_of rest.marks)) same_number (rest.signed authors more),
           );
         }
@@ -100,7 +99,7 @@ module _ (w : Writing) (edits : Bool) where
             rest.replies now more,
             is,
           );
-          rise = λ now more. (longer next.seen start.seen step.extends, rest.rise now more);
+          rise = λ now more. (extends_length next.seen start.seen step.extends, rest.rise now more);
           accepted = omega (arith, count, counted);
           refused = λ edits_may low.
               let here : next.refused ≡ min (start.refused + 1) (2 ^ 64 - 1) = ap (λ (s : Seated). s.refused) step.stands ∙ ap (λ (b : Bool). one_more_refused b start.refused) edits_may in
@@ -128,7 +127,7 @@ module _ (w : Writing) (edits : Bool) where
             rest.replies now more,
             is,
           );
-          rise = λ now more. (longer next.seen start.seen step.extends, rest.rise now more);
+          rise = λ now more. (extends_length next.seen start.seen step.extends, rest.rise now more);
           accepted = omega (arith, count, counted);
           refused = unrefused (ap (λ (s : Seated). s.refused) step.stands);
           told = rest.told ∙ ap (λ (told : ℕ). told_of told rest.marks) (ap (λ (s : Seated). s.told) step.stands);

@@ -15,8 +15,7 @@ use Rattle.mp_text.specs.ScriptLines.{line_at}
 use Rattle.mp_version.specs.Stories.{Story}
 use Rattle.mp_desk.specs.Extending.{Extends}
 use Rattle.mp_desk.specs.Holders.{RefusedAfter}
-use Rattle.mp_desk.proofs.PrefixLemmas.{prefix_self, prefix_trans, extends_self}
-use Rattle.mp_seats.proofs.MarkLemmas.{prefix_take}
+use Rattle.mp_desk.proofs.PrefixLemmas.{prefix_self, prefix_trans, prefix_take, extends_self}
 use Rattle.mp_seats.specs.talk.Answers.{PutsAnswer}
 use Rattle.mp_seats.specs.declared.refusal.Refusal.TheVariants as refusals
 use Rattle.mp_seats.specs.declared.reply.Reply.{Reply}

@@ -1,6 +1,5 @@
 -- The numbers of a seat's lines.
-use Rattle.std.specs.Prelude.{◌≡◌, ℕ, ◌+◌, ◌≤◌, List, [], ◌∷◌, take, Some, slice_get}
-use Rattle.mp_version.specs.Stories.{Story}
+use Rattle.std.specs.Prelude.{◌≡◌, ℕ, ◌+◌, ◌≤◌, List, [], ◌∷◌, Some, slice_get}
 
 -- the edit of a line was accepted behind so many others; or a line was refused or not read after so many; or it asked a question, which was answered after
 -- so many, or had no words
@@ -8,10 +7,6 @@ pub data Mark : Type 0 where
   AcceptedAt : ℕ → Mark
   RefusedAt : ℕ → Mark
   AnsweredAt : ℕ → Mark
-
--- the story after the first edits
-abbrev pub up_to : Story → ℕ → Story
-up_to story k = record { base = story.base; edits = take k story.edits }
 
 -- the numbers never fall, from what was seen at first on, each behind an accepted edit is above its place, and none is above the last
 abbrev pub Rise : ℕ → ℕ → List Mark → Type 0

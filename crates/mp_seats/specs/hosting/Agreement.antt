@@ -10,7 +10,8 @@ use Rattle.mp_version.specs.Stories.{Story, opening}
 use Rattle.mp_desk.specs.declared.meeting.tally.Tally.{Tally}
 use Rattle.mp_desk.specs.meeting.Fates.{Fate, Accepted, Refused}
 use Rattle.mp_desk.specs.meeting.Meetings.{IsWorked, IsMeeting}
-use Rattle.mp_seats.specs.Marks.{Mark, AcceptedAt, RefusedAt, AnsweredAt, up_to}
+use Rattle.mp_desk.specs.meeting.Fates.{up_to}
+use Rattle.mp_seats.specs.Marks.{Mark, AcceptedAt, RefusedAt, AnsweredAt}
 use Rattle.mp_seats.specs.Replies.{Writing}
 use Rattle.mp_seats.specs.Seats.{IsSeat}
 use Rattle.mp_seats.specs.hosting.Guests.{just_come, just_looking}

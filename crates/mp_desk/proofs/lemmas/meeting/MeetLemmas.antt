@@ -15,8 +15,8 @@ use Rattle.mp_desk.specs.Holders as holders
 use Rattle.mp_desk.specs.meeting.Sittings.{DesignerTally, begun, HasWorked, WorkedEach}
 use Rattle.mp_desk.specs.meeting.Seats.{working, tally_of}
 use Rattle.mp_desk.specs.meeting.Meetings.{AreWorked, accepted_by, IsMeeting}
-use Rattle.mp_desk.proofs.PrefixLemmas.{prefix_trans}
-use Rattle.mp_desk.proofs.lemmas.meeting.FateLemmas.{among_more, longer, extends_trans}
+use Rattle.mp_desk.proofs.PrefixLemmas.{prefix_trans, extends_trans, extends_length}
+use Rattle.mp_desk.proofs.lemmas.meeting.FateLemmas.{among_more}
 
 -- each designer has worked through the block
 abbrev pub AllDone : Story → List (Bor (List ℕ)) → List DesignerTally → Type 0
@@ -101,7 +101,7 @@ pub none_more : (now : Story) (numbers : List ℕ) (vs : List Seeing) → length
     → ((k : ℕ) (v : Seeing) → k < length vs → slice_index numbers k ≡ length (slice_index_or vs k v).last.edits) → All (λ (v : Seeing). Extends now v.last) vs → All (λ (n : ℕ). n ≤ length now.edits) numbers
 none_more now numbers vs count last read k n within =
     let v : Seeing = record { last = now; learnt = now; reads = []; signed = [] } in
-    let under = longer now (slice_index_or vs k v).last (read k v (omega (arith, within, count))) in
+    let under = extends_length now (slice_index_or vs k v).last (read k v (omega (arith, within, count))) in
     let same = last k v (omega (arith, within, count)) in
     let plain = get_or_default_zero numbers k n within in
     omega (arith, under, same, plain)

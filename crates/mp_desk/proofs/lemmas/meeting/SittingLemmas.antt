@@ -13,7 +13,8 @@ use Rattle.mp_desk.specs.Holders.{Working, Signs}
 use Rattle.mp_desk.specs.meeting.Fates.{Fate, Accepted, Refused, said, unless_empty, IsFate, AreFates, Rise, AreAmong, accepted_of, refused_of}
 use Rattle.mp_desk.specs.meeting.Sittings.{DesignerTally, begun, with_edit, with_refusal, IsAccepted, IsRefused, Takes, HasWorked}
 use Rattle.mp_desk.specs.meeting.Seats.{working}
-use Rattle.mp_desk.proofs.lemmas.meeting.FateLemmas.{accepted_snoc, refused_snoc, among_more, among_snoc, extends_self, extends_trans, extends_one_more, longer, accepted_at, up_to-earlier}
+use Rattle.mp_desk.proofs.PrefixLemmas.{prefix_last, extends_self, extends_trans, extends_length, extends_one_more, up_to-earlier}
+use Rattle.mp_desk.proofs.lemmas.meeting.FateLemmas.{accepted_snoc, refused_snoc, among_more, among_snoc}
 
 -- these became of the lines before the rest
 pub record SoFar (start : Story) (all rest : List (List ℕ)) (p : DesignerTally) : Type 0 where
@@ -80,10 +81,10 @@ module _ (start : Story) (all : List (List ℕ)) (line : List ℕ) (rest : List 
       let size : length (one_more story edit).edits ≡ k + 1 = length-append story.edits (edit ∷ []) in
       let seen : new.seen ≡ one_more story edit = ap (λ s. s.seen) same in
       let told : new.told ≡ k + 1 = ap (λ s. s.told) same in
-      let long = longer story old.seen extends in
+      let long = extends_length story old.seen extends in
       let under = before.told in
       one_fate (Ok (Change edit)) (Accepted k) (ap (λ r. unless_empty r (said rest)) is)
-      (λ now more. accepted_at now story edit (subst (Extends now) seen more))
+      (λ now more. prefix_last now.edits story.edits edit (subst (Extends now) seen more).begins)
       (subst (λ s. Extends s old.seen) (sym seen) (extends_trans (one_more story edit) story old.seen (extends_one_more story edit) extends))
       (λ last later h. (long, subst (λ n. Rise n last later) (ap (λ s. length s.edits) seen ∙ size) h))
       (let e : new.accepted ≡ old.accepted + 1 = ap (λ s. s.accepted) same in omega (arith, e))
@@ -97,7 +98,7 @@ module _ (start : Story) (all : List (List ℕ)) (line : List ℕ) (rest : List 
   was_refused read story says holds extends authors same =
       let seen : new.seen ≡ story = ap (λ s. s.seen) same in
       let told : new.told ≡ old.told = ap (λ s. s.told) same in
-      let long = longer story old.seen extends in
+      let long = extends_length story old.seen extends in
       let under = before.told in
       one_fate read (Refused (length story.edits)) says
       (λ now more. holds now (subst (Extends now) seen more))
@@ -142,7 +143,7 @@ has_worked start all p h = record {
   fates = h.fates;
   extends = h.extends;
   judged = λ now more. subst (AreFates now (said all)) (append-nil h.fates) (h.judged now more [] tt);
-  rise = λ now more. subst (Rise (length start.edits) (length now.edits)) (append-nil h.fates) (h.rise (length now.edits) [] (longer now p.seen more));
+  rise = λ now more. subst (Rise (length start.edits) (length now.edits)) (append-nil h.fates) (h.rise (length now.edits) [] (extends_length now p.seen more));
   accepted = h.accepted;
   refused = h.refused;
   among = h.among;

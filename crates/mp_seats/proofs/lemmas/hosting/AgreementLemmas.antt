@@ -12,7 +12,8 @@ use Rattle.mp_desk.specs.Chronicles.{unsigned}
 use Rattle.mp_desk.specs.meeting.Fates.{Fate, Accepted, Refused, said, unless_empty, AreFates}
 use Rattle.mp_desk.specs.meeting.Fates as fates_of
 use Rattle.mp_seats.specs.declared.reply.Reply.TheVariants as replies
-use Rattle.mp_seats.specs.Marks.{Mark, RefusedAt, AnsweredAt, up_to, Rise, accepted_of, refused_of, told_of, places_of, AreSigned}
+use Rattle.mp_desk.specs.meeting.Fates.{up_to}
+use Rattle.mp_seats.specs.Marks.{Mark, RefusedAt, AnsweredAt, Rise, accepted_of, refused_of, told_of, places_of, AreSigned}
 use Rattle.mp_seats.specs.Replies.{Writing, IsReadRefusal, IsReadAnswer}
 use Rattle.mp_seats.specs.Seats.{AreReplies}
 use Rattle.mp_seats.specs.hosting.Agreement.{with_mark, marks_of, BlocksAreSeats, IsSeenAtSeat, NumbersAreSeats}
