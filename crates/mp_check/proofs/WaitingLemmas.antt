@@ -17,7 +17,7 @@ use Rattle.mp_netlist.proofs.TableLemmas.{slot_within}
 use Rattle.mp_netlist.proofs.UseLemmas.{output_within}
 use Rattle.mp_check.specs.Waiting.{port_numbers, port_number, port_slots}
 
-few_outputs : (kind : Kind) → output_count kind ≤ port_numbers
+pub few_outputs : (kind : Kind) → output_count kind ≤ port_numbers
 few_outputs kinds.Buf = omega arith
 few_outputs kinds.Not = omega arith
 few_outputs kinds.Xor = omega arith

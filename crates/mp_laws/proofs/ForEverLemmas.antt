@@ -26,7 +26,8 @@ use Rattle.mp_laws.proofs.StillOutputLemmas.{plain_input, behind}
 use Rattle.mp_laws.specs.ForEver.{GoesOn, StandsForEver}
 use Rattle.mp_questions.specs.timing.Events.{since}
 use Rattle.mp_questions.specs.timing.Waits.{missing_input}
-use Rattle.mp_check.specs.Waiting.{last_unit, needed_input, port_numbers, port_slots, port_number, wait_of}
+use Rattle.mp_check.proofs.WaitingLemmas.{few_outputs}
+use Rattle.mp_check.specs.Waiting.{last_unit, needed_input, port_slots, port_number, wait_of}
 use Rattle.mp_check.specs.Deadlocks.{port_after, next_port}
 use Rattle.mp_check.specs.declared.wait.Wait.{Wait}
 
@@ -45,21 +46,6 @@ kind_cases n m r p kinds.Xor = inr refl
 kind_cases n m r p kinds.Call = inr refl
 kind_cases n m r p kinds.Arbiter = inr refl
 kind_cases n m r p kinds.Sum = inr refl
-
-few_outputs : (kind : Kind) → output_count kind ≤ port_numbers
-few_outputs kinds.Buf = omega arith
-few_outputs kinds.Not = omega arith
-few_outputs kinds.Xor = omega arith
-few_outputs kinds.C = omega arith
-few_outputs kinds.Toggle = omega arith
-few_outputs kinds.Select = omega arith
-few_outputs kinds.Call = omega arith
-few_outputs kinds.Arbiter = omega arith
-few_outputs kinds.Reg = omega arith
-few_outputs kinds.AddC = omega arith
-few_outputs kinds.XorC = omega arith
-few_outputs kinds.Sum = omega arith
-few_outputs kinds.Bit = omega arith
 
 -- ---- two netlists on which the same is set up to the last unit of the first
 
