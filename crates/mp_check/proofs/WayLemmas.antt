@@ -4,6 +4,7 @@ use Rattle.std.specs.List.{range_with_len}
 use Rattle.std.proofs.lemmas.Bool.{cases_lt}
 use Rattle.std.proofs.lemmas.List.{get_or_default, get_or_past, map-append}
 use Rattle.std.proofs.lemmas.List.Elements.{filter-append}
+use Rattle.mp_report.proofs.TimeLemmas.{times_more as range_more}
 use Rattle.mp_check.specs.Ways.{way, least}
 use Rattle.mp_check.specs.Doubling.{beyond, number_in, next_in, AreWays}
 use Rattle.mp_check.specs.declared.rounds.Ways.{Ways}
@@ -99,10 +100,6 @@ least_none numbers (suc count) =
     let e = get_or_past numbers (length numbers) (length numbers) (omega arith) in
     let rest = ap (λ x. least (length numbers) (way (next_in numbers) count x)) e ∙ least_none numbers count in
     omega (arith, rest)
-
-pub range_more : (a n : ℕ) → range_with_len a (n + 1) ≡ range_with_len a n ++ (a + n) ∷ []
-range_more a zero = grind arith
-range_more a (suc n) = grind (arith, (range_more (a + 1) n))
 
 -- numbers one by one through a function
 pub ruleset number_steps = (range_more, map-append)

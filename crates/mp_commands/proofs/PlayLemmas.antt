@@ -1,6 +1,6 @@
 -- A script, line after line.
-use Rattle.std.specs.Prelude.{◌≡◌, ◌∷◌, ◌++◌}
-use Rattle.mp_commands.proofs.Names.{ℕ, Bool, true, List, [], append_assoc, length, Ok, Err, refl, sym, subst, arith, append-nil, Outgoing, Writes, WriteError, puts_then, puts_sooner, Kept, reply, IsNext, lines_of}
+use Rattle.std.specs.Prelude.{◌∷◌, ◌++◌}
+use Rattle.mp_commands.proofs.Names.{ℕ, Bool, true, List, [], append_assoc, Ok, Err, refl, sym, subst, append-nil, Outgoing, Writes, WriteError, puts_then, puts_sooner, Kept, reply, IsNext}
 use Rattle.mp_commands.specs.Plays.{AreReplies, PutsReplies}
 use Rattle.mp_commands.proofs.ReplyLemmas.{next_keeps}
 
@@ -57,10 +57,3 @@ replies_part error first now next lines others line a b c wanting played after p
       played.goes_on (text ++ later.0) (one_line wanting now next line others later.0 after later.1),
       puts_then played.put (puts_sooner later.0 put),
     )
-
--- ---- ends
-
-pub lines_of-none : (bytes : List ℕ) → length bytes ≡ 0 → lines_of bytes ≡ []
-unfolding lines_of
-lines_of-none [] none = refl
-lines_of-none (b ∷ bytes) none = absurd (omega (arith, none))

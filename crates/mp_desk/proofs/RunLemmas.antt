@@ -12,15 +12,12 @@ use Rattle.mp_netlist.specs.Edits.{after}
 use Rattle.mp_version.specs.Limits.{max_edits}
 use Rattle.mp_version.specs.Stories.{present, counted_edit}
 use Rattle.mp_version.proofs.StoryLemmas.{one_more_leads}
-use Rattle.mp_desk.proofs.PrefixLemmas.{prefix_self, prefix_trans}
+use Rattle.mp_desk.proofs.PrefixLemmas.{prefix_self, prefix_trans, prefix_length}
 use Rattle.mp_desk.specs.Worlds.{World, Event, Accept, Refuse, Read, Tell, number, IsReplay, MayCome, next, IsRun, after_run, NumberOf, ReadsWell, EveryRun}
 
 append_nil : {A : Type 0} (xs : List A) → xs ++ [] ≡ xs
 append_nil [] = refl
 append_nil (x ∷ xs) = ap (λ ys. x ∷ ys) (append_nil xs)
-
-prefix_length : {A : Type 0} (xs ys : List A) → IsPrefix xs ys → length xs ≤ length ys
-prefix_length xs ys p = omega (arith, sym (ap length p.1) ∙ length-append xs p.0)
 
 event_begins : (w : World) (s : Event) → IsPrefix w.story.edits (next w s).story.edits
 event_begins w (Accept i e) = (e ∷ [], refl)

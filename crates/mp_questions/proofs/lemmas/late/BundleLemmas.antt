@@ -1,7 +1,7 @@
 -- What is late at a bundle.
 use Rattle.std.proofs.Common.{◌≡◌, ℕ, ◌+◌, ◌-◌, ◌<◌, ◌==◌, Bool, true, false, not, cond, List, [], ◌∷◌, ◌++◌, length, get_or, map, take, filter, Some, None, option_map, zero, suc, refl, ap, sym, ◌∙◌, arith, append-nil}
 use Rattle.std.specs.List.{All, filter_map, cons_option, range_with_len}
-use Rattle.std.proofs.lemmas.List.{take_more, map-append, length-map}
+use Rattle.std.proofs.lemmas.List.{take_more, map-append}
 use Rattle.std.proofs.lemmas.List.Elements.{All-append, filter-append, filter_map-append}
 use Rattle.mp_wave.specs.Waveform.{change_after, changes_after}
 use Rattle.mp_modules.specs.Histories.{has_event}
@@ -9,14 +9,11 @@ use Rattle.mp_records.specs.declared.ids.BundleId.{BundleId}
 use Rattle.mp_records.specs.declared.bundle_record.BundleRecord.{BundleRecord}
 use Rattle.mp_netlist.specs.Circuit.{Circuit, bundle_at}
 use Rattle.mp_model.specs.Waves.{level}
+use Rattle.mp_report.proofs.TimeLemmas.{times_more as range_more}
 use Rattle.mp_questions.specs.timing.Events.{last_event}
 use Rattle.mp_questions.specs.late.Lateness.{late_by, late_units, late_in, late_at, units_behind}
 use Rattle.mp_questions.specs.late.Searching.{late_then, late_over}
 use Rattle.mp_questions.specs.declared.late.late.Late.{Late}
-
-pub range_more : (a n : ℕ) → range_with_len a (n + 1) ≡ range_with_len a n ++ (a + n) ∷ []
-range_more a zero = grind arith
-range_more a (suc n) = grind (arith, (range_more (a + 1) n))
 
 pub ruleset id_steps = (range_more, map-append)
 

@@ -1,9 +1,8 @@
 -- The edits of a script, made line by line.
-use Rattle.std.proofs.Common.{◌≡◌, ℕ, List, [], ◌∷◌, ◌++◌, append_assoc, map, length, Some, Result, Ok, Err, refl, sym, ap, ◌∙◌, arith}
+use Rattle.std.proofs.Common.{◌≡◌, List, [], ◌∷◌, ◌++◌, append_assoc, map, Some, Result, Ok, Err, refl, sym, ap, ◌∙◌}
 use Rattle.std.specs.Prelude.{option_map}
 use Rattle.std.proofs.lemmas.List.{append-nil}
 use Rattle.mp_records.specs.declared.edit.Edit.{Edit}
-use Rattle.mp_text.specs.lexing.Lines.{lines_of}
 use Rattle.mp_text.specs.declared.lexing.line_error.LineError.{LineError}
 use Rattle.mp_text.specs.declared.script_line.Line.{Line}
 use Rattle.mp_text.specs.declared.script_line.Line.TheVariants.{Empty, Change, Ask}
@@ -42,8 +41,3 @@ one_line start all (Err error) rest old new before made = absurd made
 pub said_edits : (edits : List Edit) → edits_said (map (λ edit. Ok (Change edit)) edits) ≡ Some edits
 said_edits [] = refl
 said_edits (edit ∷ edits) = ap (option_map (λ (es : List Edit). edit ∷ es)) (said_edits edits)
-
-pub lines_of-none : (bytes : List ℕ) → length bytes ≡ 0 → lines_of bytes ≡ []
-unfolding lines_of
-lines_of-none [] none = refl
-lines_of-none (b ∷ bytes) none = absurd (omega (arith, none))
