@@ -16,7 +16,7 @@ pub const MAX_VIEWERS: usize = 32;
 pub struct BadDeskSize;
 
 /// How many designers a desk has, 1 to 8, and how many viewers, 1 to 32.
-#[derive(Clone, Copy, Debug, PartialEq, Eq)]
+#[derive(Clone, Copy)]
 pub struct DeskSize {
     pub designers: usize,
     pub viewers: usize,

@@ -1,7 +1,7 @@
 //! How a designer's lines fared.
 
 /// How many lines of a designer were accepted, and how many refused.
-#[derive(Clone, Copy, Debug, PartialEq, Eq)]
+#[derive(Clone, Copy)]
 pub struct Tally {
     /// The edits that were accepted.
     pub accepted: u32,
