@@ -3,7 +3,7 @@ use mp_netlist::EditError;
 use mp_text::LineError;
 
 /// A reply to a line, unless that asks a question.
-#[derive(Clone, Copy, Debug, PartialEq, Eq)]
+#[derive(Clone, Copy)]
 pub enum Reply {
     /// The edit was accepted, as the one of this number, from 1.
     Accepted(u32),

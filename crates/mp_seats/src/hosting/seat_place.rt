@@ -8,7 +8,7 @@ use std::marker::Model;
 use std::sync::atomic::{AtomicBool, Ordering};
 
 /// The name of a seat. The seats of each kind are numbered from 1.
-#[derive(Clone, Copy, Debug, PartialEq, Eq)]
+#[derive(Clone, Copy)]
 pub enum SeatName {
     Designer(u32),
     Viewer(u32),
