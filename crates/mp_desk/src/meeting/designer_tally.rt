@@ -56,7 +56,7 @@ impl<L: DeskName> DesignerTally<L> {
     }
 
     /// Tells a viewer of the last edit that was accepted.
-    #[tactic(auto, using(crate::proofs::lemmas::meeting::FateLemmas::longer))]
+    #[tactic(auto, using(crate::proofs::PrefixLemmas::extends_length))]
     pub(crate) fn tell(&self, viewer: &mut Viewer<L>)
         ensures told { self.now.told ≤ length viewer.new.learnt.edits }
         ensures kept { length viewer.old.learnt.edits ≤ length viewer.new.learnt.edits }

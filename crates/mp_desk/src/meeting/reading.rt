@@ -55,7 +55,7 @@ fn last_read<L: DeskName, R: Wait>(
 }
 
 /// Reads until the desk is open.
-#[tactic(auto, using(crate::proofs::lemmas::meeting::FateLemmas::longer))]
+#[tactic(auto, using(crate::proofs::PrefixLemmas::extends_length))]
 fn read_open<L: DeskName, R: Wait>(rt: &R, viewer: &mut Viewer<L>) -> Result<u32, AllocError>
     ensures last { IfOk result (λ n. n ≡ length viewer.new.last.edits) }
     ensures learnt { IfOk result (λ n. length viewer.old.learnt.edits ≤ n) }
