@@ -20,7 +20,7 @@ impl<'a> PartProgress<'a> {
 
     /// The lines of the run of a partition, with this many units from one to the next. It is at time 0.
     pub(crate) fn new(of: PartOf<'a>, stretch: u32) -> PartProgress<'a>
-        ensures { result ≡ record { of = of; stretch = stretch; passed = 0; counted = 0 } }
+        ensures { result ≡ record { of = of.entry; stretch = stretch; passed = 0; counted = 0 } }
     {
         PartProgress {
             of,
