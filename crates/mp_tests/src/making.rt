@@ -1,6 +1,8 @@
-//! What tests make netlists of, what they compare waves with, and a gate that counts.
+//! What tests make netlists of, sessions of them, and gates at which calls meet or are counted.
 
 pub mod branches;
-pub mod making;
+pub mod buffers;
+pub mod meeting;
 pub mod passage_counter;
-pub mod waves;
+pub mod sessions;
+pub mod texts;

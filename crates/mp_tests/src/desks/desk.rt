@@ -1,54 +1,22 @@
 //! Designers and viewers at one desk.
 mod closing;
 
-use crate::making::making::{PlannedEdit, PlannedNetlist};
+use crate::making::sessions::{opened, takes};
+use crate::making::texts::{edit, netlist};
 use mp_desk::{Designer, Desk, DeskName, ReadError, Viewer};
-use mp_netlist::Netlist;
 use mp_phase::{Crew, OpenGate};
 use mp_session::Session;
-use std::alloc::{AllocError, Global};
+use std::alloc::Global;
 use std::sync::Wait;
 use std::test::Fail;
 use std::thread::Threads;
 
-static TWO_WIRES: PlannedNetlist<'static> = PlannedNetlist {
-    horizon: 20,
-    wires: &["a", "b"],
-    parts: &[],
-    signals: &[],
-};
-
-/// A session of a netlist, which is let go.
-fn opened(
-    rt: &(impl Threads + Wait + Sync),
-    alloc: Global,
-    netlist: Netlist,
-    crew: Crew,
-) -> Result<Session<OpenGate>, AllocError> {
-    let session = Session::open(rt, alloc, &netlist, crew, OpenGate);
-    drop(netlist);
-    session
-}
-
-/// Whether the session takes the edit.
-fn takes(
-    rt: &(impl Threads + Wait + Sync),
-    alloc: Global,
-    session: &mut Session<OpenGate>,
-    change: &PlannedEdit<'_>,
-) -> bool {
-    match change.edit(alloc) {
-        Ok(edit) => session.take(rt, edit).err().is_none(),
-        Err(_) => false,
-    }
-}
-
 /// A session of two wires with an edit more.
 fn edited(rt: &(impl Threads + Wait + Sync), alloc: Global) -> Result<Session<OpenGate>, Fail> {
     let crew = Crew::new(2, 1)?;
-    let netlist = TWO_WIRES.netlist(alloc).ok_or("no netlist")?;
-    let mut session = opened(rt, alloc, netlist, crew)?;
-    if takes(rt, alloc, &mut session, &PlannedEdit::Wire("c")) {
+    let netlist = netlist(alloc, 20, "wire a 1 0\nwire b 1 0\n")?;
+    let mut session = opened(rt, alloc, netlist, crew, OpenGate)?;
+    if takes(rt, alloc, &mut session, "wire c 1 0") {
         Ok(session)
     } else {
         drop(session);
@@ -56,21 +24,21 @@ fn edited(rt: &(impl Threads + Wait + Sync), alloc: Global) -> Result<Session<Op
     }
 }
 
-/// Whether the edit is accepted.
+/// Whether the edit that a line states is accepted.
 fn submits<L: DeskName, R: Threads + Wait + Sync + Drop>(
     rt: &R,
     alloc: Global,
     desk: &Desk<Session<OpenGate>, L, R>,
     me: &mut Designer<L>,
-    change: &PlannedEdit<'_>,
+    line: &str,
 ) -> bool {
-    match change.edit(alloc) {
-        Ok(edit) => {
+    match edit(alloc, line) {
+        Some(edit) => {
             let accepted = desk.submit(rt, me, &edit).err().is_none();
             drop(edit);
             accepted
         }
-        Err(_) => false,
+        None => false,
     }
 }
 

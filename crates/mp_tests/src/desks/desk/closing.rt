@@ -2,7 +2,6 @@
 ghost use Rattle.std.specs.Prelude.{◌≡◌, ◌+◌, length};
 
 use super::{are_shut, edited, number_read, submits};
-use crate::making::making::PlannedEdit;
 use mp_desk::{
     CloseCause, CloseRefused, Designer, Desk, DeskName, DeskParts, DeskSize, Staffed, Viewer,
 };
@@ -59,7 +58,7 @@ fn takes_one_more<L: DeskName, R: Threads + Wait + Sync + Drop>(
         return false;
     };
     desk.opening() == 1
-        && submits(rt, alloc, desk, me, &PlannedEdit::Removal("b"))
+        && submits(rt, alloc, desk, me, "remove wire b")
         && number_read(viewer) == Some(2)
 }
 

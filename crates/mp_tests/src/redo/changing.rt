@@ -2,7 +2,7 @@
 ghost use Rattle.std.specs.Prelude.{IfOk};
 ghost use Rattle.mp_depend.specs.work.Revisions.{IsRevision};
 
-use crate::making::making::PlannedEdit;
+use crate::making::texts::edit;
 use mp_depend::work::laws::edits_revise;
 use mp_netlist::{Edit, Netlist};
 use std::alloc::Global;
@@ -18,15 +18,11 @@ fn after_edit(old: &Netlist, edit: &Edit) -> Result<Netlist, Fail>
     Ok(new)
 }
 
-/// The netlist with the change.
-pub(super) fn changed(
-    alloc: Global,
-    old: &Netlist,
-    change: &PlannedEdit<'_>,
-) -> Result<Netlist, Fail>
+/// The netlist with the change that a line states.
+pub(super) fn changed(alloc: Global, old: &Netlist, line: &str) -> Result<Netlist, Fail>
     ensures { IfOk result (λ new. IsRevision old.now new) }
 {
-    let edit = change.edit(alloc)?;
+    let edit = edit(alloc, line).ok_or("no edit")?;
     let new = after_edit(old, &edit);
     drop(edit);
     new

@@ -1,7 +1,7 @@
 use Rattle.std.proofs.Common.{◌≡◌, subst, rules}
 use Rattle.mp_netlist.specs.Circuit.{Circuit}
 use Rattle.mp_depend.specs.work.Revisions.{IsRevision}
-use Rattle.mp_tests.proofs.rerun.redo.row.after_edit.Goals as goal
+use Rattle.mp_tests.proofs.redo.changing.after_edit.Goals as goal
 
 pub returns : goal.returns
 returns c =

@@ -1,0 +1,118 @@
+//! A module passes the gate once for each entry of the work, and for nothing else.
+ghost use Rattle.mp_partition.specs.runs.Runs.{IsRun};
+ghost use Rattle.mp_depend.specs.work.Revisions.{IsRevision};
+
+use super::changing::changed;
+use crate::making::branches::{BRANCHES, HALF, MODULES, MOST, ONE, SOON};
+use crate::making::passage_counter::{PassageCounter, counts};
+use crate::making::texts::netlist;
+use mp_engine::{Crew, OpenGate, evaluate_here};
+use mp_netlist::Netlist;
+use mp_partition::Run;
+use mp_redo::{RerunContext, redo};
+use std::alloc::Global;
+use std::process::Abort;
+use std::sync::Wait;
+use std::test::Fail;
+use std::thread::Threads;
+
+/// The line that states a change of a netlist, and how many modules the change reaches.
+#[derive(Clone, Copy)]
+struct Reach<'a>(&'a str, u32);
+
+/// A netlist's statements, the number of its modules, and its horizon.
+#[derive(Clone, Copy)]
+struct Plan<'a>(&'a str, u32, u32);
+
+/// So many modules work, and pass the gate for just the work's entries.
+fn assert_passed<R: Abort + Threads + Wait + Sync>(
+    context: &RerunContext<'_, R, PassageCounter<'_>>,
+    old: &Netlist,
+    run: &Run,
+    new: &Netlist,
+    modules: u32,
+) -> Result<(), Fail>
+    requires revision { IsRevision old.now new.now }
+    requires run { IsRun old.now run.now }
+{
+    let (found, work) = redo(context, old, run, new)?;
+    let count = context.gate.last_passed(&work);
+    drop(work);
+    drop(found);
+    let rt = context.rt;
+    assert!(rt; count == Some(modules));
+    Ok(())
+}
+
+/// They do so for each change of the netlist.
+fn assert_each<R: Abort + Threads + Wait + Sync>(
+    context: &RerunContext<'_, R, PassageCounter<'_>>,
+    old: &Netlist,
+    reaches: &[Reach<'_>],
+) -> Result<(), Fail> {
+    let run = evaluate_here(context.rt, context.alloc, old, &OpenGate)?;
+    for Reach(change, modules) in reaches {
+        let new = changed(context.alloc, old, change)?;
+        assert_passed(context, old, &run, &new, *modules)?;
+    }
+    Ok(())
+}
+
+/// They do so in this netlist, by this crew.
+fn assert_exact(
+    rt: &(impl Abort + Threads + Wait + Sync),
+    alloc: Global,
+    plan: Plan<'_>,
+    crew: &Crew,
+    reaches: &[Reach<'_>],
+) -> Result<(), Fail> {
+    let Plan(statements, modules, horizon) = plan;
+    let counts = counts(alloc, modules, horizon)?;
+    let counter = PassageCounter::new(horizon, counts.as_slice());
+    let old = netlist(alloc, horizon, statements)?;
+    let context = RerunContext {
+        rt,
+        alloc,
+        crew,
+        gate: &counter,
+    };
+    assert_each(&context, &old, reaches)
+}
+
+/// The changes reach one module of the five, two of them, and four.
+#[test]
+fn one_thread_passes_each_entry(rt: HostRuntime) -> Result<(), Fail> {
+    let reaches = [Reach(ONE, 1), Reach(HALF, 2), Reach(MOST, 4)];
+    let plan = Plan(BRANCHES, MODULES, 8);
+    assert_exact(&rt, rt.alloc(), plan, &Crew::new(1, 64)?, &reaches)
+}
+
+/// Two modules begin to work in the same unit, and the workers of the crew answer for them: the netlist ends too soon for parts to be worth it.
+#[test]
+fn workers_pass_each_entry(rt: HostRuntime) -> Result<(), Fail> {
+    let reaches = [Reach(ONE, 1), Reach(SOON, 2), Reach(MOST, 4)];
+    let plan = Plan(BRANCHES, MODULES, 4);
+    assert_exact(&rt, rt.alloc(), plan, &Crew::new(2, 2)?, &reaches)
+}
+
+/// If two modules are reached at once, each of two parts is evaluated again on a thread of its own.
+#[test]
+fn parts_pass_each_entry(rt: HostRuntime) -> Result<(), Fail> {
+    let reaches = [Reach(ONE, 1), Reach(HALF, 2), Reach(MOST, 4)];
+    let plan = Plan(BRANCHES, MODULES, 8);
+    assert_exact(&rt, rt.alloc(), plan, &Crew::new(2, 2)?, &reaches)
+}
+
+/// A buffer that hears nothing.
+const BUFFER: &str = "wire a 1 0
+wire y 1 0
+module b BUF : a > y/3
+";
+
+/// What the buffer hears ends as before within its first block, and is something else again in the next one, whose begin is at 1024.
+#[test]
+fn module_that_joins_twice_passes_each_entry(rt: HostRuntime) -> Result<(), Fail> {
+    let reaches = [Reach("stim a 100=1 200=0 1050=1", 1)];
+    let plan = Plan(BUFFER, 1, 1100);
+    assert_exact(&rt, rt.alloc(), plan, &Crew::new(1, 64)?, &reaches)
+}
