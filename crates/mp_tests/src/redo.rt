@@ -6,3 +6,5 @@ mod changing;
 mod meeting;
 #[cfg(test)]
 mod passing;
+#[cfg(test)]
+mod resuming;
