@@ -5,10 +5,11 @@ use crate::prepared::Prepared;
 use mp_depend::Work;
 use mp_depend::work::laws::edits_revise;
 use mp_engine::evaluate;
+use mp_near::redo_edit;
 use mp_netlist::{Edit, EditError, Netlist};
 use mp_partition::Run;
 use mp_phase::{Crew, Gate};
-use mp_redo::{RerunContext, redo};
+use mp_redo::RerunContext;
 use mp_version::{MAX_EDITS, Version};
 use std::alloc::{AllocError, Global};
 use std::marker::Model;
@@ -237,7 +238,7 @@ impl<G: Gate> Session<G> {
             crew: &self.crew,
             gate: &self.gate,
         };
-        let (run, work) = redo(&context, now, &self.run, &next)?;
+        let (run, work) = redo_edit(&context, now, &self.run, &edit, &next)?;
         self.evaluated(edit, next, run, work)
     }
 

@@ -1,0 +1,4 @@
+pub mod laws
+pub mod reach
+pub mod region
+pub mod runs

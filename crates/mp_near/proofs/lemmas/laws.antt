@@ -1,0 +1,13 @@
+pub mod BelowLemmas
+pub mod PlacedLemmas
+pub mod PickedCircuitLemmas
+pub mod DrivenLemmas
+pub mod PickedLevelLemmas
+pub mod AlikeLemmas
+pub mod RegionLevelLemmas
+pub mod RevisionLemmas
+pub mod RunLemmas
+pub mod UnplacedLemmas
+pub mod EntryLemmas
+pub mod RegionWorkLemmas
+pub mod WorkSpanLemmas

@@ -1,0 +1,4 @@
+pub mod MarkLemmas
+pub mod NumberLemmas
+pub mod ReachLemmas
+pub mod StandLemmas

@@ -1,0 +1,161 @@
+-- What is marked as reached.
+use Rattle.std.proofs.Common.{◌≡◌, ℕ, ◌+◌, ◌<◌, ◌≤◌, Bool, true, false, List, Some, None, length, slice_set, refl, ap, sym, subst, ◌∙◌, arith, inl, inr}
+use Rattle.std.proofs.lemmas.Bool.{cases_lt, cases_eq}
+use Rattle.std.proofs.lemmas.List.{get_or_past, get_or-set_same, get_or-set_other, length-set}
+use Rattle.mp_netlist.specs.Circuit.{Circuit, IsCircuit, Drives, module_at}
+use Rattle.mp_partition.specs.runs.Marks.{is_marked}
+use Rattle.mp_depend.specs.work.Revisions.{IsRevision}
+use Rattle.mp_near.specs.reach.Marks.{AreGrown}
+use Rattle.mp_partition.specs.regions.Readers.{Reads}
+use Rattle.mp_near.specs.region.Picks.{AreWiresOf}
+use Rattle.mp_near.specs.reach.Reach.{IsSetSame, IsReach, IsWholeReach, ReadsNone}
+use Rattle.mp_near.proofs.lemmas.reach.MarkLemmas.{grown_none, grown_more}
+use Rattle.mp_near.proofs.lemmas.reach.StandLemmas.{driven_low, marked_within}
+
+-- the wires that the marked modules below a count have are marked
+abbrev pub MarkedBelow : (ℕ → ℕ → Type 0) → List Bool → ℕ → List Bool → Type 0
+MarkedBelow Has modules count wires = (m w : ℕ) → m < count → is_marked modules m ≡ true → Has m w → is_marked wires w ≡ true
+
+-- a port of the module drives the wire
+abbrev pub Driven : Circuit → ℕ → ℕ → Type 0
+Driven n m w = (p : ℕ) × Drives n m p w
+
+pub below_none : (Has : ℕ → ℕ → Type 0) (modules wires : List Bool) → MarkedBelow Has modules 0 wires
+below_none Has modules wires m w low is has = absurd (omega arith)
+
+-- the wires of the next module are marked too
+pub below_next : (Has : ℕ → ℕ → Type 0) (modules : List Bool) (i : ℕ) (wires next : List Bool) → AreGrown wires next → ((w : ℕ) → Has i w → is_marked next w ≡ true) →
+    MarkedBelow Has modules i wires → MarkedBelow Has modules (i + 1) next
+below_next Has modules i wires next grown one are m w low is has = elim (cases_eq m i) as (λ _. is_marked next w ≡ true) [
+  | inl here ↦ one w (subst (λ k. Has k w) here has)
+  | inr other ↦ grown.kept w (are m w (omega arith) is has)
+]
+
+-- the next module isn't marked
+pub below_same : (Has : ℕ → ℕ → Type 0) (modules : List Bool) (i : ℕ) (wires : List Bool) → is_marked modules i ≡ false → MarkedBelow Has modules i wires → MarkedBelow Has modules (i + 1) wires
+below_same Has modules i wires not are m w low is has = elim (cases_eq m i) as (λ _. is_marked wires w ≡ true) [
+  | inl here ↦ let no : is_marked modules m ≡ false = ap (λ k. is_marked modules k) here ∙ not in absurd (let no : ⊥ = cc in no)
+  | inr other ↦ are m w (omega arith) is has
+]
+
+-- of all modules
+pub below_all : (Has : ℕ → ℕ → Type 0) (modules : List Bool) (count : ℕ) (wires : List Bool) → length modules ≤ count → MarkedBelow Has modules count wires →
+    (m w : ℕ) → is_marked modules m ≡ true → Has m w → is_marked wires w ≡ true
+below_all Has modules count wires all are m w is has = are m w (let low = marked_within modules m is in omega (arith, low, all)) is has
+
+still_unmarked : (marks new : List Bool) → AreGrown marks new → (k : ℕ) → is_marked new k ≡ false → is_marked marks k ≡ false
+still_unmarked marks new grown k not = by (is_marked marks k) refl
+  where
+    by : (b : Bool) → is_marked marks k ≡ b → is_marked marks k ≡ false
+    by true is = let yes = grown.kept k is in cc
+    by false is = is
+
+-- the wires that a module drives stand in the new netlist, so they are marked if those below its count of wires are
+pub driven_marked : (n new : Circuit) → IsCircuit n → length n.wires ≤ length new.wires → (m : ℕ) (wires marks : List Bool) → length wires ≡ length new.wires →
+    ((p w : ℕ) → Drives n m p w → w < length wires → is_marked marks w ≡ true) → (p w : ℕ) → Drives n m p w → is_marked marks w ≡ true
+driven_marked n new ok more m wires marks size are p w drives = are p w drives (let low = driven_low n new ok (omega arith) m p w drives in omega (arith, low, size))
+
+-- wires that are marked at first, and those of the marked modules below a count
+pub record AreFirst (old new : Circuit) (modules first : List Bool) (count : ℕ) (wires : List Bool) : Type 0 where
+  pub grown : AreGrown first wires
+  pub before : MarkedBelow (Driven old) modules count wires
+  pub after : MarkedBelow (Driven new) modules count wires
+
+pub first_none : (old new : Circuit) (modules first : List Bool) → AreFirst old new modules first 0 first
+first_none old new modules first = record { grown = grown_none first; before = below_none (Driven old) modules first; after = below_none (Driven new) modules first }
+
+-- the wires of the next module are marked
+pub first_more : (old new : Circuit) (modules first wires half next : List Bool) (i : ℕ) → AreGrown wires half → AreGrown half next →
+    ((p w : ℕ) → Drives old i p w → is_marked half w ≡ true) → ((p w : ℕ) → Drives new i p w → is_marked next w ≡ true) → AreFirst old new modules first i wires → AreFirst old new modules first (i + 1) next
+first_more old new modules first wires half next i one two before after are =
+    let both = grown_more wires half next one two in
+    record {
+      grown = grown_more first wires next are.grown both;
+      before = below_next (Driven old) modules i wires next both (λ w drives. two.kept w (before drives.0 w drives.1)) are.before;
+      after = below_next (Driven new) modules i wires next both (λ w drives. after drives.0 w drives.1) are.after;
+    }
+
+-- the next module isn't marked
+pub first_same : (old new : Circuit) (modules first wires : List Bool) (i : ℕ) → is_marked modules i ≡ false → AreFirst old new modules first i wires → AreFirst old new modules first (i + 1) wires
+first_same old new modules first wires i not are = record {
+  grown = are.grown;
+  before = below_same (Driven old) modules i wires not are.before;
+  after = below_same (Driven new) modules i wires not are.after;
+}
+
+-- what differs, with the wires of modules that do
+pub first_reach : (old new : Circuit) → IsRevision old new → (modules first wires : List Bool) (count : ℕ) → length modules ≡ length new.modules → length first ≡ length new.wires →
+    ((m : ℕ) → m < length new.modules → is_marked modules m ≡ false → module_at old m ≡ module_at new m) → ((w : ℕ) → w < length new.wires → is_marked first w ≡ false → IsSetSame old new w) →
+    length new.modules ≤ count → AreFirst old new modules first count wires → IsReach old new modules wires
+first_reach old new revision modules first wires count size places same alike all are = record {
+  module_count = size;
+  wire_count = are.grown.places ∙ places;
+  same = λ m not. elim (cases_lt m (length new.modules)) as (λ _. module_at old m ≡ module_at new m) [
+    | inl low ↦ same m low not
+    | inr past ↦ let more = revision.modules in let none : module_at old m ≡ None = get_or_past old.modules m None (omega arith) in none ∙ sym (get_or_past new.modules m None past)
+  ];
+  alike = λ w not. elim (cases_lt w (length new.wires)) as (λ _. IsSetSame old new w) [
+    | inl low ↦ alike w low (still_unmarked first wires are.grown w not)
+    | inr past ↦ let more = revision.wires in inr (get_or_past old.wires w None (omega arith), get_or_past new.wires w None past)
+  ];
+  before = λ m p w is drives. below_all (Driven old) modules count wires (omega (arith, size, all)) are.before m w is (p, drives);
+  after = λ m p w is drives. below_all (Driven new) modules count wires (omega (arith, size, all)) are.after m w is (p, drives);
+}
+
+-- a module more is marked, and the wires that it drives
+pub reach_more : (old new : Circuit) (modules wires half next : List Bool) (i : ℕ) → i < length modules → AreGrown wires half → AreGrown half next →
+    ((p w : ℕ) → Drives old i p w → is_marked half w ≡ true) → ((p w : ℕ) → Drives new i p w → is_marked next w ≡ true) → IsReach old new modules wires → IsReach old new (slice_set modules i true) next
+reach_more old new modules wires half next i low one two before after reach = record {
+  module_count = length-set modules i true ∙ reach.module_count;
+  wire_count = two.places ∙ one.places ∙ reach.wire_count;
+  same = λ m not. elim (cases_eq m i) as (λ _. module_at old m ≡ module_at new m) [
+    | inl here ↦ let yes = here_marked m here in absurd (let no : ⊥ = cc in no)
+    | inr other ↦ reach.same m (sym (get_or-set_other modules i m true false other) ∙ not)
+  ];
+  alike = λ w not. reach.alike w (still_unmarked wires half one w (still_unmarked half next two w not));
+  before = λ m p w is drives. elim (cases_eq m i) as (λ _. is_marked next w ≡ true) [
+    | inl here ↦ two.kept w (before p w (subst (λ k. Drives old k p w) here drives))
+    | inr other ↦ two.kept w (one.kept w (reach.before m p w (sym (get_or-set_other modules i m true false other) ∙ is) drives))
+  ];
+  after = λ m p w is drives. elim (cases_eq m i) as (λ _. is_marked next w ≡ true) [
+    | inl here ↦ after p w (subst (λ k. Drives new k p w) here drives)
+    | inr other ↦ two.kept w (one.kept w (reach.after m p w (sym (get_or-set_other modules i m true false other) ∙ is) drives))
+  ];
+}
+  where
+    here_marked : (m : ℕ) → m ≡ i → is_marked (slice_set modules i true) m ≡ true
+    here_marked m here = ap (λ k. is_marked (slice_set modules i true) k) here ∙ get_or-set_same modules i true false low
+
+-- of the modules below a count none that isn't marked reads a marked wire
+abbrev pub IsClosedBelow : Circuit → List Bool → List Bool → ℕ → Type 0
+IsClosedBelow new modules wires count = (m : ℕ) → m < count → is_marked modules m ≡ false → ReadsNone new wires m
+
+-- the next module is marked, or reads no marked wire
+pub closed_next : (new : Circuit) (modules wires : List Bool) (i : ℕ) → (is_marked modules i ≡ false → ReadsNone new wires i) → IsClosedBelow new modules wires i → IsClosedBelow new modules wires (i + 1)
+closed_next new modules wires i none are m low not = elim (cases_eq m i) as (λ _. ReadsNone new wires m) [
+  | inl here ↦ subst (ReadsNone new wires) (sym here) (none (ap (λ k. is_marked modules k) (sym here) ∙ not))
+  | inr other ↦ are m (omega arith) not
+]
+
+-- of all modules
+pub whole_is : (old new : Circuit) (modules wires : List Bool) (count : ℕ) → length new.modules ≤ count → IsReach old new modules wires → IsClosedBelow new modules wires count → IsWholeReach old new modules wires
+whole_is old new modules wires count all reach closed = record {
+  reach = reach;
+  closed = λ m not w reads. elim (cases_lt m count) as (λ _. is_marked wires w ≡ false) [
+    | inl low ↦ closed m low not w reads
+    | inr past ↦
+        let none : module_at new m ≡ None = get_or_past new.modules m None (omega arith) in
+        let there : module_at new m ≡ Some reads.part = reads.stands in
+        absurd (let no : ⊥ = cc in no)
+  ];
+}
+
+-- the wires of marked modules are marked beside those that were
+pub wires_are : (old new : Circuit) (modules wires all : List Bool) (count : ℕ) → length modules ≤ count → AreGrown wires all → MarkedBelow (Reads old) modules count all → MarkedBelow (Reads new) modules count all →
+    AreWiresOf old new modules wires all
+wires_are old new modules wires all count whole grown before after = record {
+  places = grown.places;
+  reached = grown.kept;
+  before = λ m w is reads. below_all (Reads old) modules count all whole before m w is reads;
+  after = λ m w is reads. below_all (Reads new) modules count all whole after m w is reads;
+}

@@ -1,0 +1,4 @@
+pub mod GivenLemmas
+pub mod LikeLemmas
+pub mod PickLemmas
+pub mod StepLemmas

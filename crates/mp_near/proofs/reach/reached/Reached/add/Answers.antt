@@ -1,0 +1,17 @@
+use Rattle.std.proofs.Common.{◌∙◌, arith}
+use Rattle.mp_near.proofs.lemmas.reach.ReachLemmas.{driven_marked, reach_more}
+use Rattle.mp_near.proofs.reach.reached.Reached.add.Goals as goal
+
+pub returns : goal.returns
+returns c =
+    let old = c.args.old.now in
+    let new = c.args.new.now in
+    let wires = c.args.self.now.wires.items in
+    let half = c.mark_outputs.new.marks.items in
+    let next = c.mark_outputs-2.new.marks.items in
+    let one = c.mark_outputs.ensures in
+    let two = c.mark_outputs-2.ensures in
+    let size = c.requires.reach.wire_count in
+    let before = driven_marked old new c.horizon-old_horizon.ensures.form c.requires.revision.wires c.args.id.0 wires half size one.driven in
+    let after = driven_marked new new c.horizon-new_horizon.ensures.form (omega arith) c.args.id.0 half next (one.grown.places ∙ size) two.driven in
+    reach_more old new c.args.self.now.modules.items wires half next c.args.id.0 c.requires.low one.grown two.grown before after c.requires.reach

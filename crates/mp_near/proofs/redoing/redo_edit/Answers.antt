@@ -1,0 +1,23 @@
+use Rattle.std.proofs.Common.{subst}
+use Rattle.std.specs.Prelude.{IfSome}
+use Rattle.mp_near.specs.region.Regions.{IsSmall}
+use Rattle.mp_near.proofs.redoing.redo_edit.Goals as goal
+
+pub find_small-requires : goal.find_small-requires
+find_small-requires g c = record {
+  old = c.horizon-old_horizon.ensures.form;
+  new = c.horizon-new_horizon.ensures.form;
+  revision = c.requires.revision;
+  run = c.requires.run;
+}
+
+pub redo_region-requires-clause-change : goal.redo_region-requires-clause-change
+redo_region-requires-clause-change g c = λ asked lives. record {
+  old = c.horizon-old_horizon.ensures.form;
+  new = c.horizon-new_horizon.ensures.form;
+  revision = c.requires.revision;
+  run = c.requires.run;
+}
+
+pub redo_region-requires-clause-region : goal.redo_region-requires-clause-region
+redo_region-requires-clause-region g c = λ asked lives. subst (λ o. IfSome o (IsSmall c.args.old.now c.args.new.now)) c.in-Some.is c.in_ok-region.ensures

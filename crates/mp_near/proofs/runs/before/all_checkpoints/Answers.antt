@@ -1,0 +1,20 @@
+use Rattle.std.proofs.Common.{◌+◌, length, map, option_map, ap, ◌∙◌, arith}
+use Rattle.std.specs.Arc.{arc_value}
+use Rattle.std.proofs.lemmas.List.{length_push, length-map}
+use Rattle.mp_depend.proofs.lemmas.recording.EndLemmas.{kept_more, kept_are}
+use Rattle.mp_near.proofs.runs.before.all_checkpoints.Goals as goal
+
+pub loop-k-preserved : goal.loop-k-preserved
+loop-k-preserved c =
+    let kept = c.loop-k.kept.items in
+    let one = c.in_ok-checkpoints_of.field-0 in
+    let items = c.in_ok-push.ensures.items in
+    record {
+      places = ap length items ∙ length_push kept one ∙ ap (λ k. k + 1) c.loop-k.invariant.places;
+      each = λ k low. rw items (kept_more c.args.small.now.was c.loop-k.k (option_map arc_value) kept one c.loop-k.invariant.places c.loop-k.invariant.each c.in_ok-checkpoints_of.ensures k low);
+    }
+
+pub returns : goal.returns
+returns c =
+    let end = c.module_slots-k-end.ensures.value in
+    kept_are c.args.small.now.was c.loop-k.k (map (option_map arc_value) c.loop-k.kept.items) (omega (arith, end)) (length-map c.loop-k.kept.items (option_map arc_value) ∙ c.loop-k.invariant.places) c.loop-k.invariant.each

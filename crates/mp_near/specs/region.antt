@@ -1,0 +1,4 @@
+pub mod Given
+pub mod Likeness
+pub mod Picks
+pub mod Regions
