@@ -13,7 +13,7 @@ use mp_modules::{AnyModule, Computed, CoreModule};
 pub(crate) const AUTOMATA: u16 = 9;
 
 /// The way in which a module of width 1 answers events. Kinds that answer alike share one automaton.
-#[derive(Clone, Copy, Debug, PartialEq, Eq)]
+#[derive(Clone, Copy)]
 pub enum Automaton {
     /// Each event of the input is an event of the output: BUF and NOT, and ADDC, XORC and BIT at width 1.
     Follow,

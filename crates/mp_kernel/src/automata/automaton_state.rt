@@ -8,7 +8,7 @@ use mp_modules::Memory;
 
 /// The state of a module of width 1 within a unit: its automaton, its phase before the unit, and which inputs have had an event in it so far. It is
 /// the index of their transition in a `TransitionTable`.
-#[derive(Clone, Copy, Debug, PartialEq, Eq)]
+#[derive(Clone, Copy)]
 pub struct AutomatonState(pub u16);
 
 impl AutomatonState {

@@ -5,7 +5,7 @@ ghost use Rattle.std.specs.Prelude.{◌≡◌, ◌<◌, ◌^◌};
 pub(crate) const EVENT_SETS: u16 = 16;
 
 /// Which input ports have an event in a unit.
-#[derive(Clone, Copy, Debug, PartialEq, Eq)]
+#[derive(Clone, Copy)]
 pub struct Events {
     pub first: bool,
     pub second: bool,

@@ -12,7 +12,7 @@ pub(crate) const PHASES: u16 = 12;
 /// What a module of width 1 keeps from unit to unit, as far as its answers depend on it. CALL and ARBITER serve clients, who may wait. In a C an
 /// input "waits" if it differs, behind its bubble, from the output. In a TOGGLE the first "waits" if the next event goes to the second output, and in
 /// a SELECT if the second input is 1. In a REG the first "waits" if the data are held, and the second if the data differ from what is held.
-#[derive(Clone, Copy, Debug, PartialEq, Eq)]
+#[derive(Clone, Copy)]
 pub struct Phase {
     pub served: Client,
     pub waiting: Waiting,

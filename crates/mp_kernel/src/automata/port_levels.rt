@@ -3,7 +3,7 @@
 use mp_modules::{MOST_INPUTS, MOST_OUTPUTS, Memory};
 
 /// The levels at the ports of a module of width 1, a bit each: bit p has the level of input p, and bit 4 + p that of output p before its delay.
-#[derive(Clone, Copy, Debug, PartialEq, Eq)]
+#[derive(Clone, Copy)]
 pub struct PortLevels(pub u8);
 
 impl PortLevels {

@@ -5,7 +5,7 @@ use crate::automata::toggles::Toggles;
 use mp_modules::Client;
 
 /// The phase after a unit, and the outputs that toggle in it.
-#[derive(Clone, Copy, Debug, PartialEq, Eq)]
+#[derive(Clone, Copy)]
 pub struct Reaction {
     pub phase: Phase,
     pub toggles: Toggles,

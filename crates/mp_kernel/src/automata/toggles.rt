@@ -1,7 +1,7 @@
 //! The outputs of a module that toggle in a unit.
 
 /// Which output ports toggle in a unit.
-#[derive(Clone, Copy, Debug, PartialEq, Eq)]
+#[derive(Clone, Copy)]
 pub struct Toggles {
     pub first: bool,
     pub second: bool,

@@ -7,7 +7,7 @@ use crate::automata::phase::Phase;
 
 /// The transition from a state: the state before the next unit, and the ports whose levels change in this unit, with the bits of `PortLevels`. The
 /// bit of an output that toggles is 16 for the first, 32 for the second and 64 for the third.
-#[derive(Clone, Copy, Debug)]
+#[derive(Clone, Copy)]
 pub struct Transition {
     pub next: AutomatonState,
     pub flips: u8,

@@ -9,7 +9,7 @@ use mp_modules::{Computed, MOST_INPUTS, Memory};
 
 /// A module with data: its part, the levels of its outputs, the numbers that its inputs read, and what it drives. The rest of its state is the levels
 /// of those numbers.
-#[derive(Clone, Copy, Debug)]
+#[derive(Clone, Copy)]
 pub struct DataModule {
     pub part: DataPart,
     pub outputs: OutputLevels,

@@ -5,7 +5,7 @@ ghost use Rattle.mp_kernel.specs.datapath.DataParts.{computed_part};
 use mp_modules::{AnyModule, Computed};
 
 /// What a module with data does. It is smaller than an `AnyModule`, which may also have no data.
-#[derive(Clone, Copy, Debug)]
+#[derive(Clone, Copy)]
 pub enum DataPart {
     Buf,
     Reg { initial: u64 },

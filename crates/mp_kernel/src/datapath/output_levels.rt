@@ -3,7 +3,7 @@
 use mp_modules::Memory;
 
 /// The levels of a module's outputs before their delays. Those of missing outputs are 0.
-#[derive(Clone, Copy, Debug)]
+#[derive(Clone, Copy)]
 pub struct OutputLevels {
     pub first: u64,
     pub second: u64,

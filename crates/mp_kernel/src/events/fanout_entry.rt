@@ -1,7 +1,7 @@
 //! An input that reads a wire.
 
 /// An input of a module of width 1: the module's place among the states, and the bit of the port's event (`crate::automata::event_bit`).
-#[derive(Clone, Copy, Debug, Default)]
+#[derive(Clone, Copy, Default)]
 pub struct FanoutEntry {
     pub module: u32,
     pub event: u16,

@@ -11,7 +11,7 @@ use std::marker::Model;
 const MOST: usize = 65_536;
 
 /// A toggle of a wire at a time.
-#[derive(Clone, Copy, Debug)]
+#[derive(Clone, Copy)]
 pub(crate) struct LateToggle {
     pub wire: u32,
     pub time: u32,
