@@ -19,21 +19,10 @@ pub fn homes_of(alloc: Global, netlist: &Netlist, count: u32) -> Result<Vec<u32>
         share,
     };
     let whole = drivers.groups(alloc, netlist, &[], u32::MAX)?;
-    let sizes = sizes_of(alloc, whole.as_slice())?;
-    let numbers = by_number(alloc, netlist.module_slots())?;
-    if largest(sizes.as_slice()) <= share.share {
-        return share.homes_in(alloc, whole.as_slice(), numbers.as_slice());
+    match share.pieces(alloc, netlist, &drivers, whole.as_slice())? {
+        Some(pieces) => share.homes_along(alloc, netlist, &drivers, pieces.as_slice()),
+        None => share.homes_by_number(alloc, netlist, whole.as_slice()),
     }
-    let together = groups_that_fit(alloc, whole.as_slice(), sizes.as_slice(), share.share)?;
-    for cut in CUTS {
-        let pieces = drivers.groups(alloc, netlist, together.as_slice(), cut)?;
-        let sizes = sizes_of(alloc, pieces.as_slice())?;
-        if largest(sizes.as_slice()) <= share.share.div_ceil(4) {
-            let order = drivers.walk(alloc, netlist, numbers.as_slice())?;
-            return share.homes_in(alloc, pieces.as_slice(), order.as_slice());
-        }
-    }
-    share.homes_in(alloc, whole.as_slice(), numbers.as_slice())
 }
 
 /// For each wire the module that drives it, and the delay of its port.
@@ -87,15 +76,9 @@ impl Drivers {
     }
 
     /// All modules, in the order in which a walk along the wires meets them. It begins at a module that is far from others.
-    fn walk(
-        &self,
-        alloc: Global,
-        netlist: &Netlist,
-        numbers: &[u32],
-    ) -> Result<Vec<u32>, AllocError> {
+    fn walk(&self, alloc: Global, netlist: &Netlist) -> Result<Vec<u32>, AllocError> {
         let neighbors = Neighbors::of(alloc, netlist, self.modules.as_slice())?;
-        let mut far = neighbors.walk(alloc, numbers)?;
-        far.reverse();
+        let far = far_modules(alloc, netlist, &neighbors)?;
         neighbors.walk(alloc, far.as_slice())
     }
 
@@ -187,6 +170,18 @@ fn groups_that_fit(
     Ok(together)
 }
 
+/// All modules, those first that a walk from the first module on meets last.
+fn far_modules(
+    alloc: Global,
+    netlist: &Netlist,
+    neighbors: &Neighbors,
+) -> Result<Vec<u32>, AllocError> {
+    let numbers = by_number(alloc, netlist.module_slots())?;
+    let mut far = neighbors.walk(alloc, numbers.as_slice())?;
+    far.reverse();
+    Ok(far)
+}
+
 /// The modules by number.
 fn by_number(alloc: Global, count: u32) -> Result<Vec<u32>, AllocError> {
     let mut numbers = Vec::new(alloc);
@@ -204,9 +199,69 @@ struct Share {
 }
 
 impl Share {
-    /// The partitions of modules, group by group in the order of their first modules. A new partition begins if more than half of a group doesn't
-    /// fit.
+    /// For each module the first of its piece, if a group is larger than a part and wires can be cut so that the pieces of the groups are small.
+    fn pieces(
+        self,
+        alloc: Global,
+        netlist: &Netlist,
+        drivers: &Drivers,
+        whole: &[u32],
+    ) -> Result<Option<Vec<u32>>, AllocError> {
+        let sizes = sizes_of(alloc, whole)?;
+        if largest(sizes.as_slice()) <= self.share {
+            return Ok(None);
+        }
+        let together = groups_that_fit(alloc, whole, sizes.as_slice(), self.share)?;
+        for cut in CUTS {
+            let pieces = drivers.groups(alloc, netlist, together.as_slice(), cut)?;
+            if self.are_small(alloc, pieces.as_slice())? {
+                return Ok(Some(pieces));
+            }
+        }
+        Ok(None)
+    }
+
+    /// Whether no group has more than a quarter of a part.
+    fn are_small(self, alloc: Global, heads: &[u32]) -> Result<bool, AllocError> {
+        let sizes = sizes_of(alloc, heads)?;
+        Ok(largest(sizes.as_slice()) <= self.share.div_ceil(4))
+    }
+
+    /// The partitions of modules, group by group as a walk along the wires meets them.
+    fn homes_along(
+        self,
+        alloc: Global,
+        netlist: &Netlist,
+        drivers: &Drivers,
+        heads: &[u32],
+    ) -> Result<Vec<u32>, AllocError> {
+        let order = drivers.walk(alloc, netlist)?;
+        self.homes_in(alloc, heads, order.as_slice())
+    }
+
+    /// The partitions of modules, group by group in the order of their numbers.
+    fn homes_by_number(
+        self,
+        alloc: Global,
+        netlist: &Netlist,
+        heads: &[u32],
+    ) -> Result<Vec<u32>, AllocError> {
+        let numbers = by_number(alloc, netlist.module_slots())?;
+        self.homes_in(alloc, heads, numbers.as_slice())
+    }
+
+    /// The partitions of modules, group by group in the order of their first modules.
     fn homes_in(self, alloc: Global, heads: &[u32], order: &[u32]) -> Result<Vec<u32>, AllocError> {
+        let parts = self.parts_of(alloc, heads, order)?;
+        let mut homes = Vec::new(alloc);
+        for head in heads {
+            homes.push(partition_of(parts.as_slice(), *head))?;
+        }
+        Ok(homes)
+    }
+
+    /// The partition of each group, by the first of its modules. A new partition begins if more than half of a group doesn't fit.
+    fn parts_of(self, alloc: Global, heads: &[u32], order: &[u32]) -> Result<Vec<u32>, AllocError> {
         let sizes = sizes_of(alloc, heads)?;
         let mut parts = vec![in alloc; NOWHERE; heads.len()]?;
         let mut part = 0u32;
@@ -223,11 +278,7 @@ impl Share {
                 load = load.saturating_add(size);
             }
         }
-        let mut homes = Vec::new(alloc);
-        for head in heads {
-            homes.push(partition_of(parts.as_slice(), *head))?;
-        }
-        Ok(homes)
+        Ok(parts)
     }
 
     /// Whether more than half of a group goes beyond the share of a part with this load.

@@ -15,22 +15,8 @@ impl Neighbors {
     /// The neighbors in a netlist, of whose wires these modules are the drivers.
     pub fn of(alloc: Global, netlist: &Netlist, drivers: &[u32]) -> Result<Neighbors, AllocError> {
         let pairs = pairs_of(alloc, netlist, drivers)?;
-        let mut starts = vec![in alloc; 0u32; netlist.module_slots() as usize + 1]?;
-        for pair in pairs.as_slice() {
-            add(&mut starts, pair.0.saturating_add(1));
-            add(&mut starts, pair.1.saturating_add(1));
-        }
-        let mut sum = 0u32;
-        for m in 0..starts.len() {
-            sum = sum.saturating_add(starts[m]);
-            starts[m] = sum;
-        }
-        let mut places = Vec::from_slice(alloc, starts.as_slice())?;
-        let mut list = vec![in alloc; 0u32; sum as usize]?;
-        for pair in pairs.as_slice() {
-            enter(&mut places, &mut list, pair.0, pair.1);
-            enter(&mut places, &mut list, pair.1, pair.0);
-        }
+        let starts = starts_of(alloc, netlist.module_slots(), pairs.as_slice())?;
+        let list = list_of(alloc, starts.as_slice(), pairs.as_slice())?;
         Ok(Neighbors { starts, list })
     }
 
@@ -39,19 +25,7 @@ impl Neighbors {
     /// few of them open.
     pub fn walk(&self, alloc: Global, starts: &[u32]) -> Result<Vec<u32>, AllocError> {
         let mut walk = Walk::begin(alloc, self)?;
-        for start in starts {
-            walk.wait(*start)?;
-            for _ in 0..self.list.len().saturating_add(1) {
-                let Some(m) = walk.next() else {
-                    break;
-                };
-                if walk.take(m)? {
-                    for neighbor in self.of_module(m) {
-                        walk.close(*neighbor)?;
-                    }
-                }
-            }
-        }
+        walk.go_on(self, starts)?;
         Ok(walk.order)
     }
 
@@ -78,21 +52,33 @@ struct Walk {
 
 impl Walk {
     fn begin(alloc: Global, neighbors: &Neighbors) -> Result<Walk, AllocError> {
-        let mut walk = Walk {
-            open: Vec::new(alloc),
-            taken: Vec::new(alloc),
-            waiting: Vec::new(alloc),
+        let open = open_counts(alloc, neighbors.starts.as_slice())?;
+        let taken = vec![in alloc; false; open.len()]?;
+        let waiting = no_lists(alloc)?;
+        Ok(Walk {
+            open,
+            taken,
+            waiting,
             order: Vec::new(alloc),
-        };
-        for m in 1..neighbors.starts.len() {
-            let first = neighbors.starts[m - 1];
-            walk.open.push(neighbors.starts[m].saturating_sub(first))?;
-            walk.taken.push(false)?;
+        })
+    }
+
+    /// Takes modules from these starts on until there are no more.
+    fn go_on(&mut self, neighbors: &Neighbors, starts: &[u32]) -> Result<(), AllocError> {
+        for start in starts {
+            self.wait(*start)?;
+            for _ in 0..neighbors.list.len().saturating_add(1) {
+                let Some(m) = self.next() else {
+                    break;
+                };
+                if self.take(m)? {
+                    for neighbor in neighbors.of_module(m) {
+                        self.close(*neighbor)?;
+                    }
+                }
+            }
         }
-        for _ in 0..MOST_OPEN {
-            walk.waiting.push(Vec::new(alloc))?;
-        }
-        Ok(walk)
+        Ok(())
     }
 
     /// A module waits.
@@ -136,6 +122,54 @@ impl Walk {
             _ => Ok(()),
         }
     }
+}
+
+/// How many neighbors each module has, by where their parts of the list begin.
+fn open_counts(alloc: Global, starts: &[u32]) -> Result<Vec<u32>, AllocError> {
+    let mut open = Vec::new(alloc);
+    for m in 1..starts.len() {
+        open.push(starts[m].saturating_sub(starts[m - 1]))?;
+    }
+    Ok(open)
+}
+
+/// Lists in which no module waits.
+fn no_lists(alloc: Global) -> Result<Vec<Vec<u32>>, AllocError> {
+    let mut waiting = Vec::new(alloc);
+    for _ in 0..MOST_OPEN {
+        waiting.push(Vec::new(alloc))?;
+    }
+    Ok(waiting)
+}
+
+/// Where the part of the list begins that has a module's neighbors, for each module, and where the list ends.
+fn starts_of(alloc: Global, modules: u32, pairs: &[(u32, u32)]) -> Result<Vec<u32>, AllocError> {
+    let mut starts = vec![in alloc; 0u32; modules as usize + 1]?;
+    for pair in pairs {
+        add(&mut starts, pair.0.saturating_add(1));
+        add(&mut starts, pair.1.saturating_add(1));
+    }
+    let mut sum = 0u32;
+    for m in 0..starts.len() {
+        sum = sum.saturating_add(starts[m]);
+        starts[m] = sum;
+    }
+    Ok(starts)
+}
+
+/// The neighbors of all modules, whose parts of the list begin there.
+fn list_of(alloc: Global, starts: &[u32], pairs: &[(u32, u32)]) -> Result<Vec<u32>, AllocError> {
+    let sum = match starts.last() {
+        Some(sum) => *sum as usize,
+        None => 0,
+    };
+    let mut places = Vec::from_slice(alloc, starts)?;
+    let mut list = vec![in alloc; 0u32; sum]?;
+    for pair in pairs {
+        enter(&mut places, &mut list, pair.0, pair.1);
+        enter(&mut places, &mut list, pair.1, pair.0);
+    }
+    Ok(list)
 }
 
 /// The modules that read a wire with the module that drives it.
