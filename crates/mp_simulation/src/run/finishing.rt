@@ -7,6 +7,7 @@ ghost use Rattle.mp_simulation.specs.run.Runs.{wave_built, wave_for};
 
 use crate::bits::{Simulation, Simulator};
 use crate::units::{DataWires, NetlistSimulation};
+use mp_kernel::WaveTable;
 use mp_netlist::WireId;
 use mp_partition::Region;
 use mp_wave::{ToggleWave, Wave, WaveBuilder};
@@ -22,12 +23,9 @@ pub fn found_waves(
     requires over { IsSimulated netlist.now (netlist.now.horizon - 1) simulation }
     ensures { IfOk result (λ waves. AreWavesOf netlist.now waves.items) }
 {
-    let NetlistSimulation { bits, wires, .. } = simulation;
-    let Simulation { simulator, .. } = bits;
-    let Simulator { waves, .. } = simulator;
-    let DataWires { waves: built, .. } = wires;
-    let mut toggles = waves.into_waves()?.into_iter();
-    let mut levels = built.into_iter();
+    let SimulatedWaves { toggles, levels } = simulated_waves(simulation);
+    let mut toggles = toggles.into_waves()?.into_iter();
+    let mut levels = levels.into_iter();
     let mut found = Vec::new(alloc);
     for w in 0..netlist.wire_slots() {
         let toggled = toggles.next();
@@ -35,6 +33,24 @@ pub fn found_waves(
         found.push(wave_of(netlist, WireId(w), toggled, level))?;
     }
     Ok(found)
+}
+
+/// The waves that a simulation has: by toggles, of wires of width 1, and those that were built.
+#[derive(Drop)]
+struct SimulatedWaves {
+    toggles: WaveTable,
+    levels: Vec<WaveBuilder>,
+}
+
+fn simulated_waves(simulation: NetlistSimulation) -> SimulatedWaves
+    ensures toggles { result.toggles ≡ simulation.bits.simulator.waves }
+    ensures levels { result.levels.items ≡ simulation.wires.waves.items }
+{
+    let NetlistSimulation { bits, wires, .. } = simulation;
+    let Simulation { simulator, .. } = bits;
+    let Simulator { waves: toggles, .. } = simulator;
+    let DataWires { waves: levels, .. } = wires;
+    SimulatedWaves { toggles, levels }
 }
 
 /// The wave of a wire: by its toggles, if it has width 1, and otherwise the one that was built.

@@ -1,6 +1,8 @@
 //! What is read of a netlist before its simulation begins.
-ghost use Rattle.std.specs.Prelude.{◌≡◌, ◌<◌, IfOk, length};
+ghost use Rattle.std.specs.Prelude.{◌≡◌, ◌<◌, ℕ, [], IfOk, length, map, slice_index_or};
 ghost use Rattle.mp_simulation.specs.run.Beginnings.{AreFirstWires};
+ghost use Rattle.mp_simulation.specs.run.FirstLevels.{first_wave};
+ghost use Rattle.mp_simulation.specs.run.Numbering.{AreCopiesOf, is_bit};
 
 use crate::bits::{DelayedCopies, Simulation, Simulator};
 use crate::run::delays::Delays;
@@ -92,30 +94,76 @@ impl Layout {
             levels,
             wheel,
         } = settle_all(alloc, netlist, outputs.as_slice(), units)?;
-        let next = bit_copies(
-            alloc,
-            netlist,
-            wiring.wires.as_slice(),
-            wiring.next.as_slice(),
-        )?;
+        let copies = first_copies(alloc, netlist, wiring, self.delays.inputs as usize)?;
+        let FirstTables {
+            fanout,
+            outputs,
+            waves,
+        } = first_tables(alloc, netlist, wiring, outputs.as_slice())?;
         let simulator = Simulator {
             table,
-            fanout: Fanout::from_rows(alloc, wiring.rows.as_slice())?,
-            outputs: OutputTable::from_ports(alloc, outputs.as_slice())?,
+            fanout,
+            outputs,
             states,
             levels,
             due: Vec::new(alloc),
-            waves: WaveTable::from_waves(alloc, first_waves(alloc, netlist)?)?,
+            waves,
             wheel,
-            present: EventSlot::new(alloc),
-        };
-        let copies = DelayedCopies {
-            next,
-            wheel: EventWheel::new(alloc, self.delays.inputs as usize)?,
             present: EventSlot::new(alloc),
         };
         Ok(Simulation { simulator, copies })
     }
+}
+
+/// The delayed copies of wires of width 1 at time 0, none of which is to change. None has a longer delay than so many units.
+fn first_copies(
+    alloc: Global,
+    netlist: &Region<'_>,
+    wiring: &Wiring,
+    units: usize,
+) -> Result<DelayedCopies, AllocError>
+    requires { length wiring.now.wires.items ≡ length wiring.now.next.items }
+    ensures next { IfOk result (λ copies. AreCopiesOf (is_bit netlist.now) wiring.now.wires.items wiring.now.next.items copies.next.items) }
+    ensures units { IfOk result (λ copies. length copies.wheel ≡ units) }
+    ensures empty { IfOk result (λ copies. (k : ℕ) → slice_index_or copies.wheel k [] ≡ []) }
+{
+    let wires = wiring.wires.as_slice();
+    let next = bit_copies(alloc, netlist, wires, wiring.next.as_slice())?;
+    let wheel = EventWheel::new(alloc, units)?;
+    Ok(DelayedCopies {
+        next,
+        wheel,
+        present: EventSlot::new(alloc),
+    })
+}
+
+/// Which modules of width 1 read each wire, the outputs of all modules, and the waves of all wires up to time 0.
+#[derive(Drop)]
+struct FirstTables {
+    fanout: Fanout,
+    outputs: OutputTable,
+    waves: WaveTable,
+}
+
+fn first_tables(
+    alloc: Global,
+    netlist: &Region<'_>,
+    wiring: &Wiring,
+    outputs: &[OutputPorts],
+) -> Result<FirstTables, AllocError>
+    ensures fanout { IfOk result (λ tables. tables.fanout ≡ wiring.now.rows.items) }
+    ensures outputs { IfOk result (λ tables. tables.outputs ≡ outputs.now) }
+    ensures waves { IfOk result (λ tables. tables.waves ≡ map first_wave netlist.now.wires) }
+{
+    let waves = first_waves(alloc, netlist)?;
+    let waves = WaveTable::from_waves(alloc, waves)?;
+    let fanout = Fanout::from_rows(alloc, wiring.rows.as_slice())?;
+    let outputs = OutputTable::from_ports(alloc, outputs)?;
+    Ok(FirstTables {
+        fanout,
+        outputs,
+        waves,
+    })
 }
 
 /// The wires of any width at time 0, with the levels to come.

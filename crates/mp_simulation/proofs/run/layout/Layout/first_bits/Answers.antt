@@ -1,10 +1,8 @@
-use Rattle.std.proofs.Common.{ℕ, List, All, None, length, sym, subst, ap, ◌∙◌}
+use Rattle.std.proofs.Common.{List, All, None, length, sym, subst, ap, ◌∙◌}
 use Rattle.std.proofs.lemmas.List.{get_or-map, length-map}
 use Rattle.mp_model.proofs.SlotLemmas.{slot_within}
-use Rattle.mp_kernel.specs.declared.events.output_port.OutputPort.{OutputPort}
 use Rattle.mp_kernel.specs.declared.events.output_ports.OutputPorts.{OutputPorts}
 use Rattle.mp_kernel.specs.events.Firing.{HaveSlots, no_port, ports_at}
-use Rattle.mp_simulation.specs.run.Numbering.{AreCopiesOf, is_bit}
 use Rattle.mp_simulation.specs.run.Settling.{ports_of}
 use Rattle.mp_simulation.proofs.lemmas.run.SettlingLemmas.{have_slots}
 use Rattle.mp_simulation.proofs.run.layout.Layout.first_bits.Goals as goal
@@ -29,19 +27,15 @@ settle_all-requires-clause-ports c m r at =
     ∙ ap ports_of there
 
 pub returns : goal.returns
-returns c all ok of_all driven =
-    let n = c.args.netlist.now in
-    let plan = c.args.self.now in
-    record {
-      settled = c.in_ok-states.ensures.settled;
-      levels = c.in_ok-states.ensures.levels;
-      outputs = c.in_ok-from_ports.ensures ∙ c.as_slice-5.ensures.value ∙ driven;
-      fanout = c.in_ok-from_rows.ensures ∙ c.as_slice-4.ensures.value;
-      waves = c.in_ok-from_waves.ensures ∙ c.in_ok-first_waves.ensures;
-      due = c.new.ensures.items;
-      units = c.in_ok-states.ensures.units;
-      next = subst (λ (ws : List ℕ). AreCopiesOf (is_bit n) ws plan.wired.wiring.next.items c.in_ok-next.next.items) c.as_slice-2.ensures.value
-          (subst (λ (xs : List OutputPort). AreCopiesOf (is_bit n) c.as_slice-2.result.now xs c.in_ok-next.next.items) c.as_slice-3.ensures.value c.in_ok-next.ensures);
-      copies = c.in_ok-new.ensures.places;
-      empty = c.in_ok-new.ensures.empty;
-    }
+returns c all ok of_all driven = record {
+  settled = c.in_ok-states.ensures.settled;
+  levels = c.in_ok-states.ensures.levels;
+  outputs = c.in_ok-fanout.ensures.outputs ∙ c.as_slice-2.ensures.value ∙ driven;
+  fanout = c.in_ok-fanout.ensures.fanout;
+  waves = c.in_ok-fanout.ensures.waves;
+  due = c.new.ensures.items;
+  units = c.in_ok-states.ensures.units;
+  next = c.in_ok-copies.ensures.next;
+  copies = c.in_ok-copies.ensures.units;
+  empty = c.in_ok-copies.ensures.empty;
+}
