@@ -71,10 +71,13 @@ impl Version {
         ensures story { IfOk result (λ version. version ≡ one_more self.now (arc_value edit)) }
         ensures now { IfOk result (λ version. present version ≡ netlist) }
     {
+        let netlist = Arc::new(alloc, netlist)?;
+        let base = Arc::try_clone(&self.base)?;
+        let edits = self.edits.with(alloc, edit)?;
         Ok(Version {
-            base: Arc::try_clone(&self.base)?,
-            edits: self.edits.with(alloc, edit)?,
-            netlist: Arc::new(alloc, netlist)?,
+            base,
+            edits,
+            netlist,
             waves,
         })
     }
