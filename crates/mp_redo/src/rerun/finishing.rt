@@ -18,6 +18,7 @@ use mp_active::agreement::laws::{readers_agree, sleepers_agree, sleepers_rest, w
 use mp_active::compare::laws::runs_are_old;
 use mp_active::excerpt::laws::{excerpts_are_circuits, excerpts_are_simulated, excerpts_show};
 use mp_depend::{Finished, RerunRecorder, WorkSpan};
+use mp_kernel::WaveTable;
 use mp_model::Waves;
 use mp_modules::Memory;
 use mp_netlist::{ModuleId, WireId, WireRecord};
@@ -61,7 +62,10 @@ impl Rerun {
             active,
             recorder,
         } = remains_of(self);
-        let ends = all_ends(alloc, change, &simulation, active.as_slice())?;
+        let Ok(ends) = all_ends(alloc, change, &simulation, active.as_slice()) else {
+            drop(simulation);
+            return Err(AllocError);
+        };
         let waves = all_waves(alloc, change, simulation, sources.as_slice(), end)?;
         let Finished { kept, work_spans } = recorder.finish(alloc, change.run, change.new)?;
         let run = Run::new(change.new.horizon(), Waves::new(waves), ends, kept);
@@ -144,12 +148,9 @@ fn all_waves(
     requires waves { HaveWaves change.now.new.now change.now.run.now sources.now end simulation }
     ensures { IfOk result (λ waves. AreSlots (length change.now.new.now.wires) (λ w. slot_wave change.now.new.now w (wire_at change.now.new.now w)) (map (option_map arc_value) waves.items)) }
 {
-    let NetlistSimulation { bits, wires, .. } = simulation;
-    let Simulation { simulator, .. } = bits;
-    let Simulator { waves, .. } = simulator;
-    let DataWires { waves: built, .. } = wires;
-    let mut toggles = waves.into_waves()?.into_iter();
-    let mut levels = built.into_iter();
+    let SimulatedWaves { toggles, levels } = waves_in(simulation);
+    let mut toggles = toggles.into_waves()?.into_iter();
+    let mut levels = levels.into_iter();
     let mut found = Vec::new(alloc);
     for w in 0..change.new.wire_slots() {
         let toggled = toggles.next();
@@ -158,6 +159,27 @@ fn all_waves(
         found.push(wave_in(alloc, change, WireId(w), from, toggled, level)?)?;
     }
     Ok(found)
+}
+
+/// The waves that a simulation has: by toggles, of wires of width 1, and those that were built.
+#[derive(Drop)]
+struct SimulatedWaves {
+    toggles: WaveTable,
+    levels: Vec<WaveBuilder>,
+}
+
+fn waves_in(simulation: NetlistSimulation) -> SimulatedWaves
+    ensures toggles { result.toggles ≡ simulation.bits.simulator.waves }
+    ensures levels { result.levels.items ≡ simulation.wires.waves.items }
+{
+    let NetlistSimulation { bits, wires, .. } = simulation;
+    let Simulation { simulator, .. } = bits;
+    let Simulator { waves, .. } = simulator;
+    let DataWires { waves: levels, .. } = wires;
+    SimulatedWaves {
+        toggles: waves,
+        levels,
+    }
 }
 
 /// From when on the wave of a wire is that of the old run, if units from an end on weren't gone through.

@@ -34,13 +34,13 @@ pub(crate) fn first_simulation(
 {
     // Its contract says that the netlist is well formed.
     let _horizon = new.horizon();
-    let whole = Region::whole(new);
-    let layout = Layout::of(alloc, &whole)?;
-    let outputs = all_outputs(alloc, &whole)?;
     let homes = homes_of(alloc, active)?;
     let heard = heard_wires(alloc, new, active)?;
     let part = Region::new(new, homes.as_slice(), ACTIVE, heard.as_slice());
+    let whole = Region::whole(new);
+    let outputs = all_outputs(alloc, &whole)?;
     let table = TransitionTable::new(alloc)?;
+    let layout = Layout::of(alloc, &whole)?;
     let simulation = layout.begin(alloc, &part, outputs, table)?;
     Ok(First {
         simulation,

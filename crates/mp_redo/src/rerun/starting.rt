@@ -31,9 +31,16 @@ impl Rerun {
         let touches = touched_marks(alloc, change)?;
         let recorder = RerunRecorder::first(alloc, new, touches.as_slice())?;
         let first = first_run(alloc, change, touches.as_slice())?;
-        let stimuli = changed_stimuli(alloc, new, first.comparison.sources.as_slice())?;
+        let sources = first.comparison.sources.as_slice();
+        let Ok(stimuli) = changed_stimuli(alloc, new, sources) else {
+            drop(first);
+            return Err(AllocError);
+        };
         let places = first.simulation.modules.places.as_slice();
-        let activity = first_activity(alloc, touches, places)?;
+        let Ok(activity) = first_activity(alloc, touches, places) else {
+            drop(first);
+            return Err(AllocError);
+        };
         let FirstRun {
             simulation,
             comparison,
@@ -75,8 +82,14 @@ fn first_run(alloc: Global, change: &Change<'_>, active: &[bool]) -> Result<Firs
 {
     let First { simulation, wired } = first_simulation(alloc, change.new, active)?;
     let WiredInputs { wiring, inputs } = wired;
-    let numbers = numbers_of(alloc, change.new, wiring)?;
-    let comparison = Comparison::first(alloc, change, numbers, inputs.as_slice(), active)?;
+    let Ok(numbers) = numbers_of(alloc, change.new, wiring) else {
+        drop(simulation);
+        return Err(AllocError);
+    };
+    let Ok(comparison) = Comparison::first(alloc, change, numbers, inputs.as_slice(), active) else {
+        drop(simulation);
+        return Err(AllocError);
+    };
     Ok(FirstRun {
         simulation,
         comparison,

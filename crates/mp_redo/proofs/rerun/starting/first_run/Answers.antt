@@ -13,8 +13,8 @@ pub first-requires-clause-inputs : goal.first-requires-clause-inputs
 first-requires-clause-inputs c =
     let n = c.args.change.now.new.now in
     let first : First = c.in_ok-simulation.field-0 in
-    let numbers : Numbers = c.in_ok-numbers.numbers in
-    let many = ap (λ (v : Vec ℕ Global). length v.items) c.in_ok-numbers.ensures.wires ∙ c.in_ok-simulation.ensures.numbers.long in
+    let numbers : Numbers = c.in-Ok.numbers in
+    let many = ap (λ (v : Vec ℕ Global). length v.items) c.in-Ok.ensures.wires ∙ c.in_ok-simulation.ensures.numbers.long in
     subst (AreInputs n (length numbers.wires.items)) (sym c.as_slice.ensures.value)
     (first_inputs n (is_marked c.args.active.now) first c.in_ok-simulation.ensures (length numbers.wires.items) many)
 
@@ -23,20 +23,20 @@ returns c =
     let old = c.args.change.now.old.now in
     let new = c.args.change.now.new.now in
     let first : First = c.in_ok-simulation.field-0 in
-    let numbers : Numbers = c.in_ok-numbers.numbers in
-    let comparison : Comparison = c.in_ok-comparison.comparison in
+    let numbers : Numbers = c.in-Ok.numbers in
+    let comparison : Comparison = c.in-Ok-first.comparison in
     let is_first = c.in_ok-simulation.ensures in
-    let told : comparison.numbers ≡ numbers = c.in_ok-comparison.ensures.numbers in
+    let told : comparison.numbers ≡ numbers = c.in-Ok-first.ensures.numbers in
     record {
       wired = first.wired;
       first = is_first;
-      wires = ap (λ (ns : Numbers). ns.wires.items) told ∙ ap (λ (v : Vec ℕ Global). v.items) c.in_ok-numbers.ensures.wires;
+      wires = ap (λ (ns : Numbers). ns.wires.items) told ∙ ap (λ (v : Vec ℕ Global). v.items) c.in-Ok.ensures.wires;
       inputs = refl;
       sources = λ x low.
-          subst (λ (ns : Numbers). is_first.numbering.source x ≡ (wire_of ns x, delay_of ns x)) (sym told) (c.in_ok-numbers.ensures.sources is_first.numbering.source is_first.numbers x low);
-      numbers = subst (AreNumbersOf new) (sym told) c.in_ok-numbers.ensures.are;
-      compared = subst (λ (ports : List (List (Option ℕ))). AreFirst old new c.args.active.now ports comparison) c.as_slice.ensures.value c.in_ok-comparison.ensures.first;
-      cursors = c.in_ok-comparison.ensures.cursors;
-      unseen = c.in_ok-comparison.ensures.unseen;
-      complete = c.in_ok-comparison.ensures.complete;
+          subst (λ (ns : Numbers). is_first.numbering.source x ≡ (wire_of ns x, delay_of ns x)) (sym told) (c.in-Ok.ensures.sources is_first.numbering.source is_first.numbers x low);
+      numbers = subst (AreNumbersOf new) (sym told) c.in-Ok.ensures.are;
+      compared = subst (λ (ports : List (List (Option ℕ))). AreFirst old new c.args.active.now ports comparison) c.as_slice.ensures.value c.in-Ok-first.ensures.first;
+      cursors = c.in-Ok-first.ensures.cursors;
+      unseen = c.in-Ok-first.ensures.unseen;
+      complete = c.in-Ok-first.ensures.complete;
     }

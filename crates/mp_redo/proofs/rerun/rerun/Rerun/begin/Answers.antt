@@ -20,31 +20,31 @@ returns c =
     let new = c.args.change.now.new.now in
     let run = c.args.change.now.run.now in
     let first : FirstRun = c.in_ok-first.first in
-    let active : List Bool = c.in_ok-activity.activity.active.items in
+    let active : List Bool = c.in-Ok-first_activity.activity.active.items in
     let s : Rerun =
     record {
       simulation = first.simulation;
       comparison = first.comparison;
       inputs = first.inputs;
-      stimuli = c.in_ok-stimuli.stimuli;
+      stimuli = c.in-Ok.stimuli;
       pending_outputs = record { list = c.new.result; place = 0 };
-      activity = c.in_ok-activity.activity;
+      activity = c.in-Ok-first_activity.activity;
       recorder = c.in_ok-recorder.recorder;
       set = record { bits = c.new-2.result; levels = c.new-3.result };
       window_end = c.window_end.result;
       look_at = 0;
     } in
-    let marks : c.as_slice.result.now ≡ active = c.as_slice.ensures.value ∙ sym c.in_ok-activity.ensures.active in
-    let touched : AreTouched old new active = subst (AreTouched old new) (sym c.in_ok-activity.ensures.active) c.in_ok-touches.ensures in
+    let marks : c.as_slice.result.now ≡ active = c.as_slice.ensures.value ∙ sym c.in-Ok-first_activity.ensures.active in
+    let touched : AreTouched old new active = subst (AreTouched old new) (sym c.in-Ok-first_activity.ensures.active) c.in_ok-touches.ensures in
     let is : IsFirstRun old new run active first =
-    subst (λ (ms : List Bool). IsFirstRun old new run ms first) (c.as_slice-2.ensures.value ∙ sym c.in_ok-activity.ensures.active) c.in_ok-first.ensures in
+    subst (λ (ms : List Bool). IsFirstRun old new run ms first) (c.as_slice-2.ensures.value ∙ sym c.in-Ok-first_activity.ensures.active) c.in_ok-first.ensures in
     let states = old_states old new active touched c.requires.old_form c.requires.form c.requires.revision run c.requires.run in
     begun c.reads_are_listed.ensures old new c.requires.old_form c.requires.form c.requires.revision run c.requires.run is.wired s
     (record {
       touched = touched;
-      same = c.in_ok-activity.ensures.touched ∙ sym c.in_ok-activity.ensures.active;
-      seats = c.in_ok-activity.ensures.seats ∙ c.as_slice-places.ensures.value;
-      joined = c.in_ok-activity.ensures.joined;
+      same = c.in-Ok-first_activity.ensures.touched ∙ sym c.in-Ok-first_activity.ensures.active;
+      seats = c.in-Ok-first_activity.ensures.seats ∙ c.as_slice-places.ensures.value;
+      joined = c.in-Ok-first_activity.ensures.joined;
       first = is.first;
       wires = is.wires;
       inputs = is.inputs;
@@ -54,7 +54,7 @@ returns c =
       cursors = is.cursors;
       unseen = is.unseen;
       complete = is.complete;
-      stimuli = subst (λ (sources : List WireSource). AreSetAnew new (until_in sources) 0 (left_of c.in_ok-stimuli.stimuli)) c.as_slice-3.ensures.value (set_anew new (until_in c.as_slice-3.result.now) 0 (left_of c.in_ok-stimuli.stimuli) c.in_ok-stimuli.ensures);
+      stimuli = subst (λ (sources : List WireSource). AreSetAnew new (until_in sources) 0 (left_of c.in-Ok.stimuli)) c.as_slice-sources.ensures.value (set_anew new (until_in c.as_slice-sources.result.now) 0 (left_of c.in-Ok.stimuli) c.in-Ok.ensures);
       pending_outputs = c.new.ensures.items;
       recorder = c.in_ok-recorder.ensures old run (λ m. is_marked active m) (λ m. ap (λ (ms : List Bool). is_marked ms m) (sym marks)) states;
       window =
