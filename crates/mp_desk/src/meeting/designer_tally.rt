@@ -80,8 +80,14 @@ impl<L: DeskName> DesignerTally<L> {
     {
         match read_line(alloc, line) {
             Ok(Line::Empty) => Ok(()),
-            Ok(Line::Change(edit)) => self.take_edit(rt, desk, &edit),
-            Ok(Line::Ask(_)) => {
+            // dropped by a call: at the end of the match, the drop of each part would stand here
+            Ok(Line::Change(edit)) => {
+                let taken = self.take_edit(rt, desk, &edit);
+                drop(edit);
+                taken
+            }
+            Ok(Line::Ask(question)) => {
+                drop(question);
                 self.refused += 1;
                 Ok(())
             }
