@@ -3,7 +3,7 @@ use crate::wire_names::WireNames;
 use mp_netlist::Name;
 
 /// A question about the present netlist. Times may be at or above the horizon.
-#[derive(Clone, Drop)]
+#[derive(Drop)]
 pub enum Question {
     /// The wave of the wire of this name.
     Wave(Name),

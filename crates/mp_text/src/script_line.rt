@@ -3,7 +3,7 @@ use crate::question::Question;
 use mp_netlist::Edit;
 
 /// A line of a script.
-#[derive(Clone, Drop)]
+#[derive(Drop)]
 pub enum Line {
     /// A line without words.
     Empty,

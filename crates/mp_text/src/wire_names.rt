@@ -2,7 +2,6 @@
 ghost use Rattle.std.specs.Prelude.{◌≡◌};
 
 use mp_netlist::Name;
-use std::alloc::AllocError;
 use std::marker::Model;
 
 /// Some names of wires, in order.
@@ -17,16 +16,6 @@ impl Model for WireNames {
     ghost Value = { List (List ℕ) };
 
     ghost view = { λ wires. wires.names.items };
-}
-
-impl Clone for WireNames {
-    ghost is_clone = { λ old new. new ≡ old };
-
-    fn clone(&self) -> Result<Self, AllocError> {
-        Ok(WireNames {
-            names: Vec::from_clones(*self.names.allocator(), self.names.as_slice())?,
-        })
-    }
 }
 
 impl WireNames {
