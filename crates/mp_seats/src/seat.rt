@@ -135,8 +135,17 @@ impl<B: ReplyWriter, G: Occupant> Seat<B, G> {
     {
         match read_line(self.alloc, line) {
             Ok(Line::Empty) => Ok(()),
-            Ok(Line::Change(edit)) => self.put_change(rt, &edit, out),
-            Ok(Line::Ask(question)) => self.put_asked(rt, &question, out),
+            // dropped by a call: at the end of the match, the drop of each part would stand here
+            Ok(Line::Change(edit)) => {
+                let put = self.put_change(rt, &edit, out);
+                drop(edit);
+                put
+            }
+            Ok(Line::Ask(question)) => {
+                let put = self.put_asked(rt, &question, out);
+                drop(question);
+                put
+            }
             Err(LineError::OutOfMemory) => {
                 self.put_counted(out, &Reply::Refused(EditError::OutOfMemory))
             }

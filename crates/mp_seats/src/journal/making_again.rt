@@ -58,8 +58,16 @@ fn make_line<R: Threads + Wait + Sync, S: EditSession>(
 {
     match read_line(alloc, line) {
         Ok(Line::Empty) => Ok(()),
-        Ok(Line::Change(edit)) => make_edit(rt, session, &edit, number),
-        Ok(Line::Ask(_)) => Err(ReplayFault::Question(number)),
+        // dropped by a call: at the end of the match, the drop of each part would stand here
+        Ok(Line::Change(edit)) => {
+            let made = make_edit(rt, session, &edit, number);
+            drop(edit);
+            made
+        }
+        Ok(Line::Ask(question)) => {
+            drop(question);
+            Err(ReplayFault::Question(number))
+        }
         Err(LineError::OutOfMemory) => Err(ReplayFault::OutOfMemory),
         Err(error) => Err(ReplayFault::Unread(number, error)),
     }
