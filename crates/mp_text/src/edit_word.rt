@@ -1,4 +1,5 @@
 //! The first words of statements that are edits.
+use crate::lexing::is_text;
 
 /// The first word of an edit that occurs in texts and in scripts.
 #[derive(Clone, Copy)]
@@ -22,10 +23,10 @@ impl EditWord {
         ensures { result ≡ edit_word word.now }
     {
         match word {
-            _ if word == b"wire".as_slice() => Some(EditWord::Wire),
-            _ if word == b"module".as_slice() => Some(EditWord::Module),
-            _ if word == b"stim".as_slice() => Some(EditWord::Stimulus),
-            _ if word == b"bundle".as_slice() => Some(EditWord::Bundle),
+            _ if is_text(word, "wire") => Some(EditWord::Wire),
+            _ if is_text(word, "module") => Some(EditWord::Module),
+            _ if is_text(word, "stim") => Some(EditWord::Stimulus),
+            _ if is_text(word, "bundle") => Some(EditWord::Bundle),
             _ => None,
         }
     }

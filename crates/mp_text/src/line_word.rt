@@ -1,4 +1,5 @@
 //! The first words of script lines.
+use crate::lexing::is_text;
 use crate::question_word::QuestionWord;
 use crate::single_word::SingleWord;
 
@@ -21,7 +22,7 @@ impl LineWord {
     pub fn from_word(word: &[u8]) -> Option<LineWord>
         ensures { result ≡ line_word word.now }
     {
-        if word == b"batch".as_slice() {
+        if is_text(word, "batch") {
             Some(LineWord::Batch)
         } else if let Some(question) = QuestionWord::from_word(word) {
             Some(LineWord::Question(question))

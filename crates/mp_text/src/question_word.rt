@@ -1,4 +1,5 @@
 //! The first words of questions.
+use crate::lexing::is_text;
 
 /// The first word of a question.
 #[derive(Clone, Copy)]
@@ -46,22 +47,22 @@ impl QuestionWord {
         ensures { result ≡ question_word word.now }
     {
         match word {
-            _ if word == b"wave".as_slice() => Some(QuestionWord::Wave),
-            _ if word == b"waves".as_slice() => Some(QuestionWord::Waves),
-            _ if word == b"text".as_slice() => Some(QuestionWord::Text),
-            _ if word == b"report".as_slice() => Some(QuestionWord::Report),
-            _ if word == b"check".as_slice() => Some(QuestionWord::Check),
-            _ if word == b"dump".as_slice() => Some(QuestionWord::Dump),
-            _ if word == b"work".as_slice() => Some(QuestionWord::Work),
-            _ if word == b"show".as_slice() => Some(QuestionWord::Show),
-            _ if word == b"why".as_slice() => Some(QuestionWord::Why),
-            _ if word == b"path".as_slice() => Some(QuestionWord::Path),
-            _ if word == b"waits".as_slice() => Some(QuestionWord::Waits),
-            _ if word == b"measure".as_slice() => Some(QuestionWord::Measure),
-            _ if word == b"graph".as_slice() => Some(QuestionWord::Graph),
-            _ if word == b"verilog".as_slice() => Some(QuestionWord::Verilog),
-            _ if word == b"version".as_slice() => Some(QuestionWord::Version),
-            _ if word == b"edits".as_slice() => Some(QuestionWord::Edits),
+            _ if is_text(word, "wave") => Some(QuestionWord::Wave),
+            _ if is_text(word, "waves") => Some(QuestionWord::Waves),
+            _ if is_text(word, "text") => Some(QuestionWord::Text),
+            _ if is_text(word, "report") => Some(QuestionWord::Report),
+            _ if is_text(word, "check") => Some(QuestionWord::Check),
+            _ if is_text(word, "dump") => Some(QuestionWord::Dump),
+            _ if is_text(word, "work") => Some(QuestionWord::Work),
+            _ if is_text(word, "show") => Some(QuestionWord::Show),
+            _ if is_text(word, "why") => Some(QuestionWord::Why),
+            _ if is_text(word, "path") => Some(QuestionWord::Path),
+            _ if is_text(word, "waits") => Some(QuestionWord::Waits),
+            _ if is_text(word, "measure") => Some(QuestionWord::Measure),
+            _ if is_text(word, "graph") => Some(QuestionWord::Graph),
+            _ if is_text(word, "verilog") => Some(QuestionWord::Verilog),
+            _ if is_text(word, "version") => Some(QuestionWord::Version),
+            _ if is_text(word, "edits") => Some(QuestionWord::Edits),
             _ => None,
         }
     }

@@ -2,7 +2,7 @@
 ghost use Rattle.std.specs.Prelude.{◌≡◌};
 ghost use Rattle.mp_text.specs.Clauses.{IfOk, IsAscii, OutOfMemory, Gives, wire_or_none, texts, AreAscii, removal, port_change, single_edit};
 
-use crate::lexing::{LineError, name_of, number_word, wire_or_none};
+use crate::lexing::{LineError, is_text, name_of, number_word, wire_or_none};
 use crate::single_word::SingleWord;
 use crate::stated_edit::stated_edit;
 use mp_netlist::{Boxed, Name, SingleEdit};
@@ -37,9 +37,9 @@ fn removal(alloc: Global, thing: &[u8], name: &[u8]) -> Result<SingleEdit, LineE
 {
     let name = name_of(alloc, name)?;
     match thing {
-        _ if thing == b"wire".as_slice() => Ok(SingleEdit::RemoveWire { wire: name }),
-        _ if thing == b"module".as_slice() => Ok(SingleEdit::RemoveModule { module: name }),
-        _ if thing == b"bundle".as_slice() => Ok(SingleEdit::RemoveBundle { bundle: name }),
+        _ if is_text(thing, "wire") => Ok(SingleEdit::RemoveWire { wire: name }),
+        _ if is_text(thing, "module") => Ok(SingleEdit::RemoveModule { module: name }),
+        _ if is_text(thing, "bundle") => Ok(SingleEdit::RemoveBundle { bundle: name }),
         _ => Err(LineError::UnknownStatement),
     }
 }

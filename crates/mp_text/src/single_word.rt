@@ -1,5 +1,6 @@
 //! The first words of edits of one thing.
 use crate::edit_word::EditWord;
+use crate::lexing::is_text;
 
 /// The first word of an edit of one thing, as a line or in a batch.
 #[derive(Clone, Copy)]
@@ -29,12 +30,12 @@ impl SingleWord {
         ensures { result ≡ single_word word.now }
     {
         match word {
-            _ if word == b"remove".as_slice() => Some(SingleWord::Remove),
-            _ if word == b"input".as_slice() => Some(SingleWord::Input),
-            _ if word == b"output".as_slice() => Some(SingleWord::Output),
-            _ if word == b"indelay".as_slice() => Some(SingleWord::InputDelay),
-            _ if word == b"delay".as_slice() => Some(SingleWord::Delay),
-            _ if word == b"clear".as_slice() => Some(SingleWord::Clear),
+            _ if is_text(word, "remove") => Some(SingleWord::Remove),
+            _ if is_text(word, "input") => Some(SingleWord::Input),
+            _ if is_text(word, "output") => Some(SingleWord::Output),
+            _ if is_text(word, "indelay") => Some(SingleWord::InputDelay),
+            _ if is_text(word, "delay") => Some(SingleWord::Delay),
+            _ if is_text(word, "clear") => Some(SingleWord::Clear),
             _ => Some(SingleWord::Stated(EditWord::from_word(word)?)),
         }
     }

@@ -5,7 +5,7 @@ ghost use Rattle.std.specs.Prelude.{◌≡◌};
 ghost use Rattle.mp_text.specs.Clauses.{OutOfMemory, max_horizon, Gives, texts, AreAscii, Line, Refused, Open, stated_number, stated_edit, Format, Start, Change, statement_of, begun, after_statement, after_line, told};
 
 use crate::edit_word::EditWord;
-use crate::lexing::{LineError, number_word, read_line_words};
+use crate::lexing::{LineError, is_text, number_word, read_line_words};
 use crate::stated_edit::{stated_edit, stated_module};
 use crate::text_code::TextCode;
 use crate::text_format::TextFormat;
@@ -43,10 +43,10 @@ fn statement(
         return Ok(());
     };
     let word: &[u8] = word;
-    if word == b"format".as_slice() {
+    if is_text(word, "format") {
         return format(state, others);
     }
-    if word == b"horizon".as_slice() {
+    if is_text(word, "horizon") {
         return start(alloc, state, others, room);
     }
     match EditWord::from_word(word) {

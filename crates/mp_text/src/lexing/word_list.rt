@@ -6,6 +6,7 @@ ghost use Rattle.mp_text.specs.lexing.Clauses.{ℕ, List, Result, All, IfOk, IsA
 
 use crate::lexing::line_error::LineError;
 use crate::lexing::number::{name_and_number, number, time_and_value};
+use crate::lexing::spelling::is_text;
 use crate::lexing::word::name_of;
 use mp_records::{InputName, Name, OutputName};
 use std::alloc::{AllocError, Global};
@@ -81,7 +82,7 @@ pub fn wire_or_none(alloc: Global, name: &[u8]) -> Result<Option<Name>, AllocErr
     requires { IsAscii name.now }
     ensures { IfOk result (λ wire. wire ≡ wire_or_none name.now) }
 {
-    if name == b"-".as_slice() {
+    if is_text(name, "-") {
         return Ok(None);
     }
     Ok(Some(name_of(alloc, name)?))
@@ -94,7 +95,7 @@ impl Worded for OutputName {
     ghost read = { output_word };
 
     fn from_word(alloc: Global, word: &[u8]) -> Result<Self, LineError> {
-        if word == b"-".as_slice() {
+        if is_text(word, "-") {
             return Ok(OutputName {
                 wire: None,
                 delay: 1,
