@@ -62,8 +62,8 @@ fn format(state: &mut TextState, words: &[&[u8]]) -> Result<(), TextCode>
     if !matches!(state, TextState::Fresh) {
         return Err(TextCode::BadFormat);
     }
-    let number = stated_number(words)?;
-    *state = TextState::Formatted(TextFormat::of(number)?);
+    let format = TextFormat::of(stated_number(words)?)?;
+    set_state(state, TextState::Formatted(format));
     Ok(())
 }
 
@@ -77,8 +77,16 @@ fn start(alloc: Global, state: &mut TextState, words: &[&[u8]], room: usize) -> 
         TextState::Open(_) => return Err(TextCode::SecondHorizon),
     };
     let horizon = stated_number(words)?;
-    *state = TextState::Open(empty_netlist(alloc, format, horizon, room)?);
+    let netlist = empty_netlist(alloc, format, horizon, room)?;
+    set_state(state, TextState::Open(netlist));
     Ok(())
+}
+
+/// Puts a state in place of the one before.
+fn set_state(state: &mut TextState, next: TextState)
+    ensures { state.new ≡ next }
+{
+    *state = next;
 }
 
 /// The empty netlist of a horizon that a text of this format may state.
@@ -124,10 +132,21 @@ fn change(
     let TextState::Open(netlist) = state else {
         return Err(TextCode::NoHorizon);
     };
-    // a module needs no block of its own here, unlike an edit
+    // What is read is dropped by a call: at the end of a scope, the drop of each of its parts would stand here.
     match first {
-        EditWord::Module => told(netlist.apply_module(&stated_module(alloc, words)?)),
-        _ => told(netlist.apply(&Edit::Single(stated_edit(alloc, first, words)?))),
+        // a module needs no block of its own here, unlike an edit
+        EditWord::Module => {
+            let module = stated_module(alloc, words)?;
+            let ended = netlist.apply_module(&module);
+            drop(module);
+            told(ended)
+        }
+        _ => {
+            let edit = Edit::Single(stated_edit(alloc, first, words)?);
+            let ended = netlist.apply(&edit);
+            drop(edit);
+            told(ended)
+        }
     }
 }
 
