@@ -58,6 +58,25 @@ word_of kinds.XorC = codes "XORC"
 word_of kinds.Sum = codes "SUM"
 word_of kinds.Bit = codes "BIT"
 
+-- the kind with data that a text names so
+abbrev pub data_kind_named : List ℕ → Option Kind
+data_kind_named word =
+    if bytes_eq word (codes "REG") then Some kinds.Reg
+    else (if bytes_eq word (codes "ADDC") then Some kinds.AddC
+    else (if bytes_eq word (codes "XORC") then Some kinds.XorC
+    else (if bytes_eq word (codes "SUM") then Some kinds.Sum
+    else (if bytes_eq word (codes "BIT") then Some kinds.Bit
+    else None))))
+
+-- the kind that steers events, or one with data
+abbrev pub steering_or_data_kind_named : List ℕ → Option Kind
+steering_or_data_kind_named word =
+    if bytes_eq word (codes "TOGGLE") then Some kinds.Toggle
+    else (if bytes_eq word (codes "SELECT") then Some kinds.Select
+    else (if bytes_eq word (codes "CALL") then Some kinds.Call
+    else (if bytes_eq word (codes "ARBITER") then Some kinds.Arbiter
+    else data_kind_named word)))
+
 -- the kind that a text names so
 unfoldable pub kind_named : List ℕ → Option Kind
 kind_named word =
@@ -65,16 +84,7 @@ kind_named word =
     else (if bytes_eq word (codes "NOT") then Some kinds.Not
     else (if bytes_eq word (codes "XOR") then Some kinds.Xor
     else (if bytes_eq word (codes "C") then Some kinds.C
-    else (if bytes_eq word (codes "TOGGLE") then Some kinds.Toggle
-    else (if bytes_eq word (codes "SELECT") then Some kinds.Select
-    else (if bytes_eq word (codes "CALL") then Some kinds.Call
-    else (if bytes_eq word (codes "ARBITER") then Some kinds.Arbiter
-    else (if bytes_eq word (codes "REG") then Some kinds.Reg
-    else (if bytes_eq word (codes "ADDC") then Some kinds.AddC
-    else (if bytes_eq word (codes "XORC") then Some kinds.XorC
-    else (if bytes_eq word (codes "SUM") then Some kinds.Sum
-    else (if bytes_eq word (codes "BIT") then Some kinds.Bit
-    else None))))))))))))
+    else steering_or_data_kind_named word)))
 
 -- how many of the first input ports have the module's width; the others have width 1
 abbrev pub wide_inputs : Kind → ℕ

@@ -1,7 +1,7 @@
 //! The kinds of event module.
 ghost use Rattle.std.specs.Prelude.{◌≡◌, ◌≤◌, ◌^◌, nat_lt};
 ghost use Rattle.std.specs.List.{list_all};
-ghost use Rattle.mp_modules.specs.Kinds.{input_count, output_count, param_count, word_of, kind_named, wide_inputs, wide_outputs, has_width, input_width, output_width, param_bound, are_params};
+ghost use Rattle.mp_modules.specs.Kinds.{input_count, output_count, param_count, word_of, kind_named, steering_or_data_kind_named, data_kind_named, wide_inputs, wide_outputs, has_width, input_width, output_width, param_bound, are_params};
 
 use crate::level::fits_width;
 use crate::memory::{MOST_INPUTS, MOST_OUTPUTS};
@@ -112,26 +112,8 @@ impl Kind {
             Some(Kind::Xor)
         } else if word == b"C".as_slice() {
             Some(Kind::C)
-        } else if word == b"TOGGLE".as_slice() {
-            Some(Kind::Toggle)
-        } else if word == b"SELECT".as_slice() {
-            Some(Kind::Select)
-        } else if word == b"CALL".as_slice() {
-            Some(Kind::Call)
-        } else if word == b"ARBITER".as_slice() {
-            Some(Kind::Arbiter)
-        } else if word == b"REG".as_slice() {
-            Some(Kind::Reg)
-        } else if word == b"ADDC".as_slice() {
-            Some(Kind::AddC)
-        } else if word == b"XORC".as_slice() {
-            Some(Kind::XorC)
-        } else if word == b"SUM".as_slice() {
-            Some(Kind::Sum)
-        } else if word == b"BIT".as_slice() {
-            Some(Kind::Bit)
         } else {
-            None
+            steering_or_data_kind(word)
         }
     }
 
@@ -213,5 +195,41 @@ impl Kind {
             Kind::Bit => param < u64::from(width),
             _ => false,
         }
+    }
+}
+
+/// The kind that steers events, or one with data, that has this name in texts; `None` for any other word.
+fn steering_or_data_kind(word: &[u8]) -> Option<Kind>
+    ensures { result ≡ steering_or_data_kind_named word.now }
+{
+    if word == b"TOGGLE".as_slice() {
+        Some(Kind::Toggle)
+    } else if word == b"SELECT".as_slice() {
+        Some(Kind::Select)
+    } else if word == b"CALL".as_slice() {
+        Some(Kind::Call)
+    } else if word == b"ARBITER".as_slice() {
+        Some(Kind::Arbiter)
+    } else {
+        data_kind(word)
+    }
+}
+
+/// The kind with data that has this name in texts; `None` for any other word.
+fn data_kind(word: &[u8]) -> Option<Kind>
+    ensures { result ≡ data_kind_named word.now }
+{
+    if word == b"REG".as_slice() {
+        Some(Kind::Reg)
+    } else if word == b"ADDC".as_slice() {
+        Some(Kind::AddC)
+    } else if word == b"XORC".as_slice() {
+        Some(Kind::XorC)
+    } else if word == b"SUM".as_slice() {
+        Some(Kind::Sum)
+    } else if word == b"BIT".as_slice() {
+        Some(Kind::Bit)
+    } else {
+        None
     }
 }
