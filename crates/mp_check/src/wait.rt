@@ -2,7 +2,7 @@
 use mp_netlist::{ModuleId, WireId};
 
 /// A module with a port that can't change its wire before another port changes the wire that it waits for.
-#[derive(Clone, Copy, Debug, PartialEq, Eq)]
+#[derive(Clone, Copy, PartialEq, Eq)]
 pub struct Wait {
     pub waiter: ModuleId,
     /// The wire that it waits for.

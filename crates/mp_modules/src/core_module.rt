@@ -14,7 +14,7 @@ use crate::select::{is_unstable, select_step};
 use crate::toggle::toggle_step;
 
 /// An event module without data, with its parameters.
-#[derive(Clone, Copy, Debug, PartialEq, Eq)]
+#[derive(Clone, Copy, PartialEq, Eq)]
 pub enum CoreModule {
     Buf,
     Not,

@@ -5,7 +5,7 @@ ghost use Rattle.mp_modules.specs.Findings.{by_number, code_number, code_word};
 use crate::finding_set::CODES;
 
 /// What can be found at a module or a bundle, at a time from 1 on. "Before" means one unit before.
-#[derive(Clone, Copy, Debug, PartialEq, Eq)]
+#[derive(Clone, Copy, PartialEq, Eq)]
 pub enum FindingCode {
     /// Both inputs of a XOR change at the same time.
     MergeCollision,

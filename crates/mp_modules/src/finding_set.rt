@@ -6,7 +6,7 @@ use crate::finding_code::FindingCode;
 pub const CODES: usize = 14;
 
 /// A set of codes: for each code, at the index of its number less 1, whether it is present.
-#[derive(Clone, Copy, Debug, PartialEq, Eq)]
+#[derive(Clone, Copy, PartialEq, Eq)]
 pub struct FindingSet {
     pub present: [bool; CODES],
 }

@@ -10,7 +10,7 @@ use crate::memory::{MOST_INPUTS, MOST_OUTPUTS};
 /// SELECT, CALL and ARBITER steer events; REG holds data from a capture to a pass; ADDC, XORC, SUM and BIT compute on data.
 ///
 /// The width of a module is that of the wire at its first input if its kind has ports of any width, and otherwise 1.
-#[derive(Clone, Copy, Debug, PartialEq, Eq)]
+#[derive(Clone, Copy, PartialEq, Eq)]
 pub enum Kind {
     Buf,
     Not,

@@ -8,7 +8,7 @@ pub const MOST_INPUTS: usize = 4;
 pub const MOST_OUTPUTS: usize = 3;
 
 /// One of the two clients of a module that serves one at a time, or nobody.
-#[derive(Clone, Copy, Debug, PartialEq, Eq)]
+#[derive(Clone, Copy, PartialEq, Eq)]
 pub enum Client {
     Nobody,
     First,
@@ -39,7 +39,7 @@ impl Client {
 }
 
 /// Which of two clients wait to be served.
-#[derive(Clone, Copy, Debug, PartialEq, Eq)]
+#[derive(Clone, Copy, PartialEq, Eq)]
 pub struct Waiting {
     pub first: bool,
     pub second: bool,
@@ -74,7 +74,7 @@ impl Waiting {
 
 /// A module's state at a time: its input levels then, its outputs before their delays, and, in a module that serves clients, whom
 /// it serves and who waits. The places after the last port hold 0.
-#[derive(Clone, Copy, Debug, PartialEq, Eq)]
+#[derive(Clone, Copy, PartialEq, Eq)]
 pub struct Memory {
     pub inputs: [u64; MOST_INPUTS],
     pub outputs: [u64; MOST_OUTPUTS],

@@ -6,7 +6,7 @@ ghost use Rattle.mp_modules.specs.Tables.{rendezvous};
 use crate::memory::{Memory, level_at};
 
 /// A C-element: its output before time 0, and which of its inputs have a bubble, which inverts them.
-#[derive(Clone, Copy, Debug, PartialEq, Eq)]
+#[derive(Clone, Copy, PartialEq, Eq)]
 pub struct Rendezvous {
     pub initial: bool,
     pub bubble_a: bool,

@@ -2,7 +2,7 @@
 use mp_records::ModuleId;
 
 /// What drives a wire: nothing, its stimulus, or an output port of a module.
-#[derive(Clone, Copy, Debug, PartialEq, Eq)]
+#[derive(Clone, Copy, PartialEq, Eq)]
 pub enum Driver {
     Nothing,
     Stimulus,

@@ -1,7 +1,7 @@
 //! The formats of netlists.
 
 /// How large a netlist may get, and for how long it may run.
-#[derive(Clone, Copy, Debug, PartialEq, Eq)]
+#[derive(Clone, Copy, PartialEq, Eq)]
 pub enum Format {
     /// The format of texts of formats 1 and 2.
     Standard,

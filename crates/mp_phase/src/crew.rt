@@ -13,7 +13,7 @@ use std::thread;
 use std::thread::Threads;
 
 /// How many threads do the tasks, the calling one included, and how much work is the least that is shared out.
-#[derive(Clone, Copy, Debug, PartialEq, Eq)]
+#[derive(Clone, Copy, PartialEq, Eq)]
 pub struct Crew {
     count: u32,
     least: u32,

@@ -5,7 +5,7 @@ use mp_netlist::ModuleId;
 use std::sync::Wait;
 
 /// A gate that lets every module pass at once.
-#[derive(Clone, Copy, Debug, Drop)]
+#[derive(Clone, Copy, Drop)]
 pub struct OpenGate;
 
 impl Gate for OpenGate {

@@ -10,7 +10,7 @@ use mp_wave::{Wave, WaveChanges};
 use std::alloc::{AllocError, Global};
 
 /// How many events a wire has in a column.
-#[derive(Clone, Copy, Debug, PartialEq, Eq)]
+#[derive(Clone, Copy, PartialEq, Eq)]
 pub enum ColumnEvents {
     None,
     One,
@@ -18,7 +18,7 @@ pub enum ColumnEvents {
 }
 
 /// What a wire does in a column: its events, and its level at the column's last unit.
-#[derive(Clone, Copy, Debug, PartialEq, Eq)]
+#[derive(Clone, Copy, PartialEq, Eq)]
 pub struct ColumnCell {
     pub events: ColumnEvents,
     pub level: u64,

@@ -4,7 +4,7 @@ ghost use Rattle.std.specs.Prelude.{◌<◌};
 use crate::round::units_of;
 
 /// A range of units, cut into columns that have the same number of units; the last one may have fewer.
-#[derive(Clone, Copy, Debug)]
+#[derive(Clone, Copy)]
 pub struct Columns {
     /// The first unit of the range.
     pub from: u32,

@@ -8,7 +8,7 @@ use mp_netlist::{ModuleId, ModuleRecord, Netlist};
 use mp_streams::{Failed, Out, Sink, Text};
 
 /// The place at which an edge meets a module.
-#[derive(Clone, Copy, Debug, PartialEq, Eq)]
+#[derive(Clone, Copy, PartialEq, Eq)]
 pub(crate) enum EdgePort {
     /// Anywhere, since the ports of its kind don't differ.
     Whole,

@@ -12,7 +12,7 @@ use mp_streams::{Out, Sink, WriteError};
 use std::alloc::AllocError;
 
 /// The lines of a graph, of one sort each.
-#[derive(Clone, Copy, Debug, PartialEq, Eq)]
+#[derive(Clone, Copy, PartialEq, Eq)]
 pub enum GraphSection {
     Modules,
     Wires,

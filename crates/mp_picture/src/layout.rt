@@ -5,7 +5,7 @@ use crate::numerals::Numerals;
 
 /// The columns of a picture, the characters that it is drawn with, how its levels are written, and the width of the names before its columns, in
 /// characters.
-#[derive(Clone, Copy, Debug)]
+#[derive(Clone, Copy)]
 pub struct DiagramLayout {
     pub columns: Columns,
     pub charset: Charset,

@@ -5,14 +5,14 @@ ghost use Rattle.mp_picture.specs.Marks.{level_mark};
 use crate::cell::{ColumnCell, ColumnEvents};
 
 /// The characters that a picture is drawn with: blocks and lines of Unicode, in UTF-8, or those of ASCII.
-#[derive(Clone, Copy, Debug, PartialEq, Eq)]
+#[derive(Clone, Copy, PartialEq, Eq)]
 pub enum Charset {
     Unicode,
     Ascii,
 }
 
 /// The content of a column in a wire's row.
-#[derive(Clone, Copy, Debug, PartialEq, Eq)]
+#[derive(Clone, Copy, PartialEq, Eq)]
 pub(crate) enum Mark {
     Low,
     High,

@@ -3,7 +3,7 @@ ghost use Rattle.std.specs.Prelude.{◌≡◌};
 ghost use Rattle.mp_picture.specs.Levels.{base_of, prefix_of};
 
 /// How levels are written: in decimal digits, or in hex digits behind `0x`.
-#[derive(Clone, Copy, Debug, PartialEq, Eq)]
+#[derive(Clone, Copy, PartialEq, Eq)]
 pub enum Numerals {
     Decimal,
     Hex,

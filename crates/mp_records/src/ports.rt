@@ -8,7 +8,7 @@ use std::alloc::AllocError;
 use std::marker::Model;
 
 /// An input port: the wire that it reads, and its transport delay in units. A level of the wire reaches the module later by that delay.
-#[derive(Clone, Copy, Debug, Default, PartialEq, Eq)]
+#[derive(Clone, Copy, Default, PartialEq, Eq)]
 pub struct Input {
     pub wire: WireId,
     pub delay: u32,
@@ -76,7 +76,7 @@ impl Inputs {
 }
 
 /// An output port: the wire that it drives, if any, and its transport delay in units.
-#[derive(Clone, Copy, Debug, Default, PartialEq, Eq)]
+#[derive(Clone, Copy, Default, PartialEq, Eq)]
 pub struct Output {
     pub wire: Option<WireId>,
     pub delay: u32,

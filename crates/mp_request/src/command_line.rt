@@ -2,7 +2,7 @@
 use crate::request::Request;
 
 /// What the command line asks for.
-#[derive(Debug, Drop)]
+#[derive(Drop)]
 pub enum CommandLine<'a> {
     /// Explain the word, or list all that can be explained if there is none.
     Explain(Option<&'a str>),

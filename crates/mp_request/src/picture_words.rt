@@ -1,7 +1,7 @@
 //! The options of a timing diagram.
 
 /// The options of a timing diagram, as they were given.
-#[derive(Debug, Drop)]
+#[derive(Drop)]
 pub struct PictureWords<'a> {
     /// The names of the wires to show; none for all wires. If causes are drawn, the wire that they lead to comes first.
     pub wires: Vec<&'a str>,

@@ -3,7 +3,7 @@ use crate::picture_words::PictureWords;
 use std::slice;
 
 /// A command, with the arguments that only it has.
-#[derive(Debug, Drop)]
+#[derive(Drop)]
 pub enum Command<'a> {
     /// Write the wave of each wire.
     Waves,
@@ -51,7 +51,7 @@ pub enum Command<'a> {
 }
 
 /// A command with its input and its numbers. The numbers are as they were given; a run reports those that are out of range.
-#[derive(Debug, Drop)]
+#[derive(Drop)]
 pub struct Request<'a> {
     /// The command.
     pub command: Command<'a>,

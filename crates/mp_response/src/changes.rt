@@ -4,7 +4,7 @@ use std::alloc::{AllocError, Global};
 use std::marker::Model;
 
 /// Pairs of a time and the level from then on.
-#[derive(Debug, Drop)]
+#[derive(Drop)]
 pub struct Changes {
     items: Vec<(u32, u64)>,
 }

@@ -5,7 +5,7 @@ use std::alloc::{AllocError, Global};
 use std::marker::Model;
 
 /// Pairs of a time and a code that was found then.
-#[derive(Debug, Drop)]
+#[derive(Drop)]
 pub struct Findings {
     items: Vec<(u32, FindingCode)>,
 }

@@ -3,7 +3,7 @@
 use crate::changes::Changes;
 
 /// The level of an input at the first time of a span, and its changes at the times after that and before the span's end.
-#[derive(Debug, Drop)]
+#[derive(Drop)]
 pub struct InPiece {
     pub at_from: u64,
     pub changes: Changes,

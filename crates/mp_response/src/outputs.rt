@@ -6,7 +6,7 @@ use std::alloc::{AllocError, Global};
 use std::marker::Model;
 
 /// The changes of each output, by port. They are kept in place, without a block of memory of their own.
-#[derive(Debug, Drop)]
+#[derive(Drop)]
 pub struct Outputs {
     count: usize,
     places: [Changes; MOST_OUTPUTS],

@@ -7,7 +7,7 @@ use std::alloc::{AllocError, Global};
 
 /// The last state of a module in a span of time, the changes of its outputs in it before their delays, with the level at time 0 as the first if the
 /// span begins there, and what was found, by time and then by the codes' numbers.
-#[derive(Debug, Drop)]
+#[derive(Drop)]
 pub struct Piece {
     pub memory: Memory,
     pub outputs: Outputs,

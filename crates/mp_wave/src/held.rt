@@ -12,7 +12,7 @@ const LONG: u64 = 4_294_967_296;
 
 /// The changes of a level: the times at which a level of 0 or 1 toggles, or pairs of a time and a level, in the shortest form in which all levels
 /// fit.
-#[derive(Debug, Drop)]
+#[derive(Drop)]
 pub(crate) enum Held {
     Toggles(Vec<u32>),
     ShortPairs(Vec<(u32, u32)>),

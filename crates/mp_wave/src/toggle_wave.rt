@@ -12,7 +12,7 @@ const FIRST_TIMES: usize = 6;
 const NEXT_TIMES: usize = 16;
 
 /// The wave of a wire of width 1: its level at time 0, and the times at which it toggles, by rising time from 1. Contracts see the wave.
-#[derive(Debug, Drop)]
+#[derive(Drop)]
 pub struct ToggleWave {
     initial: u64,
     times: Vec<u32>,

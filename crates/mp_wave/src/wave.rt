@@ -12,7 +12,7 @@ use std::marker::Model;
 
 /// The level of a wire at time 0, and its changes: pairs of a time and the level from then on, by rising time from 1, each level other than the one
 /// before it.
-#[derive(Debug, Drop)]
+#[derive(Drop)]
 pub struct Wave {
     initial: u64,
     held: Held,

@@ -7,7 +7,7 @@ use std::alloc::{AllocError, Global};
 use std::marker::Model;
 
 /// Builds a wave from levels by rising time, each of which is held until the next one.
-#[derive(Debug, Drop)]
+#[derive(Drop)]
 pub struct WaveBuilder {
     wave: Wave,
     level: u64,

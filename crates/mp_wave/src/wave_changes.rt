@@ -6,7 +6,7 @@ use crate::pairs::{long_pairs, pairs_of};
 use std::alloc::{AllocError, Global};
 
 /// Changes by rising time, each a time and the level from then on: an iterator over these pairs, which copies nothing.
-#[derive(Clone, Copy, Debug)]
+#[derive(Clone, Copy)]
 pub enum WaveChanges<'a> {
     /// The level before them, and the times at which it toggles: from 0 to 1, and otherwise to 0.
     Toggles { level: u64, times: &'a [u32] },

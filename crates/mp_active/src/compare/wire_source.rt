@@ -5,7 +5,7 @@ use mp_kernel::NEVER;
 
 /// The source of a wire's levels. From a time on they are those of the old run: that is `NEVER` while an active module drives the wire, or if its
 /// stimulus has changed, and 0 if the wave is that of the old run. Whether the simulation has the levels of the wire, which is then on.
-#[derive(Clone, Copy, Debug)]
+#[derive(Clone, Copy)]
 pub struct WireSource {
     pub until: u32,
     pub is_on: bool,

@@ -2,7 +2,7 @@
 use mp_netlist::ModuleId;
 
 /// A module that is evaluated again, from one time to before another, in units.
-#[derive(Clone, Copy, Debug, PartialEq, Eq)]
+#[derive(Clone, Copy, PartialEq, Eq)]
 pub struct WorkEntry {
     pub module: ModuleId,
     pub from: u32,

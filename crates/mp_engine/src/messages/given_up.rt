@@ -3,7 +3,7 @@
 use std::alloc::AllocError;
 
 /// The reason why a partition gives up: it ran out of memory, or a partition at the other end of one of its lines gave up before.
-#[derive(Clone, Copy, Debug, PartialEq, Eq)]
+#[derive(Clone, Copy, PartialEq, Eq)]
 pub enum GivenUp {
     NoMemory,
     LineClosed,

@@ -7,7 +7,7 @@ use crate::storage::reg::Reg;
 use crate::{CoreModule, EventModule, FindingSet, Kind, Memory, Rendezvous, level_at};
 
 /// An event module of any kind, with its parameters and its width.
-#[derive(Clone, Copy, Debug, PartialEq, Eq)]
+#[derive(Clone, Copy, PartialEq, Eq)]
 pub enum AnyModule {
     Core(CoreModule),
     Reg(Reg),

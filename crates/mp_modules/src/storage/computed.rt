@@ -2,7 +2,7 @@
 use crate::{EventModule, FindingSet, Kind, Memory, level_at};
 
 /// A module that holds nothing: its output depends only on its input levels. Sums are modulo two to the power of the width, which is at most 64 bits.
-#[derive(Clone, Copy, Debug, PartialEq, Eq)]
+#[derive(Clone, Copy, PartialEq, Eq)]
 pub enum Computed {
     /// Adds a constant to the input.
     AddC { addend: u64, width: u32 },

@@ -5,7 +5,7 @@ use crate::{EventModule, FindingCode, FindingSet, Memory, level_at};
 
 /// A register, which holds its data from a capture to a pass (Sutherland 1989, event-controlled storage). It is made from its output
 /// before time 0.
-#[derive(Clone, Copy, Debug, PartialEq, Eq)]
+#[derive(Clone, Copy, PartialEq, Eq)]
 pub struct Reg {
     pub initial: u64,
 }

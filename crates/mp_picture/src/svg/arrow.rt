@@ -2,7 +2,7 @@
 use mp_netlist::WireId;
 
 /// A wire at a time.
-#[derive(Clone, Copy, Debug, PartialEq, Eq)]
+#[derive(Clone, Copy, PartialEq, Eq)]
 pub struct WirePoint {
     pub wire: WireId,
     /// In units from 0.
@@ -10,7 +10,7 @@ pub struct WirePoint {
 }
 
 /// An arrow from a wire at a time to another, as from a cause to its effect.
-#[derive(Clone, Copy, Debug, PartialEq, Eq)]
+#[derive(Clone, Copy, PartialEq, Eq)]
 pub struct Arrow {
     pub from: WirePoint,
     pub to: WirePoint,

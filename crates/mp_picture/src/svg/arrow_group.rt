@@ -23,7 +23,7 @@ const START: &str = "<style>\
 <g class=\"causes\">";
 
 /// A point of an SVG.
-#[derive(Clone, Copy, Debug)]
+#[derive(Clone, Copy)]
 pub(crate) struct Spot {
     x: u64,
     y: u64,

@@ -4,7 +4,7 @@ use crate::{Columns, Numerals, last_tick, tick_step};
 use itoa::Buffer;
 
 /// The columns of an SVG, from a point on, and how its levels are written.
-#[derive(Clone, Copy, Debug)]
+#[derive(Clone, Copy)]
 pub(crate) struct Frame {
     pub(crate) left: u32,
     pub(crate) columns: Columns,

@@ -3,7 +3,7 @@ use crate::Numerals;
 
 /// The row of a wire in an SVG. Rows are counted from 0. Its columns begin at the point `left` of the SVG and have `units` units of time each. Levels
 /// are written in these numerals.
-#[derive(Clone, Copy, Debug)]
+#[derive(Clone, Copy)]
 pub struct Lane {
     pub left: u32,
     pub row: u32,

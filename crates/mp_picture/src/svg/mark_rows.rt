@@ -10,7 +10,7 @@ use mp_modules::FindingCode;
 use std::alloc::{AllocError, Global};
 
 /// A row of a picture: a code that is found at a place, and the column of its last finding there.
-#[derive(Clone, Copy, Debug)]
+#[derive(Clone, Copy)]
 pub(crate) struct MarkRow {
     pub(crate) place: Place,
     pub(crate) code: FindingCode,

@@ -18,7 +18,7 @@ use mp_netlist::Netlist;
 use std::alloc::{AllocError, Global};
 
 /// An event of an input, and the change of the module's output that it led to.
-#[derive(Clone, Copy, Debug, PartialEq, Eq)]
+#[derive(Clone, Copy, PartialEq, Eq)]
 pub struct CauseLink {
     pub cause: WireChange,
     pub effect: WireChange,

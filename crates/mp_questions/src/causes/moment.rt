@@ -2,7 +2,7 @@
 use mp_netlist::WireId;
 
 /// A wire and a time, as a question gives them. A time at or above the horizon is read as the horizon's last unit.
-#[derive(Clone, Copy, Debug, PartialEq, Eq)]
+#[derive(Clone, Copy, PartialEq, Eq)]
 pub struct Moment {
     pub wire: WireId,
     /// In units from 0.

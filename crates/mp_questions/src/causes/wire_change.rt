@@ -2,7 +2,7 @@
 use mp_netlist::WireId;
 
 /// A change of a wire: its time, and its level from then on.
-#[derive(Clone, Copy, Debug, Default, PartialEq, Eq)]
+#[derive(Clone, Copy, Default, PartialEq, Eq)]
 pub struct WireChange {
     pub wire: WireId,
     /// In units from 0.

@@ -2,7 +2,7 @@
 use mp_netlist::BundleId;
 
 /// A change of a bundle's data that is late.
-#[derive(Clone, Copy, Debug, PartialEq, Eq)]
+#[derive(Clone, Copy, PartialEq, Eq)]
 pub struct Late {
     /// When the data change, in units from 0.
     pub time: u32,

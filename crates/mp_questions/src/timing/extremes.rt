@@ -3,7 +3,7 @@ ghost use Rattle.std.specs.Prelude.{◌≡◌};
 ghost use Rattle.mp_questions.specs.timing.Extremes.{widened, widened_by};
 
 /// The least and the greatest of some numbers of units.
-#[derive(Clone, Copy, Debug, PartialEq, Eq)]
+#[derive(Clone, Copy, PartialEq, Eq)]
 pub struct Extremes {
     pub least: u32,
     pub most: u32,

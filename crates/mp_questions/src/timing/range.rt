@@ -2,7 +2,7 @@
 
 /// The times from one to before another, as a question gives them. A time at or above the horizon is read as the last unit, or as the horizon if it
 /// ends the range. The range is empty if its first time is then not below its end.
-#[derive(Clone, Copy, Debug, PartialEq, Eq)]
+#[derive(Clone, Copy, PartialEq, Eq)]
 pub struct TimeRange {
     /// The first time.
     pub from: u64,

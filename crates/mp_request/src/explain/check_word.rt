@@ -3,7 +3,7 @@ ghost use Rattle.std.specs.Prelude.{◌≡◌};
 ghost use Rattle.mp_request.specs.explain.CheckWords.{word_of};
 
 /// What a line of `check` reports that isn't a finding. The last three are notes on wires.
-#[derive(Clone, Copy, Debug, PartialEq, Eq)]
+#[derive(Clone, Copy, PartialEq, Eq)]
 pub enum CheckWord {
     /// Data of a bundle come after their request.
     Late,

@@ -10,7 +10,7 @@ use mp_streams::{Failed, Out, Sink, Text};
 /// The text has sections: a heading indented by two blanks, and lines indented by four. For a code these are its meaning (a line for each case, which
 /// continues at six blanks), an example with its answer, and a remedy. For a kind they are its parameters, its ports, its table, its findings, and an
 /// example.
-#[derive(Clone, Copy, Debug)]
+#[derive(Clone, Copy)]
 pub struct Entry {
     pub subject: Topic,
     /// The text after the title, from the line feed on.

@@ -3,7 +3,7 @@ ghost use Rattle.std.specs.Prelude.{◌≡◌};
 ghost use Rattle.mp_request.specs.explain.SeatCodes.{name_of, number_of};
 
 /// The reason why a line is refused at a seat of a live desk, and nowhere else.
-#[derive(Clone, Copy, Debug, PartialEq, Eq)]
+#[derive(Clone, Copy, PartialEq, Eq)]
 pub enum SeatCode {
     /// Only designers can edit.
     NotADesigner,

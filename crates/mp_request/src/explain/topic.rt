@@ -12,7 +12,7 @@ use mp_streams::{Failed, Out, Sink, Text};
 use mp_text::TextCode;
 
 /// What can be explained: a code or a word of the program's answers, or a kind of module.
-#[derive(Clone, Copy, Debug, PartialEq, Eq)]
+#[derive(Clone, Copy, PartialEq, Eq)]
 pub enum Topic {
     /// A fault of a netlist's text or of a line of a script.
     Text(TextCode),
