@@ -51,9 +51,11 @@ fn run_again<R: Threads + Wait + Sync, G: Gate + Sync>(
 {
     let mut rerun = Rerun::begin(context.alloc, change)?;
     rerun.enter_window(context.rt, context.gate, change, 0);
-    let end = rerun.pass_all(context, change)?;
-    let both = rerun.finish(context.alloc, change, end)?;
-    Ok(both)
+    let Ok(end) = rerun.pass_all(context, change) else {
+        drop(rerun);
+        return Err(AllocError);
+    };
+    rerun.finish(context.alloc, change, end)
 }
 
 /// The change from a netlist with this run to a new netlist.

@@ -1,53 +1,13 @@
-use Rattle.std.proofs.Common.{◌≡◌, ℕ, List, ap, sym, subst, ◌∙◌}
-use Rattle.mp_netlist.specs.Circuit.{Circuit}
-use Rattle.mp_partition.specs.runs.Runs.{IsRun}
-use Rattle.mp_depend.specs.work.Revisions.{IsRevision}
-use Rattle.mp_depend.specs.work.WorkSpans.{AreWorkSpans}
-use Rattle.mp_depend.specs.work.Work.{IsEntry}
-use Rattle.mp_phase.specs.Allowed.{IsAllowed}
+use Rattle.std.proofs.Common.{ℕ, List, ap, ◌∙◌}
 use Rattle.mp_redo.specs.apart.Parts.{part_of}
-use Rattle.mp_redo.proofs.lemmas.apart.PartWorkLemmas.{parts_are_revisions}
-use Rattle.mp_redo.specs.parts.Changes.{homes_in, new_part, old_part}
-use Rattle.mp_redo.proofs.lemmas.parts.AllowedLemmas.{part_allowed}
 use Rattle.mp_redo.proofs.parts.changed_part.ChangedPart.redo.Goals as goal
 
-pub redo-requires-clause-revision : goal.redo-requires-clause-revision
-redo-requires-clause-revision g c = λ asked lives.
+pub redo_between-requires-clause-old : goal.redo_between-requires-clause-old
+redo_between-requires-clause-old g c =
     let change = c.args.self.change in
-    let k = c.args.self.number in
-    let homes = c.as_slice-homes.ensures.value in
-    let old : c.in_ok-old.old ≡ old_part change k = c.in_ok-old.ensures ∙ ap (λ (hs : List ℕ). part_of change.old.now hs k) homes in
-    let new : c.in_ok-new.new ≡ new_part change k = c.in_ok-new.ensures ∙ ap (λ (hs : List ℕ). part_of change.new.now hs k) homes in
-    subst (λ (n : Circuit). IsRevision n c.in_ok-new.new) (sym old) (subst (λ (n : Circuit). IsRevision (old_part change k) n) (sym new)
-    (parts_are_revisions change.old.now change.new.now c.requires.change.revision (homes_in change) k))
+    c.in_ok-old.ensures ∙ ap (λ (hs : List ℕ). part_of change.old.now hs c.args.self.number) c.as_slice-homes.ensures.value
 
-pub redo-requires-clause-run : goal.redo-requires-clause-run
-redo-requires-clause-run g c = λ asked lives.
+pub redo_between-requires-clause-new : goal.redo_between-requires-clause-new
+redo_between-requires-clause-new g c =
     let change = c.args.self.change in
-    let k = c.args.self.number in
-    let old : c.in_ok-old.old ≡ old_part change k = c.in_ok-old.ensures ∙ ap (λ (hs : List ℕ). part_of change.old.now hs k) c.as_slice-homes.ensures.value in
-    subst (λ (n : Circuit). IsRun n c.in_ok-before.before) (sym old) c.in_ok-before.ensures
-
-pub redo-requires-clause-allowed : goal.redo-requires-clause-allowed
-redo-requires-clause-allowed g c = λ asked lives.
-    let change = c.args.self.change in
-    let k = c.args.self.number in
-    let may = g.G.Gate.may c.args.gate.now in
-    let homes = c.as_slice-homes.ensures.value in
-    let old : c.in_ok-old.old ≡ old_part change k = c.in_ok-old.ensures ∙ ap (λ (hs : List ℕ). part_of change.old.now hs k) homes in
-    let new : c.in_ok-new.new ≡ new_part change k = c.in_ok-new.ensures ∙ ap (λ (hs : List ℕ). part_of change.new.now hs k) homes in
-    subst (λ (n : Circuit). IsAllowed (IsEntry n c.in_ok-new.new) may) (sym old) (subst (λ (n : Circuit). IsAllowed (IsEntry (old_part change k) n) may) (sym new)
-    (part_allowed change c.requires.change k c.requires.part may c.requires.allowed))
-
-pub returns : goal.returns
-returns g c =
-    let change = c.args.self.change in
-    let k = c.args.self.number in
-    let homes = c.as_slice-homes.ensures.value in
-    let old : c.in_ok-old.old ≡ old_part change k = c.in_ok-old.ensures ∙ ap (λ (hs : List ℕ). part_of change.old.now hs k) homes in
-    let new : c.in_ok-new.new ≡ new_part change k = c.in_ok-new.ensures ∙ ap (λ (hs : List ℕ). part_of change.new.now hs k) homes in
-    record {
-      run = subst (λ (n : Circuit). IsRun n c.in_ok-run.run') new c.in_ok-run.ensures.run;
-      work_spans = subst (λ (n : Circuit). AreWorkSpans n (new_part change k) c.in_ok-run.work_spans.items) old
-          (subst (λ (n : Circuit). AreWorkSpans c.in_ok-old.old n c.in_ok-run.work_spans.items) new c.in_ok-run.ensures.work_spans);
-    }
+    c.in-Ok.ensures ∙ ap (λ (hs : List ℕ). part_of change.new.now hs c.args.self.number) c.as_slice-homes.ensures.value
