@@ -6,6 +6,9 @@ use Rattle.mp_partition.specs.regions.Regions.{region}
 use Rattle.mp_partition.specs.regions.Divisions.{heard_by, IsCrossing, IsDivision}
 use Rattle.mp_partition.specs.declared.merging.part_run.PartRun.{PartRun}
 use Rattle.mp_partition.specs.merging.PartRuns.{IsPartRun, AreRuns}
+use Rattle.mp_partition.specs.runs.Marks.{is_marked}
+use Rattle.mp_engine.specs.declared.region_runs.region_run.RegionRun.{RegionRun}
+use Rattle.mp_engine.specs.region_runs.RegionRuns.{IsUnderWay}
 use Rattle.mp_engine.specs.declared.messages.message.Subject.{Ghosts}
 use Rattle.mp_engine.specs.declared.messages.channels.Channels.{Channels}
 use Rattle.mp_engine.specs.declared.part_of.PartOf.{PartOf}
@@ -28,9 +31,17 @@ module _ {J : Type 0} {subject : Ghosts J} where
   abbrev pub IsMailOf : Circuit → List ℕ → List (List Bool) → PartOf → Channels J subject → Type 0
   IsMailOf n wires heards it channels = IsPartOf n wires heards it × (channels.part ≡ it.part)
 
+-- the netlist of the part
+abbrev pub netlist_of : PartOf → Circuit
+netlist_of it = region it.netlist.now it.division.now.homes.items it.part (heard_by it.division.now.heard.items it.part)
+
+-- its run on the way: the unit t is over, and what is heard before a time is known
+abbrev pub IsRunAt : PartOf → ℕ → ℕ → RegionRun → Type 0
+IsRunAt it t until run = IsUnderWay (netlist_of it) it.keeps (is_marked (heard_by it.division.now.heard.items it.part)) t until run
+
 -- the run of the part
 abbrev pub IsRunOf : PartOf → PartRun → Type 0
-IsRunOf it run = IsPartRun (region it.netlist.now it.division.now.homes.items it.part (heard_by it.division.now.heard.items it.part)) it.keeps run
+IsRunOf it run = IsPartRun (netlist_of it) it.keeps run
 
 -- what all parts give, of which this is one
 abbrev pub ArePartRuns : PartOf → List PartRun → Type 0

@@ -38,9 +38,9 @@ impl<'a> Promise<Result<PartRun, GivenUp>> for PartOf<'a> {
 }
 
 impl<'a> PartOf<'a> {
-    ghost use Rattle.std.specs.Prelude.{IfOk};
+    ghost use Rattle.std.specs.Prelude.{◌-◌, IfOk, OnOk};
     ghost use Rattle.mp_phase.specs.Allowed.{IsOpen};
-    ghost use Rattle.mp_engine.specs.PartsOf.{IsMailOf, IsRunOf};
+    ghost use Rattle.mp_engine.specs.PartsOf.{IsMailOf, IsRunAt, IsRunOf};
 
     /// Runs it up to the horizon, window by window. The changes of its inbound wires come by its lines.
     pub(crate) fn run<J: Subject, R: Wait, G: Gate>(
@@ -48,7 +48,7 @@ impl<'a> PartOf<'a> {
         rt: &R,
         alloc: Global,
         gate: &G,
-        mut channels: Channels<J>,
+        channels: Channels<J>,
     ) -> Result<PartRun, GivenUp>
         requires open { IsOpen (G.may gate.now) }
         requires channels { IsMailOf J.netlist J.wires J.heards self channels }
@@ -59,14 +59,48 @@ impl<'a> PartOf<'a> {
             division,
             part,
             keeps,
+            ..
+        } = self;
+        let _horizon = netlist.horizon();
+        let mut channels = channels;
+        let heard = heard_by(division.heard.as_slice(), part);
+        let region = Region::new(netlist, division.homes.as_slice(), part, heard);
+        let mut run = RegionRun::begin(rt, alloc, netlist, &region, gate, keeps)?;
+        match self.run_windows(rt, alloc, gate, &mut channels, &mut run) {
+            Ok(()) => Ok(run.finish(alloc, &region)?),
+            Err(cause) => {
+                drop(run);
+                Err(cause)
+            }
+        }
+    }
+
+    /// Runs all its units after time 0, which is over.
+    fn run_windows<J: Subject, R: Wait, G: Gate>(
+        self,
+        rt: &R,
+        alloc: Global,
+        gate: &G,
+        channels: &mut Channels<J>,
+        run: &mut RegionRun,
+    ) -> Result<(), GivenUp>
+        requires open { IsOpen (G.may gate.now) }
+        requires channels { IsMailOf J.netlist J.wires J.heards self channels.old }
+        requires begun { IsRunAt self 0 1 run.old }
+        ensures { OnOk result (IsRunAt self.entry (self.entry.netlist.now.horizon - 1) self.entry.netlist.now.horizon run.new) }
+    {
+        let PartOf {
+            netlist,
+            division,
+            part,
             progress,
+            ..
         } = self;
         let horizon = netlist.horizon();
         let stretch = stretch_of(progress, netlist);
         let span = division.delay.min(stretch);
         let heard = heard_by(division.heard.as_slice(), part);
         let region = Region::new(netlist, division.homes.as_slice(), part, heard);
-        let mut run = RegionRun::begin(rt, alloc, netlist, &region, gate, keeps)?;
         let mut progress = PartProgress::new(self, stretch);
         let mut from = 1;
         while from < horizon {
@@ -75,10 +109,9 @@ impl<'a> PartOf<'a> {
             channels.send(rt, alloc, division, &run.simulation, window)?;
             run.receive(channels.receive(rt, alloc, window)?);
             run.run_units(rt, &region, gate, from, until)?;
-            progress.pass(alloc, &run, until);
+            progress.pass(alloc, run, until);
             from = until;
         }
-        let done = run.finish(alloc, &region)?;
-        Ok(done)
+        Ok(())
     }
 }

@@ -41,8 +41,12 @@ pub(crate) fn run_quiet<R: Wait, G: Gate>(
         count: least as usize,
         units: delay,
     };
-    look_at(&mut run, rt, &region, gate, &mut looks, pace)?;
+    let Ok(()) = look_at(&mut run, rt, &region, gate, &mut looks, pace) else {
+        drop(run);
+        return Err(AllocError);
+    };
     if looks.see(pace) {
+        drop(run);
         return Ok(None);
     }
     let run = run_to_end(rt, alloc, &region, gate, run, looks.to)?;

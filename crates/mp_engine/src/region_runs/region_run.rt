@@ -4,6 +4,7 @@ ghost use Rattle.std.specs.Arc.{arc_value};
 ghost use Rattle.mp_netlist.specs.Circuit.{IsCircuit, module_at};
 ghost use Rattle.mp_records.specs.declared.module_record.ModuleRecord.{ModuleRecord as LonePart};
 ghost use Rattle.mp_simulation.specs.units.NetlistSimulations.{IsSimulated};
+ghost use Rattle.mp_phase.specs.Allowed.{IsOpen};
 ghost use Rattle.mp_partition.specs.runs.Outcomes.{AreSlots};
 ghost use Rattle.mp_partition.specs.runs.Runs.{end_memory};
 ghost use Rattle.mp_model.specs.Waves.{AreWavesOf};
@@ -56,13 +57,12 @@ impl RegionRun {
             IsUnderWay region.now keeps (is_marked heard) 0 until run) }
     {
         let _horizon = region.horizon();
-        let modules = all_modules(alloc, region)?;
-        pass_gate(rt, gate, modules.as_slice(), 0);
+        pass_all(rt, alloc, region, gate)?;
         Ok(RegionRun {
-            simulation: begin(alloc, region)?,
+            history: first_history(alloc, region, keeps)?,
             stimuli: Stimuli::of(alloc, netlist)?,
             heard: HeardChanges::of(Vec::new(alloc)),
-            history: first_history(alloc, region, keeps)?,
+            simulation: begin(alloc, region)?,
         })
     }
 
@@ -146,10 +146,12 @@ impl RegionRun {
                 kept: Vec::new(alloc),
             });
         };
-        let StateHistory { kept, .. } = history;
-        let ends = end_memories(alloc, region, &simulation)?;
-        let kept = shared_checkpoints(alloc, region, kept)?;
+        let Ok(ends) = end_memories(alloc, region, &simulation) else {
+            drop(simulation);
+            return Err(AllocError);
+        };
         let waves = all_waves(alloc, region, simulation)?;
+        let kept = shared_checkpoints(alloc, region, history.kept)?;
         Ok(PartRun { waves, ends, kept })
     }
 }
@@ -213,6 +215,20 @@ fn all_waves(
 {
     let waves = Waves::of_all(alloc, found_waves(alloc, region, simulation)?)?;
     Ok(waves)
+}
+
+/// All modules of the partition pass the gate for time 0.
+fn pass_all<R: Wait, G: Gate>(
+    rt: &R,
+    alloc: Global,
+    region: &Region<'_>,
+    gate: &G,
+) -> Result<(), AllocError>
+    requires open { IsOpen (G.may gate.now) }
+{
+    let modules = all_modules(alloc, region)?;
+    pass_gate(rt, gate, modules.as_slice(), 0);
+    Ok(())
 }
 
 /// The modules of the partition, by number.

@@ -71,7 +71,10 @@ fn finished(
     let mut from = from;
     while from < horizon {
         let to = from.saturating_add(stretch).min(horizon);
-        run.run_units(netlist, from, to)?;
+        let Ok(()) = run.run_units(netlist, from, to) else {
+            drop(run);
+            return Err(AllocError);
+        };
         if let Some(progress) = progress {
             progress.write_line(alloc, u64::from(to), horizon, run.count_changes() as u64);
         }

@@ -22,16 +22,16 @@ look_at-requires-clause-before g c =
     })
 
 pub run_to_end-requires-clause-later : goal.run_to_end-requires-clause-later
-run_to_end-requires-clause-later g c = c.in_ok-look_at.ensures.some
+run_to_end-requires-clause-later g c = c.in-Ok.ensures.some
 
 pub run_to_end-requires-clause-within : goal.run_to_end-requires-clause-within
-run_to_end-requires-clause-within g c = c.in_ok-look_at.ensures.within
+run_to_end-requires-clause-within g c = c.in-Ok.ensures.within
 
 pub run_to_end-requires-clause-before : goal.run_to_end-requires-clause-before
-run_to_end-requires-clause-before g c = record { keeps = true; is_heard = is_marked []; is = c.in_ok-look_at.ensures.over }
+run_to_end-requires-clause-before g c = record { keeps = true; is_heard = is_marked []; is = c.in-Ok.ensures.over }
 
 pub returns : goal.returns
 returns g c =
     let n = c.args.netlist.now in
     let found = c.in_ok-run-2.run' in
-    c.run_of.ensures n c.horizon-horizon.ensures.value (subst (λ (m : Circuit). IsPartRun m true found) c.whole-region.ensures (c.in_ok-run-2.ensures true c.in_ok-look_at.ensures.over))
+    c.run_of.ensures n c.horizon-horizon.ensures.value (subst (λ (m : Circuit). IsPartRun m true found) c.whole-region.ensures (c.in_ok-run-2.ensures true c.in-Ok.ensures.over))

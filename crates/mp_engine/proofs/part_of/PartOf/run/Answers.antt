@@ -23,8 +23,8 @@ new-region-requires g c m p w drives home =
     ∙ divided_apart c.args.self.netlist.now division.homes.items division.wires.items division.heard.items division.parts part c.requires.channels.0.division m p w drives
     (ap (λ (hs : List ℕ). partition_of hs m) (sym c.as_slice-2.ensures.value) ∙ home)
 
-pub loop-from-init : goal.loop-from-init
-loop-from-init g c =
+pub run_windows-requires-clause-begun : goal.run_windows-requires-clause-begun
+run_windows-requires-clause-begun g c =
     let n = c.args.self.netlist.now in
     let part = c.args.self.part in
     let homes = c.args.self.division.now.homes.items in
@@ -33,130 +33,8 @@ loop-from-init g c =
     c.new-region.ensures ∙ ap (λ (hs : List ℕ). region n hs part c.heard_by-heard.result.now) c.as_slice-2.ensures.value
     ∙ ap (λ (marks : List Bool). region n homes part marks) (c.heard_by-heard.ensures ∙ ap (λ (hs : List (List Bool)). heard_by hs part) c.as_slice.ensures.value)
     in
-    let low = c.horizon-horizon.ensures.low in
-    record {
-      later = omega arith;
-      within = low;
-      horizon = c.horizon-horizon.ensures.value;
-      some = (let shorter = c.min-span.ensures in let stretch = c.stretch_of-stretch.ensures in let delay = c.requires.channels.0.crossing.some in omega (arith, shorter, stretch, delay));
-      span = (let shorter = c.min-span.ensures in omega (arith, shorter));
-      channels = c.requires.channels.1;
-      under_way = c.in_ok-run.ensures heard 1 (subst (λ (r : Circuit). HasStimuli n r heard) (sym here) (has_stimuli n homes part heard)) (λ w marked. (c.requires.channels.0.division.heard part w marked).unset) (λ w marked. omega arith);
-    }
-
-pub send-requires-clause-knows : goal.send-requires-clause-knows
-send-requires-clause-knows g c =
-    let n = c.args.self.netlist.now in
-    let part = c.args.self.part in
-    let homes = c.args.self.division.now.homes.items in
-    let heard = heard_by c.args.self.division.now.heard.items part in
-    let here : c.new-region.result ≡ region n homes part heard =
-    c.new-region.ensures ∙ ap (λ (hs : List ℕ). region n hs part c.heard_by-heard.result.now) c.as_slice-2.ensures.value
-    ∙ ap (λ (marks : List Bool). region n homes part marks) (c.heard_by-heard.ensures ∙ ap (λ (hs : List (List Bool)). heard_by hs part) c.as_slice.ensures.value)
-    in
-    let before = c.loop-from.invariant in
-    let later = before.later in
-    let horizon = before.horizon in
-    let span = before.span in
-    let low = c.loop-from-test.true in
-    let last = c.min-until.ensures in
-    let sum = c.saturating_add.ensures in
-    let high = c.horizon-horizon.type_inv in
-    let about = c.requires.channels.0 in
-    renamed about.netlist about.wires_are about.heards_are (sym before.channels) (λ m ws hs p. KnowsAhead m ws hs p (record { from = c.loop-from.from; until = c.min-until.result }) c.loop-from.run.simulation) (record {
-      homes = homes;
-      parts = c.args.self.division.now.parts;
-      form = c.horizon-horizon.ensures.form;
-      division = about.division;
-      before = c.loop-from.from - 1;
-      from = omega (arith, later);
-      delay = c.args.self.division.now.delay;
-      crossing = about.crossing;
-      some = omega (arith, low, last, sum, high);
-      short = omega (arith, last, sum, span);
-      within = omega (arith, last, horizon);
-      simulated = subst (λ (r : Circuit). IsSimulated r (c.loop-from.from - 1) c.loop-from.run.simulation) here before.under_way.simulated;
-    })
-
-pub run_units-requires-clause-before : goal.run_units-requires-clause-before
-run_units-requires-clause-before g c =
-    let n = c.args.self.netlist.now in
-    let part = c.args.self.part in
-    let homes = c.args.self.division.now.homes.items in
-    let heard = heard_by c.args.self.division.now.heard.items part in
-    let here : c.new-region.result ≡ region n homes part heard =
-    c.new-region.ensures ∙ ap (λ (hs : List ℕ). region n hs part c.heard_by-heard.result.now) c.as_slice-2.ensures.value
-    ∙ ap (λ (marks : List Bool). region n homes part marks) (c.heard_by-heard.ensures ∙ ap (λ (hs : List (List Bool)). heard_by hs part) c.as_slice.ensures.value)
-    in
-    let wires = c.args.self.division.now.wires.items in
-    let heards = c.args.self.division.now.heard.items in
-    let before = c.loop-from.invariant in
-    let from = c.loop-from.from in
-    let until = c.min-until.result in
-    let changes = c.in_ok-receive.field-0.items in
-    let bys = parts_of c.send.new.self.from.items in
-    let later = before.later in
-    let horizon = before.horizon in
-    let next : c.loop-from.from ≡ c.loop-from.from - 1 + 1 = omega (arith, later) in
-    let about = c.requires.channels.0 in
-    let once = renamed (sym about.netlist) (sym about.wires_are) (sym about.heards_are) (c.send.ensures.same.0 ∙ before.channels) (λ m ws hs p. IsToldOnce m ws (heard_by hs p) bys) c.send.new.self.once in
-    let told = renamed (sym about.netlist) (sym about.wires_are) (sym about.heards_are) (c.send.ensures.same.0 ∙ before.channels) (λ m ws hs p. AreTold m ws (heard_by hs p) bys (record { from = from; until = until }) changes) c.in_ok-receive.ensures.told in
-    let told_next = subst (λ k. AreTold n wires (heard_by heards part) bys (record { from = k; until = until }) changes) next told in
-    let low = c.min-until.ensures in
-    let tidings = tidings_are n c.horizon-horizon.ensures.form homes wires heards c.args.self.division.now.parts about.division part bys (from - 1) until changes (omega (arith, low, horizon)) once told_next in
-    let over = c.receive-in-loop-from.ensures c.new-region.result c.args.self.keeps (is_marked heard) (from - 1) until (subst (λ k. IsUnderWay c.new-region.result c.args.self.keeps (is_marked heard) (from - 1) k c.loop-from.run) next before.under_way)
-    (subst (λ (r : Circuit). AreTidings r (is_marked heard) (from - 1) until changes) (sym here) tidings) in
-    record { keeps = c.args.self.keeps; is_heard = is_marked heard; is = over }
-
-pub loop-from-preserved : goal.loop-from-preserved
-loop-from-preserved g c =
-    let n = c.args.self.netlist.now in
-    let part = c.args.self.part in
-    let homes = c.args.self.division.now.homes.items in
-    let heard = heard_by c.args.self.division.now.heard.items part in
-    let here : c.new-region.result ≡ region n homes part heard =
-    c.new-region.ensures ∙ ap (λ (hs : List ℕ). region n hs part c.heard_by-heard.result.now) c.as_slice-2.ensures.value
-    ∙ ap (λ (marks : List Bool). region n homes part marks) (c.heard_by-heard.ensures ∙ ap (λ (hs : List (List Bool)). heard_by hs part) c.as_slice.ensures.value)
-    in
-    let wires = c.args.self.division.now.wires.items in
-    let heards = c.args.self.division.now.heard.items in
-    let before = c.loop-from.invariant in
-    let from = c.loop-from.from in
-    let until = c.min-until.result in
-    let changes = c.in_ok-receive.field-0.items in
-    let bys = parts_of c.send.new.self.from.items in
-    let later = before.later in
-    let horizon = before.horizon in
-    let next : c.loop-from.from ≡ c.loop-from.from - 1 + 1 = omega (arith, later) in
-    let about = c.requires.channels.0 in
-    let once = renamed (sym about.netlist) (sym about.wires_are) (sym about.heards_are) (c.send.ensures.same.0 ∙ before.channels) (λ m ws hs p. IsToldOnce m ws (heard_by hs p) bys) c.send.new.self.once in
-    let told = renamed (sym about.netlist) (sym about.wires_are) (sym about.heards_are) (c.send.ensures.same.0 ∙ before.channels) (λ m ws hs p. AreTold m ws (heard_by hs p) bys (record { from = from; until = until }) changes) c.in_ok-receive.ensures.told in
-    let told_next = subst (λ k. AreTold n wires (heard_by heards part) bys (record { from = k; until = until }) changes) next told in
-    let low = c.min-until.ensures in
-    let tidings = tidings_are n c.horizon-horizon.ensures.form homes wires heards c.args.self.division.now.parts about.division part bys (from - 1) until changes (omega (arith, low, horizon)) once told_next in
-    let over = c.receive-in-loop-from.ensures c.new-region.result c.args.self.keeps (is_marked heard) (from - 1) until (subst (λ k. IsUnderWay c.new-region.result c.args.self.keeps (is_marked heard) (from - 1) k c.loop-from.run) next before.under_way)
-    (subst (λ (r : Circuit). AreTidings r (is_marked heard) (from - 1) until changes) (sym here) tidings) in
-    let sum = c.saturating_add.ensures in
-    let some = c.loop-from-test.true in
-    record {
-      later = omega (arith, later, low, sum, some);
-      within = omega (arith, low);
-      horizon = before.horizon;
-      some = before.some;
-      span = before.span;
-      channels = c.in_ok-receive.ensures.same.0 ∙ c.send.ensures.same.0 ∙ before.channels;
-      under_way = c.in_ok-run_units.ensures c.args.self.keeps (is_marked heard) until (omega arith) over;
-    }
-
-pub loop-from-smaller : goal.loop-from-smaller
-loop-from-smaller g c =
-    let before = c.loop-from.invariant in
-    let some = c.loop-from-test.true in
-    let low = c.min-until.ensures in
-    let sum = c.saturating_add.ensures in
-    let high = c.horizon-horizon.type_inv in
-    let step = before.some in
-    omega (arith, step, some, low, sum, high)
+    let begun = c.in_ok-run.ensures heard 1 (subst (λ (r : Circuit). HasStimuli n r heard) (sym here) (has_stimuli n homes part heard)) (λ w marked. (c.requires.channels.0.division.heard part w marked).unset) (λ w marked. omega arith) in
+    subst (λ (r : Circuit). IsUnderWay r c.args.self.keeps (is_marked heard) 0 1 c.in_ok-run.run') here begun
 
 pub finish-requires-clause-simulated : goal.finish-requires-clause-simulated
 finish-requires-clause-simulated g c =
@@ -168,11 +46,7 @@ finish-requires-clause-simulated g c =
     c.new-region.ensures ∙ ap (λ (hs : List ℕ). region n hs part c.heard_by-heard.result.now) c.as_slice-2.ensures.value
     ∙ ap (λ (marks : List Bool). region n homes part marks) (c.heard_by-heard.ensures ∙ ap (λ (hs : List (List Bool)). heard_by hs part) c.as_slice.ensures.value)
     in
-    let before = c.loop-from.invariant in
-    let within = before.within in
-    let past = c.loop-from-test.false in
-    let now : c.loop-from.from ≡ c.new-region.result.horizon = (let last : c.loop-from.from ≡ c.horizon-horizon.result = omega (arith, within, past) in last ∙ before.horizon ∙ sym (ap (λ (r : Circuit). r.horizon) here)) in
-    subst (λ k. IsSimulated c.new-region.result (k - 1) c.loop-from.run.simulation) now before.under_way.simulated
+    subst (λ (r : Circuit). IsSimulated r (r.horizon - 1) c.run_windows.new.run.simulation) (sym here) c.in-Ok.ensures.simulated
 
 pub finish-requires-clause-kept : goal.finish-requires-clause-kept
 finish-requires-clause-kept g c =
@@ -184,15 +58,11 @@ finish-requires-clause-kept g c =
     c.new-region.ensures ∙ ap (λ (hs : List ℕ). region n hs part c.heard_by-heard.result.now) c.as_slice-2.ensures.value
     ∙ ap (λ (marks : List Bool). region n homes part marks) (c.heard_by-heard.ensures ∙ ap (λ (hs : List (List Bool)). heard_by hs part) c.as_slice.ensures.value)
     in
-    let before = c.loop-from.invariant in
-    let within = before.within in
-    let past = c.loop-from-test.false in
-    let now : c.loop-from.from ≡ c.new-region.result.horizon = (let last : c.loop-from.from ≡ c.horizon-horizon.result = omega (arith, within, past) in last ∙ before.horizon ∙ sym (ap (λ (r : Circuit). r.horizon) here)) in
     let r = c.new-region.result in
-    has_history r c.args.self.keeps (r.horizon - 1 + 1) (r.horizon - 1) _ (subst (λ k. IsHistory r c.args.self.keeps (k - 1 + 1) (k - 1) c.loop-from.run.history) now before.under_way.kept)
+    has_history r c.args.self.keeps (r.horizon - 1 + 1) (r.horizon - 1) _ (subst (λ (m : Circuit). IsHistory m c.args.self.keeps (m.horizon - 1 + 1) (m.horizon - 1) c.run_windows.new.run.history) (sym here) c.in-Ok.ensures.kept)
 
-pub returns : goal.returns
-returns g c =
+pub returns-in-Ok : goal.returns-in-Ok
+returns-in-Ok g c =
     let n = c.args.self.netlist.now in
     let part = c.args.self.part in
     let homes = c.args.self.division.now.homes.items in
@@ -201,10 +71,6 @@ returns g c =
     c.new-region.ensures ∙ ap (λ (hs : List ℕ). region n hs part c.heard_by-heard.result.now) c.as_slice-2.ensures.value
     ∙ ap (λ (marks : List Bool). region n homes part marks) (c.heard_by-heard.ensures ∙ ap (λ (hs : List (List Bool)). heard_by hs part) c.as_slice.ensures.value)
     in
-    let before = c.loop-from.invariant in
-    let within = before.within in
-    let past = c.loop-from-test.false in
-    let now : c.loop-from.from ≡ c.new-region.result.horizon = (let last : c.loop-from.from ≡ c.horizon-horizon.result = omega (arith, within, past) in last ∙ before.horizon ∙ sym (ap (λ (r : Circuit). r.horizon) here)) in
     let r = c.new-region.result in
-    let is = subst (λ k. IsHistory r c.args.self.keeps (k - 1 + 1) (k - 1) c.loop-from.run.history) now before.under_way.kept in
-    subst (λ (m : Circuit). IsPartRun m c.args.self.keeps c.in_ok-done.done) here (c.in_ok-done.ensures c.args.self.keeps is)
+    let is = subst (λ (m : Circuit). IsHistory m c.args.self.keeps (m.horizon - 1 + 1) (m.horizon - 1) c.run_windows.new.run.history) (sym here) c.in-Ok.ensures.kept in
+    subst (λ (m : Circuit). IsPartRun m c.args.self.keeps c.in_ok-finish.field-0) here (c.in_ok-finish.ensures c.args.self.keeps is)

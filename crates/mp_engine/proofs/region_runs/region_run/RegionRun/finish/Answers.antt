@@ -12,6 +12,6 @@ returns c keeps is =
     let kept = subst (λ k. AreKept n k (n.horizon - 1) h.marks.items h.kept.items) next has.kept in
     record {
       waves = c.in_ok-waves.ensures;
-      ends = λ _. c.in_ok-ends.ensures;
+      ends = λ _. c.in-Ok.ensures;
       kept = λ _. checkpoints_are n (n.horizon - 1) h.marks.items h.kept.items _ c.in_ok-kept.ensures kept;
     }

@@ -2,7 +2,7 @@ use Rattle.std.proofs.Common.{◌≡◌, ◌-◌, ◌<◌, ◌≤◌}
 use Rattle.mp_partition.specs.runs.Marks.{is_marked}
 use Rattle.mp_engine.specs.region_runs.RegionRuns.{IsUnderWay}
 use Rattle.mp_partition.specs.regions.Divisions.{heard_by}
-use Rattle.mp_engine.proofs.part_of.PartOf.run.Given as goal
+use Rattle.mp_engine.proofs.part_of.PartOf.run_windows.Given as goal
 
 -- the windows before are over
 abbrev pub invariant-loop-from : goal.invariant-loop-from
@@ -13,7 +13,7 @@ invariant-loop-from g l = record {
   some : 0 < l.span;
   span : l.span ≤ l.division.delay;
   channels : l.channels.part ≡ l.self.part;
-  under_way : IsUnderWay l.region l.keeps (is_marked (heard_by l.division.heard.items l.part)) (l.from - 1) l.from l.run;
+  under_way : IsUnderWay l.region l.self.keeps (is_marked (heard_by l.division.heard.items l.part)) (l.from - 1) l.from l.run;
 }
 
 abbrev pub decreases-loop-from : goal.decreases-loop-from
