@@ -1,5 +1,6 @@
 //! What is compared with the old run from time 0 on.
-ghost use Rattle.std.specs.Prelude.{◌≡◌, ◌<◌, ◌≤◌, IfOk, length};
+ghost use Rattle.std.specs.Prelude.{◌≡◌, ◌<◌, ◌≤◌, ℕ, [], IfOk, length, replicate};
+ghost use Rattle.mp_kernel.specs.timers.TimerWheels.{time_of, never, IsTimerWheel};
 ghost use Rattle.mp_active.specs.compare.First.{IsUnread};
 ghost use Rattle.mp_active.specs.compare.Reading.{ports_of};
 
@@ -182,6 +183,15 @@ impl Comparison {
     }
 }
 
+/// What a comparison keeps of each number.
+#[derive(Drop)]
+struct Notes {
+    asleep: Vec<u32>,
+    places: Vec<u32>,
+    seen: Vec<u32>,
+    timers: TimerWheel,
+}
+
 /// The comparison in which nobody is known to read a number, and nothing is listed.
 fn unread(
     alloc: Global,
@@ -194,16 +204,34 @@ fn unread(
     ensures sources { IfOk result (λ comparison. comparison.sources.items ≡ sources.items) }
     ensures unread { IfOk result IsUnread }
 {
-    let count = numbers.wires.len();
+    let notes = unread_notes(alloc, numbers.wires.len(), span)?;
     Ok(Comparison {
         numbers,
         sources,
-        asleep: vec![in alloc; 0u32; count]?,
-        timers: TimerWheel::new(alloc, count, span)?,
+        asleep: notes.asleep,
+        timers: notes.timers,
         present: EventSlot::new(alloc),
+        places: notes.places,
+        seen: notes.seen,
+        departing: Vec::new(alloc),
+    })
+}
+
+/// What a comparison of so many numbers keeps while nobody is known to read one, and nothing is listed.
+fn unread_notes(alloc: Global, count: usize, span: usize) -> Result<Notes, AllocError>
+    requires { 0 < span }
+    ensures asleep { IfOk result (λ notes. notes.asleep.items ≡ replicate count 0) }
+    ensures places { IfOk result (λ notes. length notes.places.items ≡ count) }
+    ensures seen { IfOk result (λ notes. notes.seen.items ≡ replicate count 0) }
+    ensures times { IfOk result (λ notes. length notes.timers.times.items ≡ count) }
+    ensures free { IfOk result (λ notes. (x : ℕ) → time_of notes.timers x ≡ never) }
+    ensures timers { IfOk result (λ notes. (t : ℕ) → IsTimerWheel t [] notes.timers) }
+{
+    Ok(Notes {
+        asleep: vec![in alloc; 0u32; count]?,
         places: vec![in alloc; 0u32; count]?,
         seen: vec![in alloc; 0u32; count]?,
-        departing: Vec::new(alloc),
+        timers: TimerWheel::new(alloc, count, span)?,
     })
 }
 
