@@ -1,5 +1,5 @@
 //! The fanout of wires.
-ghost use Rattle.std.specs.Prelude.{◌≡◌, ◌-◌, ◌≤◌, take, drop, length};
+ghost use Rattle.std.specs.Prelude.{◌≡◌, ◌-◌, ◌≤◌, ◌++◌, ◌∷◌, [], OnOk, take, drop, length};
 ghost use Rattle.mp_kernel.specs.events.Fanouts.{head_of, listed_of};
 
 use crate::events::fanout_entry::FanoutEntry;
@@ -42,9 +42,7 @@ impl Fanout {
         let mut list = Vec::new(alloc);
         places.push(0)?;
         for row in rows {
-            heads.push(head_of(row.as_slice()))?;
-            list.extend_from_slice(listed_of(row.as_slice()))?;
-            places.push(list.len())?;
+            add_row(&mut heads, &mut places, &mut list, row.as_slice())?;
         }
         Ok(Fanout {
             heads,
@@ -81,6 +79,23 @@ impl Fanout {
         let places = self.places.as_slice();
         part(self.list.as_slice(), places[w], places[w + 1])
     }
+}
+
+/// Adds the inputs that read one wire more.
+fn add_row(
+    heads: &mut Vec<FanoutEntry>,
+    places: &mut Vec<usize>,
+    list: &mut Vec<FanoutEntry>,
+    row: &[FanoutEntry],
+) -> Result<(), AllocError>
+    ensures heads { OnOk result (heads.new.items ≡ heads.old.items ++ head_of row.now ∷ []) }
+    ensures list { OnOk result (list.new.items ≡ list.old.items ++ listed_of row.now) }
+    ensures places { OnOk result (places.new.items ≡ places.old.items ++ length list.new.items ∷ []) }
+{
+    heads.push(head_of(row))?;
+    list.extend_from_slice(listed_of(row))?;
+    places.push(list.len())?;
+    Ok(())
 }
 
 #[inline(always)]

@@ -1,4 +1,4 @@
-use Rattle.std.proofs.Common.{◌≡◌, ◌+◌, ◌++◌, ◌∷◌, [], List, ℕ, length, take, slice_index_or, ◌<◌, refl, ap, rules, sym, subst, ◌∙◌, arith}
+use Rattle.std.proofs.Common.{◌≡◌, ◌+◌, ◌++◌, ◌∷◌, [], List, ℕ, length, take, slice_index_or, ◌<◌, refl, ap, sym, subst, ◌∙◌, arith}
 use Rattle.std.proofs.lemmas.List.{take_more, length-append, get_or_read}
 use Rattle.mp_kernel.specs.declared.events.fanout_entry.FanoutEntry.{FanoutEntry}
 use Rattle.mp_kernel.specs.events.Fanouts.{rows_of, ArePlaces, head_of, listed_of, rows_by}
@@ -30,12 +30,10 @@ loop-row-preserved c =
     let i = c.loop-row.row-index in
     let v = c.loop-row.invariant in
     let row = slice_index_or rows i [] in
-    let first : c.as_slice.result.now ≡ row = c.as_slice.ensures ∙ get_or_read rows i c.row-item.result c.loop-row-test.true c.row-item.is [] in
-    let again : c.as_slice-in-loop-row.result.now ≡ row = c.as_slice-in-loop-row.ensures ∙ get_or_read rows i c.row-item.result c.loop-row-test.true c.row-item.is [] in
-    let after = c.extend_from_slice.new.self.items in
-    let size : c.len.result ≡ length after = search rules in
-    let found = more c.loop-row.heads.items c.push-in-loop-row.new.self.items c.loop-row.places.items c.loop-row.list.items row c.push-in-loop-row-2.new.self.items after rows i v.count v.places v.joined
-    (c.in_ok-push-2.ensures.items ∙ ap (λ h. c.loop-row.heads.items ++ h ∷ []) (c.head_of.ensures ∙ ap head_of first))
-    (c.in_ok-extend_from_slice.ensures.items ∙ ap (λ xs. c.loop-row.list.items ++ xs) (c.listed_of.ensures ∙ ap listed_of again))
-    (c.in_ok-push-3.ensures.items ∙ ap (λ k. c.loop-row.places.items ++ k ∷ []) size) refl c.loop-row-test.true in
+    let read : c.as_slice.result.now ≡ row = c.as_slice.ensures ∙ get_or_read rows i c.row-item.result c.loop-row-test.true c.row-item.is [] in
+    let added = c.in_ok-add_row.ensures in
+    let found = more c.loop-row.heads.items c.add_row.new.heads.items c.loop-row.places.items c.loop-row.list.items row c.add_row.new.places.items c.add_row.new.list.items rows i v.count v.places v.joined
+    (added.heads ∙ ap (λ (xs : List FanoutEntry). c.loop-row.heads.items ++ head_of xs ∷ []) read)
+    (added.list ∙ ap (λ (xs : List FanoutEntry). c.loop-row.list.items ++ listed_of xs) read)
+    added.places refl c.loop-row-test.true in
     record { places = found.0; count = found.1.0; joined = found.1.1 }
