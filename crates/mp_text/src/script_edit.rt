@@ -1,5 +1,6 @@
 //! The edits that occur only in scripts.
 ghost use Rattle.std.specs.Prelude.{◌≡◌};
+ghost use Rattle.mp_text.specs.declared.single_word.SingleWord.TheVariants.{Input, Output, InputDelay, Delay};
 ghost use Rattle.mp_text.specs.Clauses.{IfOk, IsAscii, OutOfMemory, Gives, wire_or_none, texts, AreAscii, removal, port_change, single_edit};
 
 use crate::lexing::{LineError, is_text, name_of, number_word, wire_or_none};
@@ -57,27 +58,71 @@ fn port_change(
     ensures { Gives OutOfMemory (λ edit. edit) result (port_change first part.now port new.now) }
 {
     match first {
-        SingleWord::Input => Ok(SingleEdit::RewireInput {
-            port,
-            wire: Boxed::new(alloc, name_of(alloc, new)?)?,
-            module: name_of(alloc, part)?,
-        }),
-        SingleWord::Output => Ok(SingleEdit::RewireOutput {
-            port,
-            wire: boxed_wire(alloc, new)?,
-            module: name_of(alloc, part)?,
-        }),
-        SingleWord::InputDelay => Ok(SingleEdit::SetInputDelay {
-            port,
-            delay: number_word(new)?,
-            module: name_of(alloc, part)?,
-        }),
-        _ => Ok(SingleEdit::SetDelay {
-            port,
-            delay: number_word(new)?,
-            module: name_of(alloc, part)?,
-        }),
+        SingleWord::Input => input_change(alloc, part, port, new),
+        SingleWord::Output => output_change(alloc, part, port, new),
+        SingleWord::InputDelay => input_delay(alloc, part, port, new),
+        _ => output_delay(alloc, part, port, new),
     }
+}
+
+/// The edit that lets an input read another wire.
+fn input_change(alloc: Global, part: &[u8], port: u64, wire: &[u8]) -> Result<SingleEdit, LineError>
+    requires part { IsAscii part.now }
+    requires wire { IsAscii wire.now }
+    ensures { Gives OutOfMemory (λ edit. edit) result (port_change Input part.now port wire.now) }
+{
+    Ok(SingleEdit::RewireInput {
+        port,
+        wire: Boxed::new(alloc, name_of(alloc, wire)?)?,
+        module: name_of(alloc, part)?,
+    })
+}
+
+/// The edit that lets an output drive another wire or none.
+fn output_change(
+    alloc: Global,
+    part: &[u8],
+    port: u64,
+    wire: &[u8],
+) -> Result<SingleEdit, LineError>
+    requires part { IsAscii part.now }
+    requires wire { IsAscii wire.now }
+    ensures { Gives OutOfMemory (λ edit. edit) result (port_change Output part.now port wire.now) }
+{
+    Ok(SingleEdit::RewireOutput {
+        port,
+        wire: boxed_wire(alloc, wire)?,
+        module: name_of(alloc, part)?,
+    })
+}
+
+/// The edit that sets the delay of an input.
+fn input_delay(alloc: Global, part: &[u8], port: u64, delay: &[u8]) -> Result<SingleEdit, LineError>
+    requires { IsAscii part.now }
+    ensures { Gives OutOfMemory (λ edit. edit) result (port_change InputDelay part.now port delay.now) }
+{
+    Ok(SingleEdit::SetInputDelay {
+        port,
+        delay: number_word(delay)?,
+        module: name_of(alloc, part)?,
+    })
+}
+
+/// The edit that sets the delay of an output.
+fn output_delay(
+    alloc: Global,
+    part: &[u8],
+    port: u64,
+    delay: &[u8],
+) -> Result<SingleEdit, LineError>
+    requires { IsAscii part.now }
+    ensures { Gives OutOfMemory (λ edit. edit) result (port_change Delay part.now port delay.now) }
+{
+    Ok(SingleEdit::SetDelay {
+        port,
+        delay: number_word(delay)?,
+        module: name_of(alloc, part)?,
+    })
 }
 
 /// The name of a wire in a block of its own; `None` for `-`. `AllocError` comes if memory runs out.

@@ -1,5 +1,6 @@
 //! The edits of statements.
 ghost use Rattle.std.specs.Prelude.{◌≡◌, ◌<◌};
+ghost use Rattle.mp_text.specs.declared.edit_word.EditWord.TheVariants.{Wire, Module, Stimulus, Bundle};
 ghost use Rattle.mp_text.specs.Clauses.{IsAscii, IfOk, IfSome, length, position, before_first, after_first, OutOfMemory, Gives, texts, AreAscii, stated_edit, parts_edit, module_edit, is_mark, AddModule};
 
 use crate::edit_word::EditWord;
@@ -11,37 +12,90 @@ use mp_netlist::{
 use std::alloc::{AllocError, Global};
 
 /// The edit that a first word and the words after it state.
-#[tactic(auto, using(crate::proofs::GivenLemmas::word_steps))]
 pub fn stated_edit(alloc: Global, word: EditWord, words: &[&[u8]]) -> Result<SingleEdit, LineError>
     requires { AreAscii words.now }
     ensures { Gives OutOfMemory (λ edit. edit) result (stated_edit word (texts words.now)) }
 {
-    match (word, words) {
-        (EditWord::Wire, [name, width, level]) => Ok(SingleEdit::AddWire {
-            width: number_word(width)?,
-            level: number_word(level)?,
-            name: name_of(alloc, name)?,
-        }),
-        (EditWord::Module, _) => {
-            let module = stated_module(alloc, words)?;
-            Ok(SingleEdit::AddModule(Boxed::new(alloc, module)?))
-        }
-        (EditWord::Stimulus, [wire, others @ ..]) => Ok(SingleEdit::SetStimulus {
-            changes: Changes::new(each_word(alloc, others)?),
-            wire: name_of(alloc, wire)?,
-        }),
-        (EditWord::Bundle, [name, request, acknowledge, payload, setup]) => {
-            let bundle = NewBundle {
-                setup: number_word(setup)?,
-                name: name_of(alloc, name)?,
-                request: name_of(alloc, request)?,
-                acknowledge: name_of(alloc, acknowledge)?,
-                payload: name_of(alloc, payload)?,
-            };
-            Ok(SingleEdit::AddBundle(Boxed::new(alloc, bundle)?))
-        }
-        _ => Err(LineError::WordCount),
+    match word {
+        EditWord::Wire => wire_edit(alloc, words),
+        EditWord::Module => module_edit(alloc, words),
+        EditWord::Stimulus => stimulus_edit(alloc, words),
+        EditWord::Bundle => bundle_edit(alloc, words),
     }
+}
+
+/// The edit that the words after `wire` state: it adds a wire.
+#[tactic(auto, using(crate::proofs::GivenLemmas::word_steps))]
+fn wire_edit(alloc: Global, words: &[&[u8]]) -> Result<SingleEdit, LineError>
+    requires { AreAscii words.now }
+    ensures { Gives OutOfMemory (λ edit. edit) result (stated_edit Wire (texts words.now)) }
+{
+    let [name, width, level] = words else {
+        return Err(LineError::WordCount);
+    };
+    Ok(SingleEdit::AddWire {
+        width: number_word(width)?,
+        level: number_word(level)?,
+        name: name_of(alloc, name)?,
+    })
+}
+
+/// The edit that the words after `module` state: it adds a module.
+#[tactic(auto, using(crate::proofs::GivenLemmas::wanting_given))]
+fn module_edit(alloc: Global, words: &[&[u8]]) -> Result<SingleEdit, LineError>
+    requires { AreAscii words.now }
+    ensures { Gives OutOfMemory (λ edit. edit) result (stated_edit Module (texts words.now)) }
+{
+    let module = stated_module(alloc, words)?;
+    Ok(SingleEdit::AddModule(Boxed::new(alloc, module)?))
+}
+
+/// The edit that the words after `stim` state: it sets the stimulus of a wire.
+#[tactic(auto, using(crate::proofs::GivenLemmas::word_steps))]
+fn stimulus_edit(alloc: Global, words: &[&[u8]]) -> Result<SingleEdit, LineError>
+    requires { AreAscii words.now }
+    ensures { Gives OutOfMemory (λ edit. edit) result (stated_edit Stimulus (texts words.now)) }
+{
+    let [wire, others @ ..] = words else {
+        return Err(LineError::WordCount);
+    };
+    Ok(SingleEdit::SetStimulus {
+        changes: Changes::new(each_word(alloc, others)?),
+        wire: name_of(alloc, wire)?,
+    })
+}
+
+/// The edit that the words after `bundle` state: it adds a bundle.
+#[tactic(auto, using(crate::proofs::GivenLemmas::word_steps))]
+fn bundle_edit(alloc: Global, words: &[&[u8]]) -> Result<SingleEdit, LineError>
+    requires { AreAscii words.now }
+    ensures { Gives OutOfMemory (λ edit. edit) result (stated_edit Bundle (texts words.now)) }
+{
+    let [name, request, acknowledge, payload, setup] = words else {
+        return Err(LineError::WordCount);
+    };
+    let setup = number_word(setup)?;
+    let (name, request) = two_names(alloc, name, request)?;
+    let (acknowledge, payload) = two_names(alloc, acknowledge, payload)?;
+    let bundle = NewBundle {
+        name,
+        request,
+        acknowledge,
+        payload,
+        setup,
+    };
+    Ok(SingleEdit::AddBundle(Boxed::new(alloc, bundle)?))
+}
+
+/// Two words as names. `AllocError` comes if memory runs out.
+fn two_names(alloc: Global, first: &[u8], second: &[u8]) -> Result<(Name, Name), AllocError>
+    requires first { IsAscii first.now }
+    requires second { IsAscii second.now }
+    ensures { IfOk result (λ names. names ≡ (first.now, second.now)) }
+{
+    let first = name_of(alloc, first)?;
+    let second = name_of(alloc, second)?;
+    Ok((first, second))
 }
 
 /// The module that the words after `module` state.

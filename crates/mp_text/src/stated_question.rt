@@ -1,5 +1,6 @@
 //! The questions of a script's lines.
 ghost use Rattle.std.specs.Prelude.{◌≡◌, []};
+ghost use Rattle.mp_text.specs.declared.question_word.QuestionWord.TheVariants.{Wave, Show, Why, Path, Waits, Measure, Edits};
 ghost use Rattle.mp_text.specs.Clauses.{IfOk, IsAscii, OutOfMemory, Gives, texts, AreAscii, stated_question, steps_word, chain_question};
 
 use crate::lexing::{LineError, name_of, number_word};
@@ -15,7 +16,6 @@ pub const MAX_STEPS: u32 = 1_048_576;
 pub const USUAL_STEPS: u32 = 20;
 
 /// The question that a first word and the words after it state.
-#[tactic(auto, using(crate::proofs::GivenLemmas::word_steps))]
 pub fn stated_question(
     alloc: Global,
     word: QuestionWord,
@@ -24,33 +24,109 @@ pub fn stated_question(
     requires { AreAscii words.now }
     ensures { Gives OutOfMemory (λ question. question) result (stated_question word (texts words.now)) }
 {
-    match (word, words) {
-        (_, []) => lone_question(word),
-        (QuestionWord::Wave, [wire]) => Ok(Question::Wave(name_of(alloc, wire)?)),
-        (QuestionWord::Show, [from, to, wires @ ..]) => Ok(Question::Show {
+    if words.is_empty() {
+        return lone_question(word);
+    }
+    match word {
+        QuestionWord::Wave => wave_question(alloc, words),
+        QuestionWord::Show => show_question(alloc, words),
+        QuestionWord::Why => why_question(alloc, words),
+        QuestionWord::Path => path_question(alloc, words),
+        QuestionWord::Waits => waits_question(words),
+        QuestionWord::Measure => measure_question(words),
+        QuestionWord::Edits => edits_question(words),
+        // no word can follow the others
+        _ => Err(LineError::WordCount),
+    }
+}
+
+/// The question that the words after `wave` state.
+#[tactic(auto, using(crate::proofs::GivenLemmas::word_steps))]
+fn wave_question(alloc: Global, words: &[&[u8]]) -> Result<Question, LineError>
+    requires { AreAscii words.now }
+    ensures { Gives OutOfMemory (λ question. question) result (stated_question Wave (texts words.now)) }
+{
+    match words {
+        [wire] => Ok(Question::Wave(name_of(alloc, wire)?)),
+        _ => Err(LineError::WordCount),
+    }
+}
+
+/// The question that the words after `show` state.
+#[tactic(auto, using(crate::proofs::GivenLemmas::wanting_given, crate::proofs::lemmas::lexing::WordLemmas::rest_ascii))]
+fn show_question(alloc: Global, words: &[&[u8]]) -> Result<Question, LineError>
+    requires { AreAscii words.now }
+    ensures { Gives OutOfMemory (λ question. question) result (stated_question Show (texts words.now)) }
+{
+    match words {
+        [from, to, wires @ ..] => Ok(Question::Show {
             from: number_word(from)?,
             to: number_word(to)?,
             wires: wire_names(alloc, wires)?,
         }),
-        (QuestionWord::Why, [wire, time]) => chain_question(alloc, wire, time, Ok(USUAL_STEPS)),
-        (QuestionWord::Why, [wire, time, steps]) => chain_question(
-            alloc,
-            wire,
-            time,
-            steps_word(steps),
-        ),
-        (QuestionWord::Path, [wire, time]) => Ok(Question::Path {
+        _ => Err(LineError::WordCount),
+    }
+}
+
+/// The question that the words after `why` state.
+#[tactic(auto, using(crate::proofs::GivenLemmas::word_steps))]
+fn why_question(alloc: Global, words: &[&[u8]]) -> Result<Question, LineError>
+    requires { AreAscii words.now }
+    ensures { Gives OutOfMemory (λ question. question) result (stated_question Why (texts words.now)) }
+{
+    match words {
+        [wire, time] => chain_question(alloc, wire, time, Ok(USUAL_STEPS)),
+        [wire, time, steps] => chain_question(alloc, wire, time, steps_word(steps)),
+        _ => Err(LineError::WordCount),
+    }
+}
+
+/// The question that the words after `path` state.
+#[tactic(auto, using(crate::proofs::GivenLemmas::word_steps))]
+fn path_question(alloc: Global, words: &[&[u8]]) -> Result<Question, LineError>
+    requires { AreAscii words.now }
+    ensures { Gives OutOfMemory (λ question. question) result (stated_question Path (texts words.now)) }
+{
+    match words {
+        [wire, time] => Ok(Question::Path {
             time: number_word(time)?,
             wire: name_of(alloc, wire)?,
         }),
-        (QuestionWord::Waits, [time]) => Ok(Question::Waits {
+        _ => Err(LineError::WordCount),
+    }
+}
+
+/// The question that the words after `waits` state.
+fn waits_question(words: &[&[u8]]) -> Result<Question, LineError>
+    ensures { result ≡ stated_question Waits (texts words.now) }
+{
+    match words {
+        [time] => Ok(Question::Waits {
             time: number_word(time)?,
         }),
-        (QuestionWord::Measure, [from, to]) => Ok(Question::Measure {
+        _ => Err(LineError::WordCount),
+    }
+}
+
+/// The question that the words after `measure` state.
+fn measure_question(words: &[&[u8]]) -> Result<Question, LineError>
+    ensures { result ≡ stated_question Measure (texts words.now) }
+{
+    match words {
+        [from, to] => Ok(Question::Measure {
             from: number_word(from)?,
             to: number_word(to)?,
         }),
-        (QuestionWord::Edits, [from]) => Ok(Question::Edits {
+        _ => Err(LineError::WordCount),
+    }
+}
+
+/// The question that the words after `edits` state.
+fn edits_question(words: &[&[u8]]) -> Result<Question, LineError>
+    ensures { result ≡ stated_question Edits (texts words.now) }
+{
+    match words {
+        [from] => Ok(Question::Edits {
             from: number_word(from)?,
         }),
         _ => Err(LineError::WordCount),
