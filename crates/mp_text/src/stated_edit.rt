@@ -1,5 +1,5 @@
 //! The edits of statements.
-ghost use Rattle.std.specs.Prelude.{◌≡◌, ◌<◌};
+ghost use Rattle.std.specs.Prelude.{◌≡◌, ◌<◌, ◌∷◌, []};
 ghost use Rattle.mp_text.specs.declared.edit_word.EditWord.TheVariants.{Wire, Module, Stimulus, Bundle};
 ghost use Rattle.mp_text.specs.Clauses.{IsAscii, IfOk, IfSome, length, position, before_first, after_first, OutOfMemory, Gives, texts, AreAscii, stated_edit, parts_edit, module_edit, is_mark, AddModule};
 
@@ -71,9 +71,35 @@ fn bundle_edit(alloc: Global, words: &[&[u8]]) -> Result<SingleEdit, LineError>
     requires { AreAscii words.now }
     ensures { Gives OutOfMemory (λ edit. edit) result (stated_edit Bundle (texts words.now)) }
 {
-    let [name, request, acknowledge, payload, setup] = words else {
-        return Err(LineError::WordCount);
-    };
+    match words {
+        [name, request, acknowledge, payload, setup] => bundle_of(
+            alloc,
+            name,
+            request,
+            acknowledge,
+            payload,
+            setup,
+        ),
+        _ => Err(LineError::WordCount),
+    }
+}
+
+/// The edit that adds the bundle of these words.
+#[tactic(auto, using(crate::proofs::GivenLemmas::wanting_given))]
+fn bundle_of(
+    alloc: Global,
+    name: &[u8],
+    request: &[u8],
+    acknowledge: &[u8],
+    payload: &[u8],
+    setup: &[u8],
+) -> Result<SingleEdit, LineError>
+    requires name { IsAscii name.now }
+    requires request { IsAscii request.now }
+    requires acknowledge { IsAscii acknowledge.now }
+    requires payload { IsAscii payload.now }
+    ensures { Gives OutOfMemory (λ edit. edit) result (stated_edit Bundle (name.now ∷ request.now ∷ acknowledge.now ∷ payload.now ∷ setup.now ∷ [])) }
+{
     let setup = number_word(setup)?;
     let (name, request) = two_names(alloc, name, request)?;
     let (acknowledge, payload) = two_names(alloc, acknowledge, payload)?;
