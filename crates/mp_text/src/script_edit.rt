@@ -1,6 +1,6 @@
 //! The edits that occur only in scripts.
-ghost use Rattle.std.specs.Prelude.{◌≡◌};
-ghost use Rattle.mp_text.specs.declared.single_word.SingleWord.TheVariants.{Input, Output, InputDelay, Delay};
+ghost use Rattle.std.specs.Prelude.{◌≡◌, ◌∷◌, []};
+ghost use Rattle.mp_text.specs.declared.single_word.SingleWord.TheVariants.{Clear, Input, Output, InputDelay, Delay};
 ghost use Rattle.mp_text.specs.Clauses.{IfOk, IsAscii, OutOfMemory, Gives, wire_or_none, texts, AreAscii, removal, port_change, single_edit};
 
 use crate::lexing::{LineError, is_text, name_of, number_word, wire_or_none};
@@ -22,9 +22,7 @@ pub fn single_edit(
     match (first, words) {
         (SingleWord::Stated(word), _) => stated_edit(alloc, word, words),
         (SingleWord::Remove, [thing, name]) => removal(alloc, thing, name),
-        (SingleWord::Clear, [wire]) => Ok(SingleEdit::ClearStimulus {
-            wire: name_of(alloc, wire)?,
-        }),
+        (SingleWord::Clear, [wire]) => clearance(alloc, wire),
         (SingleWord::Remove | SingleWord::Clear, _) => Err(LineError::WordCount),
         (_, [part, port, new]) => port_change(alloc, first, part, number_word(port)?, new),
         _ => Err(LineError::WordCount),
@@ -43,6 +41,16 @@ fn removal(alloc: Global, thing: &[u8], name: &[u8]) -> Result<SingleEdit, LineE
         _ if is_text(thing, "bundle") => Ok(SingleEdit::RemoveBundle { bundle: name }),
         _ => Err(LineError::UnknownStatement),
     }
+}
+
+/// The edit that removes the stimulus of the wire of this name.
+fn clearance(alloc: Global, wire: &[u8]) -> Result<SingleEdit, LineError>
+    requires { IsAscii wire.now }
+    ensures { Gives OutOfMemory (λ edit. edit) result (single_edit Clear (wire.now ∷ [])) }
+{
+    Ok(SingleEdit::ClearStimulus {
+        wire: name_of(alloc, wire)?,
+    })
 }
 
 /// The edit that lets an input read another wire or an output drive another wire or none, or that sets the delay of a port.
