@@ -37,21 +37,50 @@ pub(crate) fn begin<R: Wait + Drop>(
     ensures designers { IfOk result (λ b. (vec_len b.designers ≡ size.designers) × All (λ p. p ≡ b.publication ∷ []) b.designers.items) }
     ensures viewers { IfOk result (λ b. (vec_len b.viewers ≡ size.viewers) × All (λ p. p ≡ b.publication ∷ []) b.viewers.items) }
 {
-    let for_designers = Vec::with_capacity(alloc, size.designers)?;
-    let for_viewers = Vec::with_capacity(alloc, size.viewers)?;
-    // A history that nobody else holds can be begun, so lack of memory is the only error.
-    let writer = begun(version).ok_or(AllocError)?;
-    let readers = size.designers + size.viewers;
-    let first = first_published(alloc, version, &writer)?;
-    let mut publication = Publication::new(rt, alloc, first, readers)?;
-    let designers = publication.places(for_designers, size.designers)?;
-    let viewers = publication.places(for_viewers, size.viewers)?;
+    let (writer, mut publication) = first_publication(rt, alloc, version, size)?;
+    let (designers, viewers) = places_of(alloc, &mut publication, size)?;
     Ok(Beginning {
         writer,
         publication,
         designers,
         viewers,
     })
+}
+
+/// The writer of a history that begins with this version, and the publication of that version, with room for all readers of a desk of this size.
+fn first_publication<R: Wait + Drop>(
+    rt: R,
+    alloc: Global,
+    version: &Arc<Version>,
+    size: DeskSize,
+) -> Result<(LogWriter, Publication<R>), AllocError>
+    ensures writer { IfOk result (λ both. (both.0.story ≡ arc_value version.now) × (both.0.authors ≡ unsigned (arc_value version.now))) }
+    ensures publication { IfOk result (λ both. both.1 ≡ record { book = both.0.book; story = arc_value version.now }) }
+{
+    // A history that nobody else holds can be begun, so lack of memory is the only error.
+    let Some(writer) = begun(version) else {
+        return Err(AllocError);
+    };
+    let first = first_published(alloc, version, &writer)?;
+    let publication = Publication::new(rt, alloc, first, size.designers + size.viewers)?;
+    Ok((writer, publication))
+}
+
+/// A place for each designer and a place for each viewer. Memory is taken before the places are.
+fn places_of<R: Wait + Drop>(
+    alloc: Global,
+    publication: &mut Publication<R>,
+    size: DeskSize,
+) -> Result<(Vec<Pass>, Vec<Pass>), DeskCause>
+    ensures same { publication.new ≡ publication.old }
+    ensures designers { IfOk result (λ both. (vec_len both.0 ≡ size.designers) × All (λ p. p ≡ publication.old ∷ []) both.0.items) }
+    ensures viewers { IfOk result (λ both. (vec_len both.1 ≡ size.viewers) × All (λ p. p ≡ publication.old ∷ []) both.1.items) }
+{
+    let for_designers = Vec::with_capacity(alloc, size.designers)?;
+    let for_viewers = Vec::with_capacity(alloc, size.viewers)?;
+    let designers = publication.places(for_designers, size.designers)?;
+    let viewers = publication.places(for_viewers, size.viewers)?;
+    Ok((designers, viewers))
 }
 
 /// What is published first: the version with which the history begins, whose edits nobody at the desk made.

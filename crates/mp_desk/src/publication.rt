@@ -130,9 +130,43 @@ fn first_writer<R: Wait>(
     requires room { (0 < readers) × (readers < 2 ^ 32) }
     ensures { IfOk result (λ w. (w.desk.shown.value ≡ first) × (view w.desk.place ≡ w.desk.shown.value ∷ [])) }
 {
-    let second = first.try_copy()?;
-    let again = first.try_copy()?;
-    let mut writer = RuledWriter::new(alloc, first, second, readers)?;
+    // dropped by calls: otherwise the drop of each part would stand here
+    let Ok(again) = first.try_copy() else {
+        drop(first);
+        return Err(AllocError);
+    };
+    let Ok(writer) = new_writer(alloc, first, readers) else {
+        drop(again);
+        return Err(AllocError);
+    };
+    let writer = published_again(rt, writer, again)?;
+    Ok(writer)
+}
+
+/// A writer with this version on both of its sides, with room for this number of readers.
+fn new_writer(alloc: Global, first: Published, readers: usize) -> Result<RuledWriter, AllocError>
+    requires room { (0 < readers) × (readers < 2 ^ 32) }
+    ensures { IfOk result (λ w. (w.desk.shown.value ≡ first) × (drop w.behind w.log.items ≡ [])) }
+{
+    let Ok(second) = first.try_copy() else {
+        drop(first);
+        return Err(AllocError);
+    };
+    let writer = RuledWriter::new(alloc, first, second, readers)?;
+    Ok(writer)
+}
+
+/// Has the writer publish once more what it has published, so that it knows that this was published.
+fn published_again<R: Wait>(
+    rt: &R,
+    writer: RuledWriter,
+    again: Published,
+) -> Result<RuledWriter, AllocError>
+    requires empty { drop writer.behind writer.log.items ≡ [] }
+    requires same { again ≡ writer.desk.shown.value }
+    ensures { IfOk result (λ w. (w.desk.shown.value ≡ again) × (view w.desk.place ≡ w.desk.shown.value ∷ [])) }
+{
+    let mut writer = writer;
     if writer.append(again).is_err() {
         drop(writer.take(rt));
         return Err(AllocError);

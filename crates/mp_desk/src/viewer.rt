@@ -70,6 +70,7 @@ impl<L: DeskName> Viewer<L> {
         let number = published.version().number();
         if number < self.floor {
             // The version of a notice was published before the notice was made, so this doesn't happen.
+            drop(published);
             return Err(ReadError::Closed);
         }
         published.prefix().agrees(&self.heard);

@@ -1,5 +1,5 @@
 //! Designers who sit down to work, and rise.
-ghost use Rattle.std.specs.Prelude.{◌≡◌, false, map, All, IfOk};
+ghost use Rattle.std.specs.Prelude.{◌≡◌, ◌++◌, ◌∷◌, [], false, map, All, IfOk};
 ghost use Rattle.mp_desk.specs.meeting.Sittings.{begun};
 ghost use Rattle.mp_desk.specs.meeting.Seats.{working, tally_of};
 
@@ -35,14 +35,37 @@ pub(crate) fn finish_all<L: DeskName>(
     let mut designers = Vec::new(alloc);
     let mut tallies = Vec::new(alloc);
     for sitting in sittings {
-        if sitting.wanting {
-            return Err(AllocError);
-        }
-        tallies.push(Tally {
-            accepted: sitting.me.accepted(),
-            refused: sitting.refused,
-        })?;
-        designers.push(sitting.me)?;
+        finish_one(sitting, &mut designers, &mut tallies)?;
     }
     Ok((designers, tallies))
+}
+
+/// Adds a designer, and how the lines fared, to the others. `OutOfMemory` if memory ran out for this one, too.
+fn finish_one<L: DeskName>(
+    sitting: DesignerTally<L>,
+    designers: &mut Vec<Designer<L>>,
+    tallies: &mut Vec<Tally>,
+) -> Result<(), AllocError>
+    ensures designers { IfOk result (λ _. designers.new.items ≡ designers.old.items ++ working sitting ∷ []) }
+    ensures tallies { IfOk result (λ _. tallies.new.items ≡ tallies.old.items ++ tally_of sitting ∷ []) }
+    ensures whole { IfOk result (λ _. sitting.wanting ≡ false) }
+{
+    let DesignerTally {
+        me,
+        last,
+        refused,
+        wanting,
+    } = sitting;
+    drop(last);
+    if wanting {
+        drop(me);
+        return Err(AllocError);
+    }
+    let accepted = me.accepted();
+    let Ok(()) = tallies.push(Tally { accepted, refused }) else {
+        drop(me);
+        return Err(AllocError);
+    };
+    designers.push(me)?;
+    Ok(())
 }
