@@ -154,7 +154,14 @@ where
     let Some(own) = viewers.pop() else {
         unreachable!()
     };
-    let sittings = start_all(alloc, designers)?;
+    // dropped by calls: otherwise the drop of each part would stand here
+    let Ok(sittings) = start_all(alloc, designers) else {
+        drop(own);
+        drop(viewers);
+        drop(desk);
+        drop(hall);
+        return Err(AllocError);
+    };
     let people = People {
         desk: &desk,
         sittings,

@@ -1,5 +1,5 @@
 //! The paths of a seat's named pipes.
-ghost use Rattle.std.specs.Prelude.{◌≡◌, IfOk, string_bytes};
+ghost use Rattle.std.specs.Prelude.{◌≡◌, IfOk, codes, string_bytes};
 ghost use Rattle.mp_seats.specs.pipes.PipeTexts.{path_in};
 
 use crate::hosting::SeatName;
@@ -48,13 +48,16 @@ impl PipePaths {
     ) -> Result<PipePaths, AllocError>
         ensures { IfOk result (λ p. p ≡ paths_in folder.now own.now name) }
     {
+        let (input, output) = ends(alloc, folder, name)?;
+        let (own_input, own_output) = ends(alloc, own, name)?;
+        let (spare, next) = changes(alloc, own, name)?;
         Ok(PipePaths {
-            input: path(alloc, folder, name, ".in")?,
-            output: path(alloc, folder, name, ".out")?,
-            own_input: path(alloc, own, name, ".in")?,
-            own_output: path(alloc, own, name, ".out")?,
-            spare: path(alloc, own, name, ".spare")?,
-            next: path(alloc, own, name, ".next")?,
+            input,
+            output,
+            own_input,
+            own_output,
+            spare,
+            next,
         })
     }
 
@@ -107,6 +110,26 @@ impl PipePaths {
             || are_same(files, output, self.spare.as_str());
         if is_there { None } else { Some(output) }
     }
+}
+
+/// The paths in a folder of the pipe that is written at a seat, and of the one that is read there.
+fn ends(alloc: Global, folder: &str, name: SeatName) -> Result<(String, String), AllocError>
+    ensures input { IfOk result (λ both. string_bytes both.0 ≡ path_in folder.now name (codes ".in")) }
+    ensures output { IfOk result (λ both. string_bytes both.1 ≡ path_in folder.now name (codes ".out")) }
+{
+    let input = path(alloc, folder, name, ".in")?;
+    let output = path(alloc, folder, name, ".out")?;
+    Ok((input, output))
+}
+
+/// The paths in a folder by which a seat's output changes: of a second pipe, and of a link on its way.
+fn changes(alloc: Global, folder: &str, name: SeatName) -> Result<(String, String), AllocError>
+    ensures spare { IfOk result (λ both. string_bytes both.0 ≡ path_in folder.now name (codes ".spare")) }
+    ensures next { IfOk result (λ both. string_bytes both.1 ≡ path_in folder.now name (codes ".next")) }
+{
+    let spare = path(alloc, folder, name, ".spare")?;
+    let next = path(alloc, folder, name, ".next")?;
+    Ok((spare, next))
 }
 
 /// The path of a seat's file in a folder, with this end.
