@@ -73,4 +73,4 @@ returns-in-Ok g c =
     in
     let r = c.new-region.result in
     let is = subst (λ (m : Circuit). IsHistory m c.args.self.keeps (m.horizon - 1 + 1) (m.horizon - 1) c.run_windows.new.run.history) (sym here) c.in-Ok.ensures.kept in
-    subst (λ (m : Circuit). IsPartRun m c.args.self.keeps c.in_ok-finish.field-0) here (c.in_ok-finish.ensures c.args.self.keeps is)
+    subst (λ (m : Circuit). IsPartRun m c.args.self.keeps c.in_ok-finish-in-Ok.field-0) here (c.in_ok-finish-in-Ok.ensures c.args.self.keeps is)

@@ -41,7 +41,7 @@ loop-from-init g c =
       some = (let shorter = c.min-span.ensures in let stretch = c.stretch_of-stretch.ensures in let delay = c.requires.channels.0.crossing.some in omega (arith, shorter, stretch, delay));
       span = (let shorter = c.min-span.ensures in omega (arith, shorter));
       channels = c.requires.channels.1;
-      under_way = subst (λ (r : Circuit). IsUnderWay r c.args.self.keeps (is_marked heard) 0 1 c.args.run.old) (sym here) c.requires.begun;
+      under_way = subst (λ (r : Circuit). IsUnderWay r c.args.self.keeps (is_marked heard) 0 1 c.args.run.now) (sym here) c.requires.begun;
     }
 
 pub send-requires-clause-knows : goal.send-requires-clause-knows
