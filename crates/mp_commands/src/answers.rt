@@ -1,6 +1,7 @@
 //! The answers to questions, to edits, and to lines that can't be read.
 
 mod answers;
+mod asked;
 mod edit_answers;
 mod short_replies;
 mod snapshot;

@@ -6,7 +6,7 @@ ghost use Rattle.mp_commands.specs.Desks.{IsDeskText, blocks_of, has_valid_desk}
 use crate::command_runs::{InputCommand, Options, RunFault, opened};
 use crate::meeting_faults::fault_of_meeting;
 use crate::outcome_lines::put_outcome;
-use crate::sessions::Sessions;
+use crate::sessions::{Sessions, open_session};
 use mp_desk::DeskSize;
 use mp_phase::Crew;
 use mp_streams::{Out, Sink};
@@ -41,7 +41,7 @@ impl<P: Sessions + Drop> InputCommand for DeskCommand<P> {
         let text = input.as_slice();
         let (front, blocks) = split(alloc, text)?;
         let (netlist, (crew, size)) = opened(alloc, front, desk_crew(options, blocks.len()))?;
-        let session = self.sessions.open(rt, alloc, &netlist, crew)?;
+        let session = open_session(&self.sessions, rt, alloc, netlist, crew)?;
         match P::meet(rt, alloc, session, blocks.as_slice(), size) {
             Ok(outcome) => Ok(put_outcome(out, &outcome, crew)?),
             Err(fault) => Err(fault_of_meeting(fault)),

@@ -27,5 +27,5 @@ pub fn open_keeper<R: Threads + Wait + Sync, S: Source, P: Sessions>(
     ensures read_faults { S.fault_count source.new ≡ counted_reads result (S.fault_count source.old) }
 {
     let (netlist, crew) = read_opening(alloc, source, options.crew())?;
-    Ok(ScriptSession::new(sessions, rt, alloc, &netlist, crew)?)
+    Ok(ScriptSession::of_netlist(sessions, rt, alloc, netlist, crew)?)
 }

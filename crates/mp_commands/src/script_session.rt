@@ -47,6 +47,21 @@ impl<P: Sessions> ScriptSession<P> {
         })
     }
 
+    /// The netlist before the first edit, as `new`. It is let go, since the session has a copy.
+    pub(crate) fn of_netlist<R: Threads + Wait + Sync>(
+        sessions: &P,
+        rt: &R,
+        alloc: Global,
+        netlist: Netlist,
+        crew: Crew,
+    ) -> Result<Self, AllocError>
+        ensures { IfOk result (λ script. script ≡ opened netlist) }
+    {
+        let script = ScriptSession::new(sessions, rt, alloc, &netlist, crew);
+        drop(netlist);
+        script
+    }
+
     /// What there is after the accepted edits.
     pub fn snapshot(&self) -> Snapshot<'_>
         ensures { result ≡ self.now }

@@ -67,3 +67,19 @@ pub trait Sessions {
         ensures met { IfOk result (λ met. IsMeeting (Self.Session.story session).base (lines_of_each blocks.now) (Self.Session.story met.session) met.tallies.items met.numbers.items) }
         ensures viewers { IfOk result (λ met. vec_len met.numbers ≡ size.viewers) };
 }
+
+/// A session on this netlist, with no edits. The netlist is let go, since the session has a copy.
+pub(crate) fn open_session<P: Sessions, R: Threads + Wait + Sync>(
+    sessions: &P,
+    rt: &R,
+    alloc: Global,
+    netlist: Netlist,
+    crew: Crew,
+) -> Result<P::Session, AllocError>
+    ensures story { IfOk result (λ session. P.Session.story session ≡ opening netlist) }
+    ensures work { IfOk result (λ session. P.work session ≡ []) }
+{
+    let session = sessions.open(rt, alloc, &netlist, crew);
+    drop(netlist);
+    session
+}

@@ -1,23 +1,19 @@
 //! The answers to questions.
 ghost use Rattle.std.specs.Prelude.{◌≡◌};
-ghost use Rattle.mp_commands.specs.answers.Names.{wire_named, Writes, Unicode, Decimal, missing_at, usual_columns};
+ghost use Rattle.mp_commands.specs.answers.Names.{wire_named, Writes, missing_at};
 ghost use Rattle.mp_streams.specs.WriteErrors.{Writes as WritesAll};
-ghost use Rattle.mp_commands.specs.declared.views.drawing.Drawing.TheVariants.{Text};
 ghost use Rattle.mp_commands.specs.views.Views.{view_text, view_wires};
-ghost use Rattle.mp_commands.specs.answers.Answers.{asked_text, wire_text, version_text, edits_text, answer_text};
+ghost use Rattle.mp_commands.specs.answers.Answers.{asked_text, wire_text, version_text, edits_text, answer_text, asked_answer};
 
+use crate::answers::asked::Asked;
 use crate::answers::edit_answers::put_edits;
 use crate::answers::short_replies::{put_refused, put_unread};
 use crate::answers::snapshot::Snapshot;
 use crate::answers::work_lines::put_work_lines;
-use crate::views::{
-    AskedPicture, Drawing, PathLines, PictureText, USUAL_COLUMNS, View, WhyLines, put_wave_line,
-};
+use crate::views::{View, put_wave_line};
 use mp_netlist::{EditError, Name};
-use mp_picture::{Charset, Numerals};
-use mp_questions::TimeRange;
 use mp_streams::{Failed, Out, Sink, Text, WriteError};
-use mp_text::{LineError, Question, WireNames, put_netlist};
+use mp_text::{LineError, Question, put_netlist};
 use mp_version::Version;
 use std::alloc::Global;
 use std::thread::Threads;
@@ -32,61 +28,26 @@ pub fn put_answer<R: Threads + Sync, T: Sink>(
 ) -> Result<(), WriteError>
     ensures { WritesAll result out.old out.new (answer_text of.now question.now) }
 {
-    match question {
-        Question::Wave(name) => Ok(put_wire(out, of, name)?),
-        Question::Waves => put_view(rt, alloc, out, of, &View::Waves),
-        Question::Text => Ok(put_netlist(out, of.netlist())?),
-        Question::Report => put_view(rt, alloc, out, of, &View::Report),
-        Question::Check => put_view(rt, alloc, out, of, &View::Check),
-        Question::Dump => put_view(rt, alloc, out, of, &View::Dump),
-        Question::Work => put_work_lines(out, of.netlist(), of.work),
-        Question::Graph => put_view(rt, alloc, out, of, &View::Graph),
-        Question::Verilog => put_view(rt, alloc, out, of, &View::Verilog),
-        Question::Version => Ok(("version ", of.version.number(), "\n").put_to(out)?),
-        Question::Edits { from } => Ok(put_edits_from(out, of.version, *from)?),
-        Question::Show { from, to, wires } => {
-            put_view(rt, alloc, out, of, &View::Picture(shown(*from, *to, wires)))
-        }
-        Question::Waits { time } => put_view(rt, alloc, out, of, &View::Waits { time: *time }),
-        Question::Measure { from, to } => {
-            let range = TimeRange {
-                from: *from,
-                to: *to,
-            };
-            put_view(rt, alloc, out, of, &View::Measure(range))
-        }
-        Question::Why { wire, time, steps } => {
-            let (time, steps) = (*time, *steps);
-            put_view(
-                rt,
-                alloc,
-                out,
-                of,
-                &View::Why(WhyLines { wire, time, steps }),
-            )
-        }
-        Question::Path { wire, time } => {
-            let lines = PathLines { wire, time: *time };
-            put_view(rt, alloc, out, of, &View::Path(lines))
-        }
-    }
+    put_asked(rt, alloc, out, of, &Asked::of_question(question))
 }
 
-/// The picture that a script asks for.
-fn shown(from: u64, to: u64, wires: &WireNames) -> PictureText<'_>
-    ensures wires { result.asked.wires.now ≡ wires.now }
-    ensures range { (result.asked.from ≡ from) × (result.asked.to ≡ to) }
-    ensures usual { (result.asked.columns ≡ usual_columns) × (result.drawing ≡ Text Unicode) × (result.numerals ≡ Decimal) }
+/// Writes what is asked for.
+fn put_asked<R: Threads + Sync, T: Sink>(
+    rt: &R,
+    alloc: Global,
+    out: &mut Out<T>,
+    of: &Snapshot<'_>,
+    asked: &Asked<'_>,
+) -> Result<(), WriteError>
+    ensures { WritesAll result out.old out.new (asked_answer asked.now of.now) }
 {
-    PictureText {
-        asked: AskedPicture {
-            wires: wires.as_slice(),
-            from,
-            to,
-            columns: USUAL_COLUMNS,
-        },
-        drawing: Drawing::Text(Charset::Unicode),
-        numerals: Numerals::Decimal,
+    match asked {
+        Asked::View(view) => put_view(rt, alloc, out, of, view),
+        Asked::Wire(name) => Ok(put_wire(out, of, name)?),
+        Asked::Netlist => Ok(put_netlist(out, of.netlist())?),
+        Asked::Work => put_work_lines(out, of.netlist(), of.work),
+        Asked::Version => Ok(("version ", of.version.number(), "\n").put_to(out)?),
+        Asked::Edits { from } => Ok(put_edits_from(out, of.version, *from)?),
     }
 }
 

@@ -1,0 +1,82 @@
+//! What a question asks for.
+ghost use Rattle.std.specs.Prelude.{◌≡◌};
+ghost use Rattle.mp_commands.specs.answers.Names.{Unicode, Decimal, usual_columns};
+ghost use Rattle.mp_commands.specs.declared.views.drawing.Drawing.TheVariants.{Text};
+ghost use Rattle.mp_commands.specs.answers.Answers.{answer_text, asked_answer};
+
+use crate::views::{AskedPicture, Drawing, PathLines, PictureText, USUAL_COLUMNS, View, WhyLines};
+use mp_netlist::Name;
+use mp_picture::{Charset, Numerals};
+use mp_questions::TimeRange;
+use mp_text::{Question, WireNames};
+
+/// What a question asks for: a view, or a text that is none.
+#[derive(Clone, Copy)]
+pub(crate) enum Asked<'a> {
+    View(View<'a>),
+    /// The line of the wire of this name.
+    Wire(&'a Name),
+    /// The netlist's text.
+    Netlist,
+    /// What was computed again for the last edit.
+    Work,
+    /// The number of accepted edits.
+    Version,
+    /// The accepted edits from this number on.
+    Edits { from: u64 },
+}
+
+impl<'a> Asked<'a> {
+    /// What this question asks for.
+    pub(crate) fn of_question(question: &'a Question) -> Asked<'a>
+        ensures { asked_answer result ≡ (λ kept. answer_text kept question.now) }
+    {
+        match question {
+            Question::Wave(name) => Asked::Wire(name),
+            Question::Text => Asked::Netlist,
+            Question::Work => Asked::Work,
+            Question::Version => Asked::Version,
+            Question::Edits { from } => Asked::Edits { from: *from },
+            Question::Waves => Asked::View(View::Waves),
+            Question::Report => Asked::View(View::Report),
+            Question::Check => Asked::View(View::Check),
+            Question::Dump => Asked::View(View::Dump),
+            Question::Graph => Asked::View(View::Graph),
+            Question::Verilog => Asked::View(View::Verilog),
+            Question::Show { from, to, wires } => {
+                Asked::View(View::Picture(shown(*from, *to, wires)))
+            }
+            Question::Waits { time } => Asked::View(View::Waits { time: *time }),
+            Question::Measure { from, to } => Asked::View(View::Measure(TimeRange {
+                from: *from,
+                to: *to,
+            })),
+            Question::Why { wire, time, steps } => Asked::View(View::Why(WhyLines {
+                wire,
+                time: *time,
+                steps: *steps,
+            })),
+            Question::Path { wire, time } => {
+                Asked::View(View::Path(PathLines { wire, time: *time }))
+            }
+        }
+    }
+}
+
+/// The picture that a script asks for.
+fn shown(from: u64, to: u64, wires: &WireNames) -> PictureText<'_>
+    ensures wires { result.asked.wires.now ≡ wires.now }
+    ensures range { (result.asked.from ≡ from) × (result.asked.to ≡ to) }
+    ensures usual { (result.asked.columns ≡ usual_columns) × (result.drawing ≡ Text Unicode) × (result.numerals ≡ Decimal) }
+{
+    PictureText {
+        asked: AskedPicture {
+            wires: wires.as_slice(),
+            from,
+            to,
+            columns: USUAL_COLUMNS,
+        },
+        drawing: Drawing::Text(Charset::Unicode),
+        numerals: Numerals::Decimal,
+    }
+}
