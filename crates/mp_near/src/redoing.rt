@@ -45,10 +45,27 @@ pub fn redo_edit<R: Threads + Wait + Sync, G: Gate + Sync>(
     let Some(region) = find_small(context.alloc, &change, edit)? else {
         return redo(context, old, run, new);
     };
-    if !has_least(new, &region) {
-        return redo(context, old, run, new);
+    let redone = redo_by(context, &change, &region);
+    drop(region);
+    redone
+}
+
+/// Evaluates a change again by a region of it, if that has the least delay of its netlist.
+fn redo_by<R: Threads + Wait + Sync, G: Gate + Sync>(
+    context: &RerunContext<'_, R, G>,
+    change: &Revision<'_>,
+    region: &Small,
+) -> Result<(Run, Work), AllocError>
+    requires change { IsChange change.now }
+    requires region { IsSmall change.now.old.now change.now.new.now region.now }
+    requires allowed { IsAllowed (IsEntry change.now.old.now change.now.new.now) (G.may context.now.gate.now) }
+    ensures run { IfOk result (λ both. IsRun change.now.new.now both.0) }
+    ensures work { IfOk result (λ both. IsWork change.now.old.now change.now.new.now both.1) }
+{
+    if !has_least(change.new, region) {
+        return redo(context, change.old, change.run, change.new);
     }
-    redo_region(context, &change, &region)
+    redo_region(context, change, region)
 }
 
 /// Whether a region has the least delay of its netlist, or no modules.
@@ -72,21 +89,51 @@ fn redo_region<R: Threads + Wait + Sync, G: Gate + Sync>(
     ensures work { IfOk result (λ both. IsWork change.now.old.now change.now.new.now both.1) }
 {
     let alloc = context.alloc;
-    let before = run_before(alloc, change, region)?;
+    let (found, work_spans) = redo_small(context, change, region)?;
+    let work = work_of(alloc, change, region, work_spans.as_slice());
+    drop(work_spans);
+    let Ok(work) = work else {
+        drop(found);
+        return Err(AllocError);
+    };
+    let after = run_after(alloc, change, region, &found);
+    drop(found);
+    match after {
+        Ok(after) => Ok((after, work)),
+        Err(error) => {
+            drop(work);
+            Err(error)
+        }
+    }
+}
+
+/// The run of a region after a change, and the work spans of it.
+fn redo_small<R: Threads + Wait + Sync, G: Gate + Sync>(
+    context: &RerunContext<'_, R, G>,
+    change: &Revision<'_>,
+    region: &Small,
+) -> Result<(Run, Vec<WorkSpan>), AllocError>
+    requires change { IsChange change.now }
+    requires region { IsSmall change.now.old.now change.now.new.now region.now }
+    requires least { HasLeast change.now.new.now region.now }
+    requires allowed { IsAllowed (IsEntry change.now.old.now change.now.new.now) (G.may context.now.gate.now) }
+    ensures run { IfOk result (λ both. IsRun region.entry.now.now both.0) }
+    ensures work_spans { IfOk result (λ both. AreWorkSpans region.entry.now.was region.entry.now.now both.1.items) }
+{
+    let before = run_before(context.alloc, change, region)?;
     let gate = RegionGate {
         gate: context.gate,
         modules: region.picked.modules.numbers.as_slice(),
     };
     let inner = RerunContext {
         rt: context.rt,
-        alloc,
+        alloc: context.alloc,
         crew: context.crew,
         gate: &gate,
     };
-    let (found, work_spans) = mp_redo::rerun::redo(&inner, &region.was, &before, &region.now)?;
-    let after = run_after(alloc, change, region, &found)?;
-    let work = work_of(alloc, change, region, work_spans.as_slice())?;
-    Ok((after, work))
+    let redone = mp_redo::rerun::redo(&inner, &region.was, &before, &region.now);
+    drop(before);
+    redone
 }
 
 /// The work of a change, by the work spans of its region.

@@ -5,6 +5,7 @@ mod editing;
 mod opening_version;
 mod prepared;
 mod session;
+mod versions;
 
 pub use prepared::Prepared;
 pub use session::Session;

@@ -2,6 +2,7 @@
 
 use crate::opening_version::opening_version;
 use crate::prepared::Prepared;
+use crate::versions::versions_of;
 use mp_depend::Work;
 use mp_depend::work::laws::edits_revise;
 use mp_engine::evaluate;
@@ -162,7 +163,13 @@ impl<G: Gate> Session<G> {
         ensures refused { IfErr result (RefusedBy edit (judged self.old.story edit)) }
         ensures err { OnErr result (self.new ≡ self.old) }
     {
-        let next = self.next(&edit)?;
+        let next = match self.next(&edit) {
+            Ok(next) => next,
+            Err(error) => {
+                drop(edit);
+                return Err(error);
+            }
+        };
         let taken = self.prepared(rt, edit, next)?;
         self.commit(taken);
         Ok(())
@@ -238,7 +245,11 @@ impl<G: Gate> Session<G> {
             crew: &self.crew,
             gate: &self.gate,
         };
-        let (run, work) = redo_edit(&context, now, &self.run, &edit, &next)?;
+        let Ok((run, work)) = redo_edit(&context, now, &self.run, &edit, &next) else {
+            drop(edit);
+            drop(next);
+            return Err(AllocError);
+        };
         self.evaluated(edit, next, run, work)
     }
 
@@ -258,9 +269,12 @@ impl<G: Gate> Session<G> {
         ensures edit { IfOk result (λ prepared. prepared.edit ≡ edit) }
         ensures next { OnOk result (present (one_more self.now.story edit) ≡ next) }
     {
-        let edit = Arc::new(self.alloc, edit)?;
-        let next = self.next_version(&edit, next, &run)?;
-        let before = Arc::try_clone(&self.version)?;
+        let Ok((before, edit, next)) = versions_of(self.alloc, &self.version, edit, next, &run)
+        else {
+            drop(run);
+            drop(work);
+            return Err(AllocError);
+        };
         Ok(Prepared {
             before,
             edit,
@@ -268,24 +282,5 @@ impl<G: Gate> Session<G> {
             run,
             work,
         })
-    }
-
-    /// The version after the edit, with its netlist and the waves of its run.
-    fn next_version(
-        &self,
-        edit: &Arc<Edit, Global>,
-        next: Netlist,
-        run: &Run,
-    ) -> Result<Arc<Version, Global>, AllocError>
-        requires accepted { after (present self.now.story) (arc_value edit.now) ≡ Ok next }
-        requires room { length self.now.story.edits < max_edits }
-        requires run { IsRun next run.now }
-        ensures story { IfOk result (λ version. arc_value version ≡ one_more self.now.story (arc_value edit.now)) }
-        ensures now { IfOk result (λ version. present (arc_value version) ≡ next) }
-    {
-        let waves = run.waves().share(self.alloc)?;
-        let edit = Arc::try_clone(edit)?;
-        let version = self.version.next(self.alloc, edit, next, waves)?;
-        Ok(Arc::new(self.alloc, version)?)
     }
 }

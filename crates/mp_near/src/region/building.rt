@@ -19,13 +19,29 @@ pub(crate) fn small_before(
     let Ok(mut small) = Netlist::empty(alloc, old.format(), u64::from(old.horizon())) else {
         return Ok(None);
     };
-    if !add_wires(alloc, change, picked, &mut small)? {
-        return Ok(None);
+    match add_picked(alloc, change, picked, &mut small) {
+        Ok(true) => Ok(Some(small)),
+        Ok(false) => {
+            drop(small);
+            Ok(None)
+        }
+        Err(error) => {
+            drop(small);
+            Err(error)
+        }
     }
-    if !add_modules(alloc, old, picked, &mut small)? {
-        return Ok(None);
+}
+
+fn add_picked(
+    alloc: Global,
+    change: &Revision<'_>,
+    picked: &Picked,
+    small: &mut Netlist,
+) -> Result<bool, AllocError> {
+    if !add_wires(alloc, change, picked, small)? {
+        return Ok(false);
     }
-    Ok(Some(small))
+    add_modules(alloc, change.old, picked, small)
 }
 
 fn add_wires(
@@ -56,24 +72,43 @@ fn add_wire(
     wave: Option<&Wave>,
     small: &mut Netlist,
 ) -> Result<bool, AllocError> {
-    let added = SingleEdit::AddWire {
-        name: found.name.clone()?,
-        width: u64::from(found.width),
-        level: found.initial,
-    };
-    if !is_made(small.apply(&Edit::Single(added)))? {
+    let added = wire_added(found)?;
+    if !make(small, added)? {
         return Ok(false);
     }
-    let changes = match (wave, &found.stimulus) {
-        (Some(wave), _) => changes_of_wave(alloc, wave)?,
-        (None, Some(stimulus)) => changes_of_stimulus(alloc, stimulus)?,
+    let set = match (wave, &found.stimulus) {
+        (Some(wave), _) => stimulus_set(found, changes_of_wave(alloc, wave)?)?,
+        (None, Some(stimulus)) => stimulus_set(found, changes_of_stimulus(alloc, stimulus)?)?,
         (None, None) => return Ok(true),
     };
-    let set = SingleEdit::SetStimulus {
-        wire: found.name.clone()?,
-        changes,
+    make(small, set)
+}
+
+/// The edit that adds a wire like this one, without its stimulus.
+fn wire_added(found: &WireRecord) -> Result<SingleEdit, AllocError> {
+    let name = found.name.clone()?;
+    Ok(SingleEdit::AddWire {
+        name,
+        width: u64::from(found.width),
+        level: found.initial,
+    })
+}
+
+/// The edit that sets these changes as the stimulus of a wire of this name.
+fn stimulus_set(found: &WireRecord, changes: Changes) -> Result<SingleEdit, AllocError> {
+    let Ok(wire) = found.name.clone() else {
+        drop(changes);
+        return Err(AllocError);
     };
-    is_made(small.apply(&Edit::Single(set)))
+    Ok(SingleEdit::SetStimulus { wire, changes })
+}
+
+/// Makes an edit, if it can be made.
+fn make(small: &mut Netlist, edit: SingleEdit) -> Result<bool, AllocError> {
+    let edit = Edit::Single(edit);
+    let answer = small.apply(&edit);
+    drop(edit);
+    is_made(answer)
 }
 
 fn changes_of_wave(alloc: Global, wave: &Wave) -> Result<Changes, AllocError> {
@@ -101,19 +136,58 @@ fn add_modules(
 ) -> Result<bool, AllocError> {
     for m in picked.modules.numbers.as_slice() {
         if let Some(found) = old.module(ModuleId(*m)) {
-            let added = NewModule {
-                name: found.name.clone()?,
-                kind: found.kind,
-                params: found.params.clone()?,
-                inputs: input_names(alloc, old, found.inputs.as_slice())?,
-                outputs: output_names(alloc, old, found.outputs.as_slice())?,
-            };
-            if !is_made(small.apply_module(&added))? {
+            if !add_module(alloc, old, found, small)? {
                 return Ok(false);
             }
         }
     }
     Ok(true)
+}
+
+fn add_module(
+    alloc: Global,
+    old: &Netlist,
+    found: &ModuleRecord,
+    small: &mut Netlist,
+) -> Result<bool, AllocError> {
+    let added = new_module(alloc, old, found)?;
+    let answer = small.apply_module(&added);
+    drop(added);
+    is_made(answer)
+}
+
+/// A module like this one, by the names of its wires.
+fn new_module(alloc: Global, old: &Netlist, found: &ModuleRecord) -> Result<NewModule, AllocError> {
+    let name = found.name.clone()?;
+    let Ok(params) = found.params.clone() else {
+        drop(name);
+        return Err(AllocError);
+    };
+    let Ok((inputs, outputs)) = port_names(alloc, old, found) else {
+        drop(name);
+        drop(params);
+        return Err(AllocError);
+    };
+    Ok(NewModule {
+        name,
+        kind: found.kind,
+        params,
+        inputs,
+        outputs,
+    })
+}
+
+fn port_names(
+    alloc: Global,
+    old: &Netlist,
+    found: &ModuleRecord,
+) -> Result<(InputNames, OutputNames), AllocError> {
+    let inputs = input_names(alloc, old, found.inputs.as_slice())?;
+    let Ok(outputs) = output_names(alloc, old, found.outputs.as_slice()) else {
+        drop(inputs);
+        return Err(AllocError);
+    };
+    Ok((inputs, outputs))
 }
 
 fn input_names(alloc: Global, old: &Netlist, inputs: &[Input]) -> Result<InputNames, AllocError> {
@@ -134,16 +208,20 @@ fn output_names(
 ) -> Result<OutputNames, AllocError> {
     let mut ports = Vec::with_capacity(alloc, outputs.len())?;
     for output in outputs {
-        let wire = match output.wire {
-            Some(wire) => Some(name_of(alloc, old, wire)?),
-            None => None,
-        };
-        ports.push(OutputName {
-            wire,
-            delay: u64::from(output.delay),
-        })?;
+        ports.push(output_name(alloc, old, output)?)?;
     }
     Ok(OutputNames::new(ports))
+}
+
+fn output_name(alloc: Global, old: &Netlist, output: &Output) -> Result<OutputName, AllocError> {
+    let wire = match output.wire {
+        Some(wire) => Some(name_of(alloc, old, wire)?),
+        None => None,
+    };
+    Ok(OutputName {
+        wire,
+        delay: u64::from(output.delay),
+    })
 }
 
 fn name_of(alloc: Global, netlist: &Netlist, wire: WireId) -> Result<Name, AllocError> {

@@ -1,6 +1,7 @@
 //! What is picked from a netlist.
 ghost use Rattle.std.specs.Prelude.{◌≡◌, IfOk, length};
 ghost use Rattle.mp_near.specs.Changes.{IsChange};
+ghost use Rattle.mp_near.specs.region.Given.{AreGiven};
 ghost use Rattle.mp_near.specs.region.Picks.{AreWiresOf};
 ghost use Rattle.mp_near.specs.reach.Reach.{IsWholeReach};
 
@@ -8,7 +9,7 @@ use crate::reach::{Numbering, Reached, mark_inputs};
 use crate::region::given::given_wires;
 use crate::revision::Revision;
 use mp_depend::drivers_of;
-use mp_netlist::ModuleId;
+use mp_netlist::{ModuleId, Netlist};
 use std::alloc::{AllocError, Global};
 
 /// Modules and the wires at their ports, and of each of these wires, by its new number, whether a module drives it that isn't picked.
@@ -39,21 +40,39 @@ impl Picked {
         let _wires = change.new.wire_slots();
         let _modules = change.new.module_slots();
         let marks = wires_of(alloc, change, reached)?;
-        let wires = Numbering::of(alloc, marks.as_slice())?;
-        let modules = Numbering::of(alloc, reached.modules.as_slice())?;
-        let drivers = drivers_of(alloc, change.new)?;
-        let given = given_wires(
-            alloc,
-            wires.numbers.as_slice(),
-            drivers.as_slice(),
-            reached.modules.as_slice(),
-        )?;
+        let wires = Numbering::of(alloc, marks.as_slice());
+        drop(marks);
+        let wires = wires?;
+        let Ok(modules) = Numbering::of(alloc, reached.modules.as_slice()) else {
+            drop(wires);
+            return Err(AllocError);
+        };
+        let Ok(given) = given_of(alloc, change.new, reached, wires.numbers.as_slice()) else {
+            drop(wires);
+            drop(modules);
+            return Err(AllocError);
+        };
         Ok(Picked {
             wires,
             modules,
             given,
         })
     }
+}
+
+/// Whether a module that isn't reached drives each of these wires.
+fn given_of(
+    alloc: Global,
+    new: &Netlist,
+    reached: &Reached,
+    wires: &[u32],
+) -> Result<Vec<bool>, AllocError>
+    ensures { IfOk result (λ given. AreGiven new.now reached.now.modules.items wires.now given.items) }
+{
+    let drivers = drivers_of(alloc, new)?;
+    let given = given_wires(alloc, wires, drivers.as_slice(), reached.modules.as_slice());
+    drop(drivers);
+    given
 }
 
 /// Marks on the wires that are reached, and on those that modules read that are.

@@ -33,33 +33,65 @@ pub(crate) fn find_small(
     let Some(found) = find_reached(alloc, change.old, change.new, most)? else {
         return Ok(None);
     };
-    let picked = Picked::of(alloc, change, &found)?;
-    let Some(was) = small_before(alloc, change, &picked)? else {
-        return Ok(None);
-    };
-    let now = small_after(&was, edit)?;
-    Ok(checked(change, picked, was, now))
+    let picked = Picked::of(alloc, change, &found);
+    drop(found);
+    small_of(alloc, change, picked?, edit)
 }
 
-/// The region with these netlists, if they are what is picked.
-fn checked(change: &Revision<'_>, picked: Picked, was: Netlist, now: Netlist) -> Option<Small>
+/// The region of what is picked, if both of its netlists can be made.
+fn small_of(
+    alloc: Global,
+    change: &Revision<'_>,
+    picked: Picked,
+    edit: &Edit,
+) -> Result<Option<Small>, AllocError>
     requires change { IsChange change.now }
     requires picks { ArePicks change.now.old.now change.now.new.now picked }
+    ensures { IfOk result (λ found. IfSome found (IsSmall change.now.old.now change.now.new.now)) }
+{
+    match both_netlists(alloc, change, &picked, edit) {
+        Ok(Some((was, now))) => Ok(checked(change, Small { picked, was, now })),
+        Ok(None) => {
+            drop(picked);
+            Ok(None)
+        }
+        Err(error) => {
+            drop(picked);
+            Err(error)
+        }
+    }
+}
+
+/// The region, if its netlists are what is picked.
+fn checked(change: &Revision<'_>, small: Small) -> Option<Small>
+    requires change { IsChange change.now }
+    requires picks { ArePicks change.now.old.now change.now.new.now small.picked }
     ensures { IfSome result (IsSmall change.now.old.now change.now.new.now) }
 {
+    if is_small(change, &small) {
+        Some(small)
+    } else {
+        drop(small);
+        None
+    }
+}
+
+/// Whether the netlists of a region are what is picked for it.
+fn is_small(change: &Revision<'_>, small: &Small) -> bool
+    requires change { IsChange change.now }
+    requires picks { ArePicks change.now.old.now change.now.new.now small.now.picked }
+    ensures { result ≡ true → IsSmall change.now.old.now change.now.new.now small.entry.now }
+{
     // Their contracts say that the netlists are well formed.
-    let _was_horizon = was.horizon();
-    let _now_horizon = now.horizon();
-    if !has_grown(&was, &now) {
-        return None;
+    let _was_horizon = small.was.horizon();
+    let _now_horizon = small.now.horizon();
+    if !has_grown(&small.was, &small.now) {
+        return false;
     }
-    if !is_picked(change, change.old, &picked, &was) {
-        return None;
+    if !is_picked(change, change.old, &small.picked, &small.was) {
+        return false;
     }
-    if !is_picked(change, change.new, &picked, &now) {
-        return None;
-    }
-    Some(Small { picked, was, now })
+    is_picked(change, change.new, &small.picked, &small.now)
 }
 
 /// Whether the later netlist has no fewer slots.
@@ -69,9 +101,33 @@ fn has_grown(was: &Netlist, now: &Netlist) -> bool
     was.wire_slots() <= now.wire_slots() && was.module_slots() <= now.module_slots()
 }
 
+/// What is picked, as a netlist and as a copy of it with the edit, if they can be made.
+fn both_netlists(
+    alloc: Global,
+    change: &Revision<'_>,
+    picked: &Picked,
+    edit: &Edit,
+) -> Result<Option<(Netlist, Netlist)>, AllocError> {
+    let Some(was) = small_before(alloc, change, picked)? else {
+        return Ok(None);
+    };
+    match small_after(&was, edit) {
+        Ok(now) => Ok(Some((was, now))),
+        Err(error) => {
+            drop(was);
+            Err(error)
+        }
+    }
+}
+
 /// A copy of the netlist with the edit, if that can be made in it.
 fn small_after(was: &Netlist, edit: &Edit) -> Result<Netlist, AllocError> {
     let mut now = was.copy()?;
-    let _made = is_made(now.apply(edit))?;
-    Ok(now)
+    match is_made(now.apply(edit)) {
+        Ok(_) => Ok(now),
+        Err(error) => {
+            drop(now);
+            Err(error)
+        }
+    }
 }

@@ -11,13 +11,13 @@ find_small-requires g c = record {
   run = c.requires.run;
 }
 
-pub redo_region-requires-clause-change : goal.redo_region-requires-clause-change
-redo_region-requires-clause-change g c = λ asked lives. record {
+pub redo_by-redone-requires-clause-change : goal.redo_by-redone-requires-clause-change
+redo_by-redone-requires-clause-change g c = λ asked lives. record {
   old = c.horizon-old_horizon.ensures.form;
   new = c.horizon-new_horizon.ensures.form;
   revision = c.requires.revision;
   run = c.requires.run;
 }
 
-pub redo_region-requires-clause-region : goal.redo_region-requires-clause-region
-redo_region-requires-clause-region g c = λ asked lives. subst (λ o. IfSome o (IsSmall c.args.old.now c.args.new.now)) c.in-Some.is c.in_ok-region.ensures
+pub redo_by-redone-requires-clause-region : goal.redo_by-redone-requires-clause-region
+redo_by-redone-requires-clause-region g c = λ asked lives. subst (λ o. IfSome o (IsSmall c.args.old.now c.args.new.now)) c.in-Some.is c.in_ok-region.ensures

@@ -1,10 +1,10 @@
-use Rattle.mp_near.proofs.region.small.checked.Goals as goal
+use Rattle.mp_near.proofs.region.small.is_small.Goals as goal
 
 pub returns : goal.returns
-returns c =
+returns c is =
     let grown = c.has_grown.ensures c.if-not-has_grown.false in
     let was = c.is_picked.ensures c.if-not-is_picked.false in
-    let now = c.is_picked-2.ensures c.if-not-is_picked-2.false in
+    let now = c.is_picked-2.ensures is in
     record {
       picks = c.requires.picks;
       region = record { region = c.requires.picks.region; old_picking = c.requires.picks.before; new_picking = c.requires.picks.after; before = was.has; after = now.has };
