@@ -7,5 +7,5 @@ mod reached;
 
 pub(crate) use differences::is_same_stimulus;
 pub(crate) use numbering::Numbering;
-pub(crate) use ports::mark_inputs;
+pub(crate) use ports::{mark_inputs, mark_outputs};
 pub(crate) use reached::{Reached, find_reached};

@@ -1,5 +1,5 @@
 //! Marks on the wires at a module's ports.
-ghost use Rattle.std.specs.Prelude.{◌≡◌, ℕ, ◌<◌, true, false, Some, length};
+ghost use Rattle.std.specs.Prelude.{◌≡◌, ◌⊎◌, ℕ, ◌<◌, true, false, Some, length};
 ghost use Rattle.std.specs.List.{list_any};
 ghost use Rattle.mp_records.specs.declared.ports.Input.{Input as Entry};
 ghost use Rattle.mp_records.specs.Inputs.{input_in};
@@ -16,6 +16,7 @@ use mp_netlist::{Input, ModuleId, Netlist, Output};
 pub(crate) fn mark_outputs(netlist: &Netlist, id: ModuleId, marks: &mut Vec<bool>)
     ensures grown { AreGrown marks.old.items marks.new.items }
     ensures driven { (p w : ℕ) → Drives netlist.now id.0 p w → w < length marks.old.items → is_marked marks.new.items w ≡ true }
+    ensures only { (w : ℕ) → is_marked marks.new.items w ≡ true → (is_marked marks.old.items w ≡ true) ⊎ ((p : ℕ) × Drives netlist.now id.0 p w) }
 {
     if let Some(found) = netlist.module(id) {
         mark_driven(found.outputs.as_slice(), marks);
@@ -25,6 +26,7 @@ pub(crate) fn mark_outputs(netlist: &Netlist, id: ModuleId, marks: &mut Vec<bool
 fn mark_driven(outputs: &[Output], marks: &mut Vec<bool>)
     ensures grown { AreGrown marks.old.items marks.new.items }
     ensures driven { (p w : ℕ) → (output_in outputs.now p).wire ≡ Some (record { 0 = w }) → w < length marks.old.items → is_marked marks.new.items w ≡ true }
+    ensures only { (w : ℕ) → is_marked marks.new.items w ≡ true → (is_marked marks.old.items w ≡ true) ⊎ ((p : ℕ) × ((output_in outputs.now p).wire ≡ Some (record { 0 = w }))) }
 {
     for output in outputs {
         mark_output(*output, marks);
@@ -34,6 +36,7 @@ fn mark_driven(outputs: &[Output], marks: &mut Vec<bool>)
 fn mark_output(output: Output, marks: &mut Vec<bool>)
     ensures grown { AreGrown marks.old.items marks.new.items }
     ensures driven { (w : ℕ) → output.wire ≡ Some (record { 0 = w }) → w < length marks.old.items → is_marked marks.new.items w ≡ true }
+    ensures only { (w : ℕ) → is_marked marks.new.items w ≡ true → (is_marked marks.old.items w ≡ true) ⊎ (output.wire ≡ Some (record { 0 = w })) }
 {
     if let Some(wire) = output.wire {
         mark(marks, wire.0);
@@ -59,9 +62,11 @@ fn mark_read(inputs: &[Input], marks: &mut Vec<bool>)
     }
 }
 
-fn mark(marks: &mut Vec<bool>, number: u32)
+/// Marks a number, if it has a place.
+pub(crate) fn mark(marks: &mut Vec<bool>, number: u32)
     ensures grown { AreGrown marks.old.items marks.new.items }
     ensures marked { number < length marks.old.items → is_marked marks.new.items number ≡ true }
+    ensures only { (k : ℕ) → is_marked marks.new.items k ≡ true → (is_marked marks.old.items k ≡ true) ⊎ (k ≡ number) }
 {
     let place = number as usize;
     if place < marks.len() {

@@ -1,15 +1,13 @@
 //! What is picked from a netlist.
 ghost use Rattle.std.specs.Prelude.{◌≡◌, IfOk, length};
 ghost use Rattle.mp_near.specs.Changes.{IsChange};
-ghost use Rattle.mp_near.specs.region.Given.{AreGiven};
 ghost use Rattle.mp_near.specs.region.Picks.{AreWiresOf};
 ghost use Rattle.mp_near.specs.reach.Reach.{IsWholeReach};
 
 use crate::reach::{Numbering, Reached, mark_inputs};
 use crate::region::given::given_wires;
 use crate::revision::Revision;
-use mp_depend::drivers_of;
-use mp_netlist::{ModuleId, Netlist};
+use mp_netlist::ModuleId;
 use std::alloc::{AllocError, Global};
 
 /// Modules and the wires at their ports, and of each of these wires, by its new number, whether a module drives it that isn't picked.
@@ -47,7 +45,12 @@ impl Picked {
             drop(wires);
             return Err(AllocError);
         };
-        let Ok(given) = given_of(alloc, change.new, reached, wires.numbers.as_slice()) else {
+        let Ok(given) = given_wires(
+            alloc,
+            change.new,
+            reached.modules.as_slice(),
+            wires.numbers.as_slice(),
+        ) else {
             drop(wires);
             drop(modules);
             return Err(AllocError);
@@ -58,21 +61,6 @@ impl Picked {
             given,
         })
     }
-}
-
-/// Whether a module that isn't reached drives each of these wires.
-fn given_of(
-    alloc: Global,
-    new: &Netlist,
-    reached: &Reached,
-    wires: &[u32],
-) -> Result<Vec<bool>, AllocError>
-    ensures { IfOk result (λ given. AreGiven new.now reached.now.modules.items wires.now given.items) }
-{
-    let drivers = drivers_of(alloc, new)?;
-    let given = given_wires(alloc, wires, drivers.as_slice(), reached.modules.as_slice());
-    drop(drivers);
-    given
 }
 
 /// Marks on the wires that are reached, and on those that modules read that are.

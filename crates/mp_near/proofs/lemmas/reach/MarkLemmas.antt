@@ -1,5 +1,5 @@
 -- Marks that are set one by one.
-use Rattle.std.proofs.Common.{◌≡◌, ℕ, ◌+◌, ◌<◌, Bool, true, false, List, Option, Some, None, length, slice_index_or, refl, ap, sym, subst, ◌∙◌, arith, inl, inr}
+use Rattle.std.proofs.Common.{◌≡◌, ◌⊎◌, ℕ, ◌+◌, ◌<◌, Bool, true, false, List, Option, Some, None, length, slice_index_or, refl, ap, sym, subst, ◌∙◌, arith, inl, inr}
 use Rattle.std.specs.Prelude.{Contains}
 use Rattle.std.specs.List.{list_any}
 use Rattle.std.proofs.lemmas.Bool.{cases_lt, cases_eq}
@@ -44,6 +44,18 @@ driven_all outputs count size marks all are p w is within = elim (cases_lt p cou
       cc
 ]
 
+-- beside what was marked at first only wires of outputs are
+abbrev pub AreOnlyDriven : List Output → List Bool → List Bool → Type 0
+AreOnlyDriven outputs first marks = (w : ℕ) → is_marked marks w ≡ true → (is_marked first w ≡ true) ⊎ ((p : ℕ) × ((output_in outputs p).wire ≡ Some (record { 0 = w })))
+
+pub only_more : (outputs : List Output) (i : ℕ) (first before after : List Bool) (d : Output) → i < length outputs →
+    ((w : ℕ) → is_marked after w ≡ true → (is_marked before w ≡ true) ⊎ ((slice_index_or outputs i d).wire ≡ Some (record { 0 = w }))) → AreOnlyDriven outputs first before → AreOnlyDriven outputs first after
+only_more outputs i first before after d inside one are w is = by (one w is)
+  where
+    by : (is_marked before w ≡ true) ⊎ ((slice_index_or outputs i d).wire ≡ Some (record { 0 = w })) → (is_marked first w ≡ true) ⊎ ((p : ℕ) × ((output_in outputs p).wire ≡ Some (record { 0 = w })))
+    by (inl had) = are w had
+    by (inr at) = inr (i, ap (λ (o : Output). o.wire) (get_or_default outputs i (record { wire = None; delay = 1 }) d inside) ∙ at)
+
 -- the wires of the first so many inputs are marked
 abbrev pub AreRead : List Input → ℕ → ℕ → List Bool → Type 0
 AreRead inputs count size marks = (p : ℕ) → p < count → (input_in inputs p).wire.0 < size → is_marked marks (input_in inputs p).wire.0 ≡ true
@@ -71,6 +83,14 @@ module_driven n m found outputs size marks at same are p w drives low =
     let there : module_at n m ≡ Some drives.part = drives.stands in
     let one : drives.part ≡ found = cc in
     are p w (ap (λ (os : List Output). (output_in os p).wire) (same ∙ ap (λ (r : ModuleRecord). r.outputs) (sym one)) ∙ drives.output) low
+
+pub module_only : (n : Circuit) (m : ℕ) (found : ModuleRecord) (outputs : List Output) (first marks : List Bool) → module_at n m ≡ Some found → outputs ≡ found.outputs → AreOnlyDriven outputs first marks →
+    (w : ℕ) → is_marked marks w ≡ true → (is_marked first w ≡ true) ⊎ ((p : ℕ) × Drives n m p w)
+module_only n m found outputs first marks at same are w is = by (are w is)
+  where
+    by : (is_marked first w ≡ true) ⊎ ((p : ℕ) × ((output_in outputs p).wire ≡ Some (record { 0 = w }))) → (is_marked first w ≡ true) ⊎ ((p : ℕ) × Drives n m p w)
+    by (inl had) = inl had
+    by (inr port) = inr (port.0, record { part = found; stands = at; output = ap (λ (os : List Output). (output_in os port.0).wire) (sym same) ∙ port.1 })
 
 pub none_driven : (n : Circuit) (m : ℕ) → module_at n m ≡ None → (p w : ℕ) → Drives n m p w → ⊥
 none_driven n m none p w drives = let there : module_at n m ≡ Some drives.part = drives.stands in cc

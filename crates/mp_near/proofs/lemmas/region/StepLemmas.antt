@@ -1,31 +1,15 @@
 -- One more element of a list.
-use Rattle.std.proofs.Common.{◌≡◌, ℕ, ◌+◌, ◌<◌, Bool, false, List, [], ◌∷◌, ◌++◌, map, option_map, take, length, slice_index_or, ap, sym, subst, ◌∙◌, arith, inl, inr}
+use Rattle.std.proofs.Common.{◌≡◌, ℕ, ◌+◌, ◌<◌, Bool, List, [], ◌∷◌, ◌++◌, map, option_map, take, length, slice_index_or, ap, sym, subst, ◌∙◌, arith, inl, inr}
 use Rattle.std.proofs.lemmas.Bool.{cases_eq}
-use Rattle.std.proofs.lemmas.List.{get_or_append_left, get_or_default, get_or_push, length_push, map-append, take_more}
+use Rattle.std.proofs.lemmas.List.{get_or_default, map-append, take_more}
 use Rattle.std.proofs.Math.Seq.{take-length}
-use Rattle.mp_netlist.specs.declared.driver.Driver.{Driver}
 use Rattle.mp_netlist.specs.Circuit.{Circuit, wire_at, module_at}
-use Rattle.mp_depend.specs.Drivers.{driver_in}
 use Rattle.mp_partition.specs.runs.Marks.{is_marked}
 use Rattle.mp_partition.specs.runs.Outcomes.{Outcome}
 use Rattle.mp_near.specs.laws.Picking.{placed}
-use Rattle.mp_near.specs.region.Given.{AreOutside, is_outside}
 use Rattle.mp_near.specs.region.Likeness.{AreWiresLike, AreModulesLike, picked_wire}
 use Rattle.mp_near.specs.reach.Numbers.{place_at}
 use Rattle.mp_near.specs.declared.region.picked.Picked.{Picked}
-
--- one more wire of which it is noted whether a module outside drives it
-pub outside_more : (drivers : List Driver) (modules : List Bool) (wires : List ℕ) (i : ℕ) (given : List Bool) (b : Bool) (d : ℕ) → i < length wires → b ≡ is_outside (driver_in drivers (slice_index_or wires i d)) modules →
-    AreOutside drivers modules wires i given → AreOutside drivers modules wires (i + 1) (given ++ b ∷ [])
-outside_more drivers modules wires i given b d inside is are = record {
-  places = length_push given b ∙ ap (λ k. k + 1) are.places;
-  each = λ k e low. elim (cases_eq k i) as (λ _. is_marked (given ++ b ∷ []) k ≡ is_outside (driver_in drivers (slice_index_or wires k e)) modules) [
-    | inl here ↦
-        ap (λ j. is_marked (given ++ b ∷ []) j) here ∙ get_or_push given b false i are.places ∙ is
-        ∙ ap (λ w. is_outside (driver_in drivers w) modules) (get_or_default wires i d e inside ∙ ap (λ j. slice_index_or wires j e) (sym here))
-    | inr other ↦ let size = are.places in get_or_append_left given (b ∷ []) false k (omega arith) ∙ are.each k e (omega arith)
-  ];
-}
 
 -- one more wire of the small netlist is like the one that it stands for
 pub wires_more : (run : Outcome) (n : Circuit) (picked : Picked) (small : Circuit) (i w d : ℕ) (b : Bool) → i < length picked.wires.numbers.items → w ≡ slice_index_or picked.wires.numbers.items i d →

@@ -1,6 +1,6 @@
 use Rattle.std.proofs.Common.{ℕ, None, length, arith}
 use Rattle.mp_records.specs.declared.ports.Output.{Output}
-use Rattle.mp_near.proofs.lemmas.reach.MarkLemmas.{grown_more, driven_more, driven_all}
+use Rattle.mp_near.proofs.lemmas.reach.MarkLemmas.{grown_more, driven_more, driven_all, only_more}
 use Rattle.mp_near.proofs.reach.ports.mark_driven.Goals as goal
 
 pub loop-output-preserved : goal.loop-output-preserved
@@ -14,6 +14,7 @@ loop-output-preserved c =
     record {
       grown = grown_more first before next is.grown c.mark_output.ensures.grown;
       driven = driven_more c.args.outputs.now i (length first) before next d c.loop-output-test.true is.grown.places c.mark_output.ensures.grown is.driven c.mark_output.ensures.driven;
+      only = only_more c.args.outputs.now i first before next d c.loop-output-test.true c.mark_output.ensures.only is.only;
     }
 
 pub returns-clause-driven : goal.returns-clause-driven

@@ -1,6 +1,0 @@
-use Rattle.mp_near.specs.region.Given.{AreOutside}
-use Rattle.mp_near.proofs.region.given.given_wires.Given as goal
-
--- those so far
-abbrev pub invariant-loop-wire : goal.invariant-loop-wire
-invariant-loop-wire l = AreOutside l.drivers l.modules l.wires l.wire-index l.given.items
