@@ -118,7 +118,7 @@ fn checkpoints_of(
     requires { AreRuns change.now small.now found.now }
     ensures { IfOk result (λ kept. HasCheckpoints change.now.new.now id.0 (option_map arc_value kept)) }
 {
-    let Some(_) = change.new.module(id) else {
+    let Some(_) = end_of(change, small, found, id) else {
         return Ok(None);
     };
     match small.picked.modules.place_in(id.0) {

@@ -1,12 +1,13 @@
 -- What the run of a region and the run of its netlist have of each other.
-use Rattle.std.proofs.Common.{◌≡◌, ℕ, ◌+◌, ◌%◌, ◌<◌, ◌==◌, ◌&&◌, nat_lt, Bool, true, false, cond, List, Option, Some, None, option_map, length, slice_index_or, refl, ap, sym, subst, ◌∙◌, arith}
+use Rattle.std.proofs.Common.{◌≡◌, ℕ, ◌+◌, ◌-◌, ◌%◌, ◌<◌, ◌==◌, ◌&&◌, nat_lt, Bool, true, false, cond, List, Option, Some, None, option_map, length, slice_index_or, refl, ap, sym, subst, ◌∙◌, arith}
 use Rattle.std.proofs.lemmas.Bool.{lt-ltb, eq-eqb}
 use Rattle.std.proofs.lemmas.List.{get_or_default}
+use Rattle.mp_modules.specs.declared.memory.Memory.{Memory}
 use Rattle.mp_records.specs.declared.module_record.ModuleRecord.{ModuleRecord}
 use Rattle.mp_netlist.specs.Slots.{slot_at}
 use Rattle.mp_netlist.specs.Circuit.{Circuit, wire_at, module_at}
 use Rattle.mp_netlist.specs.Limits.{checkpoint_units}
-use Rattle.mp_model.specs.Waves.{level, slot_wave}
+use Rattle.mp_model.specs.Waves.{level, slot_wave, state}
 use Rattle.mp_partition.specs.runs.Checkpoints.{state_before, IsBorder}
 use Rattle.mp_partition.specs.runs.Outcomes.{Outcome, wave_of, end_of}
 use Rattle.mp_partition.specs.runs.Runs.{IsRun, end_memory, checkpoint}
@@ -44,6 +45,21 @@ checkpoints_as n s m k horizon same kept has c border low =
 -- nothing is kept where no module stands
 pub states_nowhere : (n : Circuit) (m : ℕ) → module_at n m ≡ None → HasCheckpoints n m None
 states_nowhere n m none c border low = rw none refl
+
+-- a module stands exactly if it has a last state
+pub no_end : (n : Circuit) (m : ℕ) → end_memory n m ≡ None → module_at n m ≡ None
+no_end n m none = by (module_at n m) refl
+  where
+    by : (slot : Option ModuleRecord) → module_at n m ≡ slot → module_at n m ≡ None
+    by None at = at
+    by (Some r) at = let some : end_memory n m ≡ Some (state n m (n.horizon - 1)) = ap (option_map (λ (r : ModuleRecord). state n m (n.horizon - 1))) at in absurd (let no : ⊥ = cc in no)
+
+pub some_end : (n : Circuit) (m : ℕ) (end : Memory) → end_memory n m ≡ Some end → (r : ModuleRecord) × (module_at n m ≡ Some r)
+some_end n m end is = by (module_at n m) refl
+  where
+    by : (slot : Option ModuleRecord) → module_at n m ≡ slot → (r : ModuleRecord) × (module_at n m ≡ Some r)
+    by None at = let none : end_memory n m ≡ None = ap (option_map (λ (r : ModuleRecord). state n m (n.horizon - 1))) at in absurd (let no : ⊥ = cc in no)
+    by (Some r) at = (r, at)
 
 module _ (change : Revision) (is : IsChange change) (small : Small) (like : IsSmall change.old.now change.new.now small) where
   abbrev pub pick : Picking
