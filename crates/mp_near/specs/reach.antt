@@ -1,3 +1,4 @@
 pub mod Marks
+pub mod Named
 pub mod Numbers
 pub mod Reach

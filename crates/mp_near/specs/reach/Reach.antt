@@ -1,5 +1,5 @@
 -- What an edit reaches.
-use Rattle.std.specs.Prelude.{◌≡◌, ◌⊎◌, ℕ, Bool, true, false, List, IsSome, None, length}
+use Rattle.std.specs.Prelude.{◌≡◌, ◌⊎◌, ℕ, ◌<◌, ◌≤◌, Bool, true, false, List, IsSome, None, length}
 use Rattle.mp_netlist.specs.Circuit.{Circuit, Drives, wire_at, module_at, stimulus_at}
 use Rattle.mp_partition.specs.runs.Marks.{is_marked}
 use Rattle.mp_partition.specs.regions.Readers.{Reads}
@@ -20,6 +20,10 @@ pub record IsReach (old new : Circuit) (modules wires : List Bool) : Type 0 wher
 -- the module reads no marked wire
 abbrev pub ReadsNone : Circuit → List Bool → ℕ → Type 0
 ReadsNone n wires m = (w : ℕ) → Reads n m w → is_marked wires w ≡ false
+
+-- of the modules from a number on, below another, none that isn't marked reads a marked wire
+abbrev pub IsClosedBetween : Circuit → List Bool → List Bool → ℕ → ℕ → Type 0
+IsClosedBetween n modules wires from to = (m : ℕ) → from ≤ m → m < to → is_marked modules m ≡ false → ReadsNone n wires m
 
 -- and no other module reads a marked wire
 pub record IsWholeReach (old new : Circuit) (modules wires : List Bool) : Type 0 where

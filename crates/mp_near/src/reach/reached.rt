@@ -1,11 +1,13 @@
 //! The modules that an edit reaches, found in passes over all modules.
-ghost use Rattle.std.specs.Prelude.{◌≡◌, ◌<◌, Some, IfOk, IfSome, length};
+ghost use Rattle.std.specs.Prelude.{◌≡◌, Ok, IfOk, IfSome};
+ghost use Rattle.mp_netlist.specs.Edits.{after};
 ghost use Rattle.mp_depend.specs.work.Revisions.{IsRevision};
 ghost use Rattle.mp_near.specs.reach.Reach.{IsWholeReach};
 
-use crate::reach::differences::{other_modules, other_wires};
+use crate::reach::named::{named_modules, named_wires};
 use crate::reach::ports::{mark_outputs, reads_marked};
-use mp_netlist::{ModuleId, Netlist};
+use crate::revision::Revision;
+use mp_netlist::{Edit, ModuleId, Netlist};
 use std::alloc::{AllocError, Global};
 
 /// Marks on modules, and on each wire that is another in the new netlist or that a marked module drives, before the edit or after it.
@@ -15,49 +17,59 @@ pub(crate) struct Reached {
     pub wires: Vec<bool>,
 }
 
-/// After so many passes that found another module the whole netlist is evaluated again.
-const MOST_PASSES: u32 = 8;
+/// After so many rounds that found another module the whole netlist is evaluated again.
+const MOST_ROUNDS: u32 = 8;
 
 /// What an edit reaches, if that is at most so many modules and is soon found.
 pub(crate) fn find_reached(
     alloc: Global,
-    old: &Netlist,
-    new: &Netlist,
+    change: &Revision<'_>,
+    edit: &Edit,
     most: u32,
 ) -> Result<Option<Reached>, AllocError>
-    requires { IsRevision old.now new.now }
-    ensures { IfOk result (λ found. IfSome found (λ reached. IsWholeReach old.now new.now reached.modules.items reached.wires.items)) }
+    requires revision { IsRevision change.now.old.now change.now.new.now }
+    requires after { after change.now.old.now edit.now ≡ Ok change.now.new.now }
+    ensures { IfOk result (λ found. IfSome found (λ reached. IsWholeReach change.now.old.now change.now.new.now reached.modules.items reached.wires.items)) }
 {
-    let mut found = Reached::first(alloc, old, new)?;
-    let mut left = most;
-    'passes: for _ in 0..MOST_PASSES {
-        let Some(rest) = found.pass(old, new, left) else {
-            return Ok(None);
-        };
-        if rest == left {
-            return Ok(Some(found));
-        }
-        left = rest;
+    let mut found = Reached::first(alloc, change.old, edit, change.new)?;
+    if found.spread(change.old, change.new, most) {
+        Ok(Some(found))
+    } else {
+        drop(found);
+        Ok(None)
     }
-    Ok(None)
+}
+
+/// How far a pass over modules has come: how many more may be marked, and the number after the last module that it marked.
+#[derive(Clone, Copy)]
+struct Passed {
+    left: u32,
+    last: u32,
 }
 
 impl Reached {
-    ghost use Rattle.std.specs.Prelude.{◌≡◌, ◌<◌, Some, false, IfOk, length};
+    ghost use Rattle.std.specs.Prelude.{◌≡◌, ◌<◌, ◌≤◌, ℕ, Ok, true, false, IfOk, IfSome, length};
+    ghost use Rattle.mp_netlist.specs.Edits.{after};
     ghost use Rattle.mp_depend.specs.work.Revisions.{IsRevision};
     ghost use Rattle.mp_partition.specs.runs.Marks.{is_marked};
-    ghost use Rattle.mp_near.specs.reach.Reach.{IsReach, IsWholeReach, ReadsNone};
+    ghost use Rattle.mp_near.specs.reach.Reach.{IsReach, IsWholeReach, IsClosedBetween, ReadsNone};
 
-    /// What differs, and the wires of modules that do.
-    fn first(alloc: Global, old: &Netlist, new: &Netlist) -> Result<Reached, AllocError>
-        requires { IsRevision old.now new.now }
+    /// What the edit may change, and the wires of modules that it may.
+    fn first(
+        alloc: Global,
+        old: &Netlist,
+        edit: &Edit,
+        new: &Netlist,
+    ) -> Result<Reached, AllocError>
+        requires revision { IsRevision old.now new.now }
+        requires after { after old.now edit.now ≡ Ok new.now }
         ensures { IfOk result (λ found. IsReach old.now new.now found.modules.items found.wires.items) }
     {
         // Their contracts say that the netlists are well formed.
         let _old_horizon = old.horizon();
         let _new_horizon = new.horizon();
-        let modules = other_modules(alloc, old, new)?;
-        let mut wires = other_wires(alloc, old, new)?;
+        let modules = named_modules(alloc, old, edit, new)?;
+        let mut wires = named_wires(alloc, old, edit, new)?;
         for m in 0..new.module_slots() {
             if modules[m as usize] {
                 mark_outputs(old, ModuleId(m), &mut wires);
@@ -67,25 +79,79 @@ impl Reached {
         Ok(Reached { modules, wires })
     }
 
-    /// Marks the modules that read marked wires, in one pass over all modules, and says how many more may be marked: as many as before only if no
-    /// other module reads a marked wire. `None` if too many do.
-    fn pass(&mut self, old: &Netlist, new: &Netlist, most: u32) -> Option<u32>
+    /// Marks the modules that read marked wires, at most so many, and those that read theirs, and says whether that are all. Modules that read each
+    /// other's wires mostly have numbers that follow each other. So the search goes from the first module up, and then over those below.
+    fn spread(&mut self, old: &Netlist, new: &Netlist, most: u32) -> bool
         requires revision { IsRevision old.now new.now }
         requires reach { IsReach old.now new.now self.old.modules.items self.old.wires.items }
-        ensures reach { IsReach old.now new.now self.new.modules.items self.new.wires.items }
-        ensures closed { result ≡ Some most → IsWholeReach old.now new.now self.new.modules.items self.new.wires.items }
+        ensures { result ≡ true → IsWholeReach old.now new.now self.new.modules.items self.new.wires.items }
     {
+        let end = new.module_slots();
+        let start = self.first_marked(end);
         let mut left = most;
-        for m in 0..new.module_slots() {
-            if self.hears(new, ModuleId(m)) {
-                if left == 0 {
-                    return None;
-                }
-                left -= 1;
-                self.add(old, new, ModuleId(m));
+        'rounds: for _ in 0..MOST_ROUNDS {
+            let Some(above) = self.pass(old, new, start, end, left) else {
+                return false;
+            };
+            let Some(below) = self.pass(old, new, 0, above.last, above.left) else {
+                return false;
+            };
+            if below.left == above.left {
+                return true;
+            }
+            left = below.left;
+        }
+        false
+    }
+
+    /// The number of the first module that is marked, or 0.
+    fn first_marked(&self, count: u32) -> u32
+        requires { length self.now.modules.items ≡ count }
+        ensures { result ≤ count }
+    {
+        for m in 0..count {
+            if self.modules[m as usize] {
+                return m;
             }
         }
-        Some(left)
+        0
+    }
+
+    /// Marks the modules from a number on, below another, that read marked wires, in one pass. `None` if too many do.
+    fn pass(
+        &mut self,
+        old: &Netlist,
+        new: &Netlist,
+        from: u32,
+        to: u32,
+        most: u32,
+    ) -> Option<Passed>
+        requires revision { IsRevision old.now new.now }
+        requires reach { IsReach old.now new.now self.old.modules.items self.old.wires.items }
+        requires from { from ≤ to }
+        requires to { to ≤ length new.now.modules }
+        ensures reach { IsReach old.now new.now self.new.modules.items self.new.wires.items }
+        ensures last { IfSome result (λ passed. passed.last ≤ to) }
+        ensures closed { IfSome result (λ passed. IsClosedBetween new.now self.new.modules.items self.new.wires.items passed.last to) }
+        ensures none { IfSome result (λ passed. passed.left ≡ most → (passed.last ≡ from) × (self.new ≡ self.old)) }
+    {
+        let mut passed = Passed {
+            left: most,
+            last: from,
+        };
+        for m in from..to {
+            if self.hears(new, ModuleId(m)) {
+                if passed.left == 0 {
+                    return None;
+                }
+                self.add(old, new, ModuleId(m));
+                passed = Passed {
+                    left: passed.left - 1,
+                    last: m + 1,
+                };
+            }
+        }
+        Some(passed)
     }
 
     /// Whether a module that isn't marked reads a marked wire.

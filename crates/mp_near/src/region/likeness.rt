@@ -10,8 +10,9 @@ ghost use Rattle.mp_near.specs.reach.Numbers.{place_at};
 ghost use Rattle.mp_near.specs.region.Picks.{ArePicks, picking};
 ghost use Rattle.mp_near.specs.region.Regions.{IsLike};
 
-use crate::reach::{Numbering, is_same_stimulus};
+use crate::reach::Numbering;
 use crate::region::picked::Picked;
+use crate::region::set_alike::is_same_stimulus;
 use crate::revision::Revision;
 use mp_modules::Kind;
 use mp_netlist::{

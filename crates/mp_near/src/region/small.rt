@@ -1,5 +1,6 @@
 //! A region before an edit and after it, as two small netlists.
-ghost use Rattle.std.specs.Prelude.{◌≡◌, true, IfOk, IfSome};
+ghost use Rattle.std.specs.Prelude.{◌≡◌, true, Ok, IfOk, IfSome};
+ghost use Rattle.mp_netlist.specs.Edits.{after};
 ghost use Rattle.mp_near.specs.Changes.{IsChange};
 ghost use Rattle.mp_near.specs.region.Picks.{ArePicks};
 ghost use Rattle.mp_near.specs.region.Regions.{HasGrown, IsSmall};
@@ -26,11 +27,12 @@ pub(crate) fn find_small(
     change: &Revision<'_>,
     edit: &Edit,
 ) -> Result<Option<Small>, AllocError>
-    requires { IsChange change.now }
+    requires change { IsChange change.now }
+    requires after { after change.now.old.now edit.now ≡ Ok change.now.new.now }
     ensures { IfOk result (λ found. IfSome found (IsSmall change.now.old.now change.now.new.now)) }
 {
     let most = change.new.module_slots() / 16;
-    let Some(found) = find_reached(alloc, change.old, change.new, most)? else {
+    let Some(found) = find_reached(alloc, change, edit, most)? else {
         return Ok(None);
     };
     let picked = Picked::of(alloc, change, &found);

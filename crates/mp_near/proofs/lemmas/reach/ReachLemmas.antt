@@ -8,7 +8,7 @@ use Rattle.mp_depend.specs.work.Revisions.{IsRevision}
 use Rattle.mp_near.specs.reach.Marks.{AreGrown}
 use Rattle.mp_partition.specs.regions.Readers.{Reads}
 use Rattle.mp_near.specs.region.Picks.{AreWiresOf}
-use Rattle.mp_near.specs.reach.Reach.{IsSetSame, IsReach, IsWholeReach, ReadsNone}
+use Rattle.mp_near.specs.reach.Reach.{IsClosedBetween, IsSetSame, IsReach, IsWholeReach, ReadsNone}
 use Rattle.mp_near.proofs.lemmas.reach.MarkLemmas.{grown_none, grown_more}
 use Rattle.mp_near.proofs.lemmas.reach.StandLemmas.{driven_low, marked_within}
 
@@ -126,23 +126,23 @@ reach_more old new modules wires half next i low one two before after reach = re
     here_marked : (m : ℕ) → m ≡ i → is_marked (slice_set modules i true) m ≡ true
     here_marked m here = ap (λ k. is_marked (slice_set modules i true) k) here ∙ get_or-set_same modules i true false low
 
--- of the modules below a count none that isn't marked reads a marked wire
-abbrev pub IsClosedBelow : Circuit → List Bool → List Bool → ℕ → Type 0
-IsClosedBelow new modules wires count = (m : ℕ) → m < count → is_marked modules m ≡ false → ReadsNone new wires m
-
 -- the next module is marked, or reads no marked wire
-pub closed_next : (new : Circuit) (modules wires : List Bool) (i : ℕ) → (is_marked modules i ≡ false → ReadsNone new wires i) → IsClosedBelow new modules wires i → IsClosedBelow new modules wires (i + 1)
-closed_next new modules wires i none are m low not = elim (cases_eq m i) as (λ _. ReadsNone new wires m) [
-  | inl here ↦ subst (ReadsNone new wires) (sym here) (none (ap (λ k. is_marked modules k) (sym here) ∙ not))
-  | inr other ↦ are m (omega arith) not
+pub between_next : (n : Circuit) (modules wires : List Bool) (from i : ℕ) → (is_marked modules i ≡ false → ReadsNone n wires i) → IsClosedBetween n modules wires from i → IsClosedBetween n modules wires from (i + 1)
+between_next n modules wires from i none are m at low not = elim (cases_eq m i) as (λ _. ReadsNone n wires m) [
+  | inl here ↦ subst (ReadsNone n wires) (sym here) (none (ap (λ k. is_marked modules k) (sym here) ∙ not))
+  | inr other ↦ are m at (omega arith) not
 ]
 
--- of all modules
-pub whole_is : (old new : Circuit) (modules wires : List Bool) (count : ℕ) → length new.modules ≤ count → IsReach old new modules wires → IsClosedBelow new modules wires count → IsWholeReach old new modules wires
-whole_is old new modules wires count all reach closed = record {
+-- of the modules below a number, and of those from there on
+pub whole_between : (old new : Circuit) (modules wires : List Bool) (middle end : ℕ) → length new.modules ≤ end → IsReach old new modules wires → IsClosedBetween new modules wires 0 middle → IsClosedBetween new modules wires middle end →
+    IsWholeReach old new modules wires
+whole_between old new modules wires middle end all reach below above = record {
   reach = reach;
-  closed = λ m not w reads. elim (cases_lt m count) as (λ _. is_marked wires w ≡ false) [
-    | inl low ↦ closed m low not w reads
+  closed = λ m not w reads. elim (cases_lt m end) as (λ _. is_marked wires w ≡ false) [
+    | inl low ↦ elim (cases_lt m middle) as (λ _. is_marked wires w ≡ false) [
+      | inl here ↦ below m (omega arith) here not w reads
+      | inr past ↦ above m past low not w reads
+    ]
     | inr past ↦
         let none : module_at new m ≡ None = get_or_past new.modules m None (omega arith) in
         let there : module_at new m ≡ Some reads.part = reads.stands in

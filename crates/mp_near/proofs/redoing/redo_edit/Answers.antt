@@ -3,8 +3,8 @@ use Rattle.std.specs.Prelude.{IfSome}
 use Rattle.mp_near.specs.region.Regions.{IsSmall}
 use Rattle.mp_near.proofs.redoing.redo_edit.Goals as goal
 
-pub find_small-requires : goal.find_small-requires
-find_small-requires g c = record {
+pub find_small-requires-clause-change : goal.find_small-requires-clause-change
+find_small-requires-clause-change g c = record {
   old = c.horizon-old_horizon.ensures.form;
   new = c.horizon-new_horizon.ensures.form;
   revision = c.requires.revision;

@@ -21,7 +21,7 @@ loop-m-preserved c =
           let one = w.mark_outputs.ensures in
           let two = w.mark_outputs-then-index.ensures in
           let size = is.grown.places ∙ c.in_ok-wires.ensures.places in
-          let before = driven_marked old new c.horizon-old_horizon.ensures.form c.requires.wires i wires w.mark_outputs.new.marks.items size one.driven in
+          let before = driven_marked old new c.horizon-old_horizon.ensures.form c.requires.revision.wires i wires w.mark_outputs.new.marks.items size one.driven in
           let after = driven_marked new new c.horizon-new_horizon.ensures.form (omega arith) i w.mark_outputs.new.marks.items w.mark_outputs-then-index.new.marks.items (one.grown.places ∙ size) two.driven in
           rw w.wires-is (first_more old new modules first wires w.mark_outputs.new.marks.items w.mark_outputs-then-index.new.marks.items i one.grown two.grown before after is)
       | else-index w ↦
@@ -31,6 +31,6 @@ loop-m-preserved c =
 
 pub returns : goal.returns
 returns c =
-    first_reach c.args.old.now c.args.new.now c.requires c.in_ok-modules.modules.items c.in_ok-wires.wires.items c.loop-m.wires.items c.loop-m.m
+    first_reach c.args.old.now c.args.new.now c.requires.revision c.in_ok-modules.modules.items c.in_ok-wires.wires.items c.loop-m.wires.items c.loop-m.m
     c.in_ok-modules.ensures.places c.in_ok-wires.ensures.places c.in_ok-modules.ensures.same c.in_ok-wires.ensures.same
     (let value = c.module_slots-m-end.ensures.value in let over = c.loop-m-test.false in omega (arith, value, over)) c.loop-m.invariant

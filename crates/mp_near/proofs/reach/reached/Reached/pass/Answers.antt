@@ -1,7 +1,17 @@
-use Rattle.std.proofs.Common.{◌≡◌, arith}
-use Rattle.mp_near.proofs.lemmas.reach.ReachLemmas.{closed_next, whole_is}
+use Rattle.std.proofs.Common.{refl, arith}
+use Rattle.mp_near.proofs.lemmas.reach.ReachLemmas.{between_next}
 use Rattle.mp_near.proofs.reach.reached.Reached.pass.Goals as goal
-use Rattle.mp_near.proofs.reach.reached.Reached.pass.Goals.{then-hears+else-left-eq0, else-hears}
+use Rattle.mp_near.proofs.reach.reached.Reached.pass.Goals.{then-hears+else-passed-eq0, else-hears}
+
+pub loop-m-init : goal.loop-m-init
+loop-m-init c = record {
+  reach = c.requires.reach;
+  few = omega arith;
+  low = omega arith;
+  end = c.requires.from;
+  closed = λ k at low. absurd (omega (arith, at, low));
+  none = λ all. (refl, refl);
+}
 
 pub loop-m-preserved : goal.loop-m-preserved
 loop-m-preserved c =
@@ -9,23 +19,33 @@ loop-m-preserved c =
     let modules = c.loop-m.self.modules.items in
     let wires = c.loop-m.self.wires.items in
     let is = c.loop-m.invariant in
+    let test = c.loop-m-test.true in
     elim c.if-hears.branch [
-      | then-hears+else-left-eq0 w ↦
-          rw (w.self-is, w.left-is) (record {
+      | then-hears+else-passed-eq0 w ↦
+          let few = is.few in
+          let some = w.if-passed-eq0.false in
+          rw (w.self-is, w.passed-is) (record {
             reach = w.add.ensures;
-            few = let few = is.few in omega (arith, few);
-            closed = λ all. absurd (let few = is.few in let some = w.if-left-eq0.false in let no : ⊥ = omega (arith, few, some, all) in no);
+            few = omega (arith, few);
+            low = omega arith;
+            end = omega (arith, test);
+            closed = λ k at low. absurd (omega (arith, at, low));
+            none = λ all. absurd (let no : ⊥ = omega (arith, few, some, all) in no);
           })
       | else-hears w ↦
-          rw (w.self-is, w.left-is) (record {
+          let low = is.low in
+          rw (w.self-is, w.passed-is) (record {
             reach = is.reach;
             few = is.few;
-            closed = λ all. closed_next new modules wires c.loop-m.m (c.hears.ensures w.if-hears.false) (is.closed all);
+            low = omega (arith, low);
+            end = omega (arith, test);
+            closed = between_next new modules wires c.loop-m.passed.last c.loop-m.m (c.hears.ensures w.if-hears.false) is.closed;
+            none = is.none;
           })
     ]
 
+pub returns-clause-last : goal.returns-clause-last
+returns-clause-last c = let low = c.loop-m.invariant.low in let end = c.loop-m.invariant.end in omega (arith, low, end)
+
 pub returns-clause-closed : goal.returns-clause-closed
-returns-clause-closed c = λ all.
-    let same : c.loop-m.left ≡ c.args.most = cc in
-    whole_is c.args.old.now c.args.new.now c.loop-m.self.modules.items c.loop-m.self.wires.items c.loop-m.m
-    (let value = c.module_slots-m-end.ensures.value in let over = c.loop-m-test.false in omega (arith, value, over)) c.loop-m.invariant.reach (c.loop-m.invariant.closed same)
+returns-clause-closed c = λ k at low not. let over = c.loop-m-test.false in c.loop-m.invariant.closed k at (omega (arith, over, low)) not

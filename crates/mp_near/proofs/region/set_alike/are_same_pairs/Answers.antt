@@ -1,7 +1,7 @@
 use Rattle.std.proofs.Common.{◌≡◌, ℕ, ◌&&◌, nat_eq, rules}
 use Rattle.std.specs.Bool.{Decides}
 use Rattle.std.proofs.lemmas.Slice.Eq.{slice_eq-Decides}
-use Rattle.mp_near.proofs.reach.differences.are_same_pairs.Goals as goal
+use Rattle.mp_near.proofs.region.set_alike.are_same_pairs.Goals as goal
 
 decides : (a b : ℕ × ℕ) → Decides (nat_eq a.0 b.0 && nat_eq a.1 b.1) (a ≡ b)
 decides a b = search rules
