@@ -5,7 +5,7 @@ ghost use Rattle.mp_near.specs.laws.Picking.{PickedAreCircuits, PickedHaveLevels
 ghost use Rattle.mp_near.specs.laws.RegionRuns.{OthersHaveRuns, PickedHaveRuns};
 ghost use Rattle.mp_near.specs.laws.RegionWork.{OthersRest, RegionsHaveWork};
 ghost use Rattle.mp_near.specs.laws.RegionWorkSpans.{RegionsHaveWorkSpans};
-ghost use Rattle.mp_near.specs.laws.Regions.{ClosedRegionsStay, RegionsAreCircuits, RegionsAreRevisions, RegionsHaveLevels};
+ghost use Rattle.mp_near.specs.laws.Regions.{ClosedCoresStay, ClosedRegionsStay, RegionsAreCircuits, RegionsAreRevisions, RegionsHaveLevels};
 
 /// Below any time no levels and states satisfy the equations of a netlist but its own.
 pub fn only_one_below()
@@ -43,6 +43,11 @@ pub fn regions_have_levels()
 /// If all readers of what a region drives or changes are in it, nothing outside ever reads another level.
 pub fn closed_regions_stay()
     ensures { ClosedRegionsStay }
+{}
+
+/// Below the horizon it is enough that they are in a core of the region, if all that it has beside the core has one record in both netlists.
+pub fn closed_cores_stay()
+    ensures { ClosedCoresStay }
 {}
 
 /// So long, what is evaluated again in the region is what is evaluated again of it in the netlist, if both have one least delay; nothing is outside.

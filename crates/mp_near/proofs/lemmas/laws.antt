@@ -5,6 +5,7 @@ pub mod DrivenLemmas
 pub mod PickedLevelLemmas
 pub mod AlikeLemmas
 pub mod RegionLevelLemmas
+pub mod CoreLemmas
 pub mod RevisionLemmas
 pub mod RunLemmas
 pub mod UnplacedLemmas

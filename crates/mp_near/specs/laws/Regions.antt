@@ -1,5 +1,5 @@
 -- A region of two netlists, the later of which was made of the other: what differs is picked, and the levels of all other wires are those of the old one.
-use Rattle.std.specs.Prelude.{◌≡◌, ◌⊎◌, ℕ, ◌<◌, ◌≤◌, true, false, Some, None, length}
+use Rattle.std.specs.Prelude.{◌≡◌, ◌⊎◌, ℕ, ◌<◌, ◌≤◌, Bool, true, false, Some, None, length}
 use Rattle.mp_records.specs.declared.module_record.ModuleRecord.{ModuleRecord}
 use Rattle.mp_netlist.specs.Circuit.{Circuit, IsCircuit, Drives, wire_at, module_at}
 use Rattle.mp_model.specs.Waves.{level, state}
@@ -59,3 +59,16 @@ pub record IsClosed (old new : Circuit) (pick : Picking) : Type 0 where
 abbrev pub ClosedRegionsStay : Type 0
 ClosedRegionsStay = (old new was now : Circuit) (pick : Picking) → IsCircuit old → IsCircuit new → IsCircuit now → IsRevision old new → AreRegion old new was now pick →
     IsClosed old new pick → (h : ℕ) → Stays old new now pick h
+
+-- the core of a region: a module outside of it has one record in both netlists, and all that read a wire of a module in it are in it, and all that read
+-- a wire which isn't driven alike
+pub record IsCore (old new : Circuit) (pick : Picking) (core : ℕ → Bool) : Type 0 where
+  pub picked : (m : ℕ) → core m ≡ true → has_module pick m ≡ true
+  pub same : (m : ℕ) → core m ≡ false → module_at old m ≡ module_at new m
+  pub driven : (k p w m : ℕ) → core k ≡ true → Drives new k p w → Reads new m w → core m ≡ true
+  pub changed : (w m : ℕ) → Reads new m w → (core m ≡ true) ⊎ IsDrivenAlike old new w
+
+-- then outside the region no other level is read below the horizon, though others may read what is picked beside the core
+abbrev pub ClosedCoresStay : Type 0
+ClosedCoresStay = (old new was now : Circuit) (pick : Picking) (core : ℕ → Bool) → IsCircuit old → IsCircuit new → IsCircuit now → IsRevision old new →
+    AreRegion old new was now pick → IsCore old new pick core → (h : ℕ) → h ≤ new.horizon → Stays old new now pick h

@@ -27,22 +27,22 @@ use Rattle.mp_near.proofs.lemmas.laws.DrivenLemmas.{same_inputs, given_level, un
 
 module _ (old new was now : Circuit) (pick : Picking) (old_ok : IsCircuit old) (new_ok : IsCircuit new) (now_ok : IsCircuit now) (revised : IsRevision old new) (region : AreRegion old new was now pick) where
   -- the levels and states of the region where they are picked, and else those of the old netlist
-  abbrev levels : ℕ → ℕ → ℕ
+  abbrev pub levels : ℕ → ℕ → ℕ
   levels w t = cond (has_wire pick w) (level now (pick.place_of w) t) (level old w t)
 
-  abbrev states : ℕ → ℕ → Memory
+  abbrev pub states : ℕ → ℕ → Memory
   states m t = cond (has_module pick m) (state now (pick.seat_of m) t) (state old m t)
 
-  level_in : (w t : ℕ) → has_wire pick w ≡ true → levels w t ≡ level now (pick.place_of w) t
+  pub level_in : (w t : ℕ) → has_wire pick w ≡ true → levels w t ≡ level now (pick.place_of w) t
   level_in w t picked = ap (λ b. cond b (level now (pick.place_of w) t) (level old w t)) picked
 
   level_out : (w t : ℕ) → has_wire pick w ≡ false → levels w t ≡ level old w t
   level_out w t not = ap (λ b. cond b (level now (pick.place_of w) t) (level old w t)) not
 
-  state_in : (m t : ℕ) → has_module pick m ≡ true → states m t ≡ state now (pick.seat_of m) t
+  pub state_in : (m t : ℕ) → has_module pick m ≡ true → states m t ≡ state now (pick.seat_of m) t
   state_in m t picked = ap (λ b. cond b (state now (pick.seat_of m) t) (state old m t)) picked
 
-  state_out : (m t : ℕ) → has_module pick m ≡ false → states m t ≡ state old m t
+  pub state_out : (m t : ℕ) → has_module pick m ≡ false → states m t ≡ state old m t
   state_out m t not = ap (λ b. cond b (state now (pick.seat_of m) t) (state old m t)) not
 
   -- a module that drives a wire which is given, or not picked, isn't picked
@@ -76,7 +76,7 @@ module _ (old new was now : Circuit) (pick : Picking) (old_ok : IsCircuit old) (
       by (inr none) = (satisfies old old_ok).levels w t ∙ empty_level old old_ok w (state old) t none.0 ∙ sym (empty_level new new_ok w states t none.1)
 
   -- a wire that is picked
-  driven_in : (k t : ℕ) → t < new.horizon → level now k t ≡ level_by new states (pick.wire_of k) t
+  pub driven_in : (k t : ℕ) → t < new.horizon → level now k t ≡ level_by new states (pick.wire_of k) t
   driven_in k t low = elim (cases_Bool (pick.given k)) as (λ _. level now k t ≡ level_by new states (pick.wire_of k) t) [
     | inl given ↦
         given_now k t given low
@@ -100,7 +100,7 @@ module _ (old new was now : Circuit) (pick : Picking) (old_ok : IsCircuit old) (
     at_now : module_at new (pick.module_of (pick.seat_of m)) ≡ Some r
     at_now = ap (λ j. module_at new j) (at_seat pick m picked) ∙ at
 
-    inputs_in : (t : ℕ) → inputs_by now (level now) (placed pick.place_of r) t ≡ inputs_by new levels r t
+    pub inputs_in : (t : ℕ) → inputs_by now (level now) (placed pick.place_of r) t ≡ inputs_by new levels r t
     inputs_in t = same_inputs new now pick (level old) region.new_picking region.after (pick.seat_of m) r t (level now) levels at_now (λ w u before is. sym (level_in w u is))
 
     built_in : built now (placed pick.place_of r) ≡ built new r
@@ -109,14 +109,14 @@ module _ (old new was now : Circuit) (pick : Picking) (old_ok : IsCircuit old) (
     here_now : module_at now (pick.seat_of m) ≡ Some (placed pick.place_of r)
     here_now = module_there new now pick (level old) region.new_picking region.after (pick.seat_of m) r at_now
 
-    settled_in : states m 0 ≡ settle (built new r) (inputs_by new levels r 0)
+    pub settled_in : states m 0 ≡ settle (built new r) (inputs_by new levels r 0)
     settled_in =
         state_in m 0 picked
         ∙ (satisfies now now_ok).settled (pick.seat_of m) (placed pick.place_of r) here_now
         ∙ ap (λ part. settle part (inputs_by now (level now) (placed pick.place_of r) 0)) built_in
         ∙ ap (settle (built new r)) (inputs_in 0)
 
-    stepped_in : (t : ℕ) → states m (t + 1) ≡ step (built new r) (states m t) (inputs_by new levels r (t + 1))
+    pub stepped_in : (t : ℕ) → states m (t + 1) ≡ step (built new r) (states m t) (inputs_by new levels r (t + 1))
     stepped_in t =
         state_in m (t + 1) picked
         ∙ (satisfies now now_ok).stepped (pick.seat_of m) t (placed pick.place_of r) here_now
