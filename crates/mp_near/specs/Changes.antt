@@ -1,6 +1,7 @@
 -- A change of a netlist whose run is known.
 use Rattle.std.specs.Prelude.{◌≡◌, ◌≤◌, length}
 use Rattle.mp_netlist.specs.Circuit.{Circuit, IsCircuit}
+use Rattle.mp_netlist.specs.Delays.{least_delay}
 use Rattle.mp_partition.specs.runs.Runs.{IsRun}
 use Rattle.mp_depend.specs.work.Revisions.{IsRevision}
 use Rattle.mp_near.specs.declared.revision.Revision.{Revision}
@@ -10,6 +11,7 @@ pub record IsChange (change : Revision) : Type 0 where
   pub new : IsCircuit change.new.now
   pub revision : IsRevision change.old.now change.new.now
   pub run : IsRun change.old.now change.run.now
+  pub least : change.least ≡ least_delay change.new.now
 
 -- a netlist with no more slots than the new one, and with its horizon: the old one or the new one
 pub record IsEither (change : Revision) (n : Circuit) : Type 0 where

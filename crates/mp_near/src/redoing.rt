@@ -1,5 +1,6 @@
 //! What an edit reaches is evaluated again.
 ghost use Rattle.std.specs.Prelude.{◌≡◌, IfOk, Ok, true};
+ghost use Rattle.mp_netlist.specs.Delays.{least_delay};
 ghost use Rattle.mp_netlist.specs.Edits.{after};
 ghost use Rattle.mp_partition.specs.runs.Runs.{IsRun};
 ghost use Rattle.mp_depend.specs.work.Revisions.{IsRevision};
@@ -41,7 +42,13 @@ pub fn redo_edit<R: Threads + Wait + Sync, G: Gate + Sync>(
     // Their contracts say that the netlists are well formed.
     let _old_horizon = old.horizon();
     let _new_horizon = new.horizon();
-    let change = Revision { old, run, new };
+    let least = new.least_delay();
+    let change = Revision {
+        old,
+        run,
+        new,
+        least,
+    };
     let Some(region) = find_small(context.alloc, &change, edit)? else {
         return redo(context, old, run, new);
     };
@@ -62,17 +69,18 @@ fn redo_by<R: Threads + Wait + Sync, G: Gate + Sync>(
     ensures run { IfOk result (λ both. IsRun change.now.new.now both.0) }
     ensures work { IfOk result (λ both. IsWork change.now.old.now change.now.new.now both.1) }
 {
-    if !has_least(change.new, region) {
+    if !has_least(change, region) {
         return redo(context, change.old, change.run, change.new);
     }
     redo_region(context, change, region)
 }
 
 /// Whether a region has the least delay of its netlist, or no modules.
-fn has_least(new: &Netlist, region: &Small) -> bool
-    ensures { result ≡ true → HasLeast new.now region.entry.now }
+fn has_least(change: &Revision<'_>, region: &Small) -> bool
+    requires { change.now.least ≡ least_delay change.now.new.now }
+    ensures { result ≡ true → HasLeast change.now.new.now region.entry.now }
 {
-    region.picked.modules.numbers.is_empty() || region.now.least_delay() == new.least_delay()
+    region.picked.modules.numbers.is_empty() || region.now.least_delay() == change.least
 }
 
 /// Evaluates a region again, and puts what becomes of it into the run of the netlist.

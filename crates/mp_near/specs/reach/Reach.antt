@@ -3,6 +3,7 @@ use Rattle.std.specs.Prelude.{◌≡◌, ◌⊎◌, ℕ, ◌<◌, ◌≤◌, Boo
 use Rattle.mp_netlist.specs.Circuit.{Circuit, Drives, wire_at, module_at, stimulus_at}
 use Rattle.mp_partition.specs.runs.Marks.{is_marked}
 use Rattle.mp_partition.specs.regions.Readers.{Reads}
+use Rattle.mp_near.specs.reach.Marks.{AreGrown}
 
 -- the wire stands in both netlists, with one stimulus or with none, or in none of them
 abbrev pub IsSetSame : Circuit → Circuit → ℕ → Type 0
@@ -29,3 +30,11 @@ IsClosedBetween n modules wires from to = (m : ℕ) → from ≤ m → m < to �
 pub record IsWholeReach (old new : Circuit) (modules wires : List Bool) : Type 0 where
   pub reach : IsReach old new modules wires
   pub closed : (m : ℕ) → is_marked modules m ≡ false → ReadsNone new wires m
+
+-- among the marked modules are all that the edit reaches
+pub record HasReach (old new : Circuit) (modules wires : List Bool) : Type 0 where
+  pub reach : IsReach old new modules wires
+  pub core : List Bool
+  pub core_wires : List Bool
+  pub whole : IsWholeReach old new core core_wires
+  pub grown : AreGrown core modules

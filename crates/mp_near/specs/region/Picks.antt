@@ -4,7 +4,7 @@ use Rattle.mp_netlist.specs.Circuit.{Circuit}
 use Rattle.mp_partition.specs.runs.Marks.{is_marked}
 use Rattle.mp_partition.specs.regions.Readers.{Reads}
 use Rattle.mp_near.specs.laws.Picking.{Picking, IsPicking}
-use Rattle.mp_near.specs.laws.Regions.{IsRegion, IsClosed}
+use Rattle.mp_near.specs.laws.Regions.{IsRegion, IsCore}
 use Rattle.mp_near.specs.reach.Numbers.{AreNumbered, number_at, place_at}
 use Rattle.mp_near.specs.declared.region.picked.Picked.{Picked}
 
@@ -25,12 +25,12 @@ picking new picked = record {
   given = is_marked picked.given.items;
 }
 
--- what is picked is a region, in which all are that hear of a change
+-- what is picked is a region; all that hear of a change are a core of it
 pub record ArePicks (old new : Circuit) (picked : Picked) : Type 0 where
   pub region : IsRegion old new (picking new picked)
   pub before : IsPicking old (picking new picked)
   pub after : IsPicking new (picking new picked)
-  pub closed : IsClosed old new (picking new picked)
+  pub core : (core : List Bool) × IsCore old new (picking new picked) (is_marked core)
   pub wires : (all : List Bool) × AreNumbered all (length new.wires) picked.wires.numbers.items picked.wires.places.items
   pub modules : (marks : List Bool) × AreNumbered marks (length new.modules) picked.modules.numbers.items picked.modules.places.items
   pub given : length picked.given.items ≡ length picked.wires.numbers.items

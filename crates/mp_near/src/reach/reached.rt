@@ -52,6 +52,7 @@ impl Reached {
     ghost use Rattle.mp_netlist.specs.Edits.{after};
     ghost use Rattle.mp_depend.specs.work.Revisions.{IsRevision};
     ghost use Rattle.mp_partition.specs.runs.Marks.{is_marked};
+    ghost use Rattle.mp_near.specs.reach.Marks.{AreGrown};
     ghost use Rattle.mp_near.specs.reach.Reach.{IsReach, IsWholeReach, IsClosedBetween, ReadsNone};
 
     /// What the edit may change, and the wires of modules that it may.
@@ -166,11 +167,12 @@ impl Reached {
     }
 
     /// Marks a module with the wires that it drives.
-    fn add(&mut self, old: &Netlist, new: &Netlist, id: ModuleId)
+    pub(crate) fn add(&mut self, old: &Netlist, new: &Netlist, id: ModuleId)
         requires revision { IsRevision old.now new.now }
         requires reach { IsReach old.now new.now self.old.modules.items self.old.wires.items }
         requires low { id.0 < length self.old.modules.items }
-        ensures { IsReach old.now new.now self.new.modules.items self.new.wires.items }
+        ensures reach { IsReach old.now new.now self.new.modules.items self.new.wires.items }
+        ensures grown { AreGrown self.old.modules.items self.new.modules.items }
     {
         // Their contracts say that the netlists are well formed.
         let _old_horizon = old.horizon();

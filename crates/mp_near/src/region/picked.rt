@@ -2,7 +2,7 @@
 ghost use Rattle.std.specs.Prelude.{◌≡◌, IfOk, length};
 ghost use Rattle.mp_near.specs.Changes.{IsChange};
 ghost use Rattle.mp_near.specs.region.Picks.{AreWiresOf};
-ghost use Rattle.mp_near.specs.reach.Reach.{IsWholeReach};
+ghost use Rattle.mp_near.specs.reach.Reach.{IsReach};
 
 use crate::reach::{Numbering, Reached, mark_inputs};
 use crate::region::given::given_wires;
@@ -22,7 +22,7 @@ impl Picked {
     ghost use Rattle.std.specs.Prelude.{IfOk};
     ghost use Rattle.mp_near.specs.Changes.{IsChange};
     ghost use Rattle.mp_near.specs.region.Picks.{ArePicks};
-    ghost use Rattle.mp_near.specs.reach.Reach.{IsWholeReach};
+    ghost use Rattle.mp_near.specs.reach.Reach.{HasReach};
 
     /// What is reached, with the wires that its modules read, before the edit or after it.
     pub(crate) fn of(
@@ -31,7 +31,7 @@ impl Picked {
         reached: &Reached,
     ) -> Result<Picked, AllocError>
         requires change { IsChange change.now }
-        requires whole { IsWholeReach change.now.old.now change.now.new.now reached.now.modules.items reached.now.wires.items }
+        requires reach { HasReach change.now.old.now change.now.new.now reached.now.modules.items reached.now.wires.items }
         ensures { IfOk result (ArePicks change.now.old.now change.now.new.now) }
     {
         // Their contracts say that there are fewer than 2^32.
@@ -70,7 +70,7 @@ fn wires_of(
     reached: &Reached,
 ) -> Result<Vec<bool>, AllocError>
     requires change { IsChange change.now }
-    requires whole { IsWholeReach change.now.old.now change.now.new.now reached.now.modules.items reached.now.wires.items }
+    requires reach { IsReach change.now.old.now change.now.new.now reached.now.modules.items reached.now.wires.items }
     ensures { IfOk result (λ marks. AreWiresOf change.now.old.now change.now.new.now reached.now.modules.items reached.now.wires.items marks.items) }
 {
     let mut marks = Vec::from_slice(alloc, reached.wires.as_slice())?;

@@ -32,9 +32,10 @@ pub(crate) fn find_small(
     ensures { IfOk result (λ found. IfSome found (IsSmall change.now.old.now change.now.new.now)) }
 {
     let most = change.new.module_slots() / 16;
-    let Some(found) = find_reached(alloc, change, edit, most)? else {
+    let Some(mut found) = find_reached(alloc, change, edit, most)? else {
         return Ok(None);
     };
+    found.add_witness(change.old, change.new, change.least);
     let picked = Picked::of(alloc, change, &found);
     drop(found);
     small_of(alloc, change, picked?, edit)

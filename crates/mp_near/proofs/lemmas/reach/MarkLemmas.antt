@@ -1,9 +1,9 @@
 -- Marks that are set one by one.
-use Rattle.std.proofs.Common.{◌≡◌, ◌⊎◌, ℕ, ◌+◌, ◌<◌, Bool, true, false, List, Option, Some, None, length, slice_index_or, refl, ap, sym, subst, ◌∙◌, arith, inl, inr}
+use Rattle.std.proofs.Common.{◌≡◌, ◌⊎◌, ℕ, ◌+◌, ◌<◌, Bool, true, false, List, Option, Some, None, length, slice_index_or, slice_set, refl, ap, sym, subst, ◌∙◌, arith, inl, inr}
 use Rattle.std.specs.Prelude.{Contains}
 use Rattle.std.specs.List.{list_any}
 use Rattle.std.proofs.lemmas.Bool.{cases_lt, cases_eq}
-use Rattle.std.proofs.lemmas.List.{get_or_past, get_or_default}
+use Rattle.std.proofs.lemmas.List.{get_or_past, get_or_default, get_or-set_same, get_or-set_other, length-set}
 use Rattle.std.proofs.lemmas.List.Folds.{list_any-from_Any}
 use Rattle.mp_records.specs.declared.ids.WireId.{WireId}
 use Rattle.mp_records.specs.declared.ports.Input.{Input}
@@ -22,6 +22,15 @@ grown_none marks = record { places = refl; kept = λ k is. is }
 
 pub grown_more : (first before after : List Bool) → AreGrown first before → AreGrown before after → AreGrown first after
 grown_more first before after one other = record { places = other.places ∙ one.places; kept = λ k is. other.kept k (one.kept k is) }
+
+pub grown_set : (marks : List Bool) (i : ℕ) → i < length marks → AreGrown marks (slice_set marks i true)
+grown_set marks i low = record {
+  places = length-set marks i true;
+  kept = λ k is. elim (cases_eq k i) as (λ _. is_marked (slice_set marks i true) k ≡ true) [
+    | inl here ↦ ap (λ j. is_marked (slice_set marks i true) j) here ∙ get_or-set_same marks i true false low
+    | inr other ↦ get_or-set_other marks i k true false other ∙ is
+  ];
+}
 
 -- the wires of the first so many outputs are marked
 abbrev pub AreDriven : List Output → ℕ → ℕ → List Bool → Type 0

@@ -11,10 +11,10 @@ use Rattle.mp_partition.specs.runs.Marks.{is_marked}
 use Rattle.mp_partition.specs.regions.Readers.{Reads}
 use Rattle.mp_depend.specs.work.Revisions.{IsRevision, IsDrivenAlike}
 use Rattle.mp_near.specs.laws.Picking.{Picking, has_wire, has_module}
-use Rattle.mp_near.specs.laws.Regions.{IsAsBefore}
+use Rattle.mp_near.specs.laws.Regions.{IsAsBefore, IsCore}
 use Rattle.mp_near.specs.reach.Numbers.{AreNumbered, number_at, place_at}
 use Rattle.mp_near.specs.reach.Marks.{AreGrown}
-use Rattle.mp_near.specs.reach.Reach.{IsSetSame, IsWholeReach}
+use Rattle.mp_near.specs.reach.Reach.{IsSetSame, IsReach, IsWholeReach, HasReach}
 use Rattle.mp_near.specs.region.Given.{AreGiven}
 use Rattle.mp_near.specs.region.Picks.{AreWiresOf, ArePicks, picking}
 use Rattle.mp_near.specs.declared.region.picked.Picked.{Picked}
@@ -28,22 +28,22 @@ pub record Known (old new : Circuit) (modules wires : List Bool) : Type 0 where
   pub old_ok : IsCircuit old
   pub new_ok : IsCircuit new
   pub revision : IsRevision old new
-  pub whole : IsWholeReach old new modules wires
+  pub reach : IsReach old new modules wires
 
 -- the module of a port that drives an unmarked wire isn't marked, so it is the same in both netlists
 unmarked_new : (old new : Circuit) (modules wires : List Bool) → Known old new modules wires → (m p w : ℕ) → is_marked wires w ≡ false → Drives new m p w → module_at old m ≡ module_at new m
 unmarked_new old new modules wires known m p w not drives = by (is_marked modules m) refl
   where
     by : (b : Bool) → is_marked modules m ≡ b → module_at old m ≡ module_at new m
-    by true is = let yes = known.whole.reach.after m p w is drives in cc
-    by false is = known.whole.reach.same m is
+    by true is = let yes = known.reach.after m p w is drives in cc
+    by false is = known.reach.same m is
 
 unmarked_old : (old new : Circuit) (modules wires : List Bool) → Known old new modules wires → (m p w : ℕ) → is_marked wires w ≡ false → Drives old m p w → module_at old m ≡ module_at new m
 unmarked_old old new modules wires known m p w not drives = by (is_marked modules m) refl
   where
     by : (b : Bool) → is_marked modules m ≡ b → module_at old m ≡ module_at new m
-    by true is = let yes = known.whole.reach.before m p w is drives in cc
-    by false is = known.whole.reach.same m is
+    by true is = let yes = known.reach.before m p w is drives in cc
+    by false is = known.reach.same m is
 
 -- what drives an unmarked wire that is set the same
 driven_alike : (old new : Circuit) (modules wires : List Bool) → Known old new modules wires → (w : ℕ) → is_marked wires w ≡ false →
@@ -65,7 +65,7 @@ driven_alike old new modules wires known w not before after set = record {
     by (inr is) (inr was) = was ∙ ap stimulus_driver set ∙ sym is
 
 as_before : (old new : Circuit) (modules wires : List Bool) → Known old new modules wires → (w : ℕ) → is_marked wires w ≡ false → IsAsBefore old new w
-as_before old new modules wires known w not = by (known.whole.reach.alike w not)
+as_before old new modules wires known w not = by (known.reach.alike w not)
   where
     by : IsSetSame old new w → IsAsBefore old new w
     by (inl both) = inl (driven_alike old new modules wires known w not both.0 both.1 both.2)
@@ -85,30 +85,52 @@ port_alike old new old_ok new_ok m p w same drives =
           subst (λ j. module_at old j ≡ module_at new j) one.0 same;
     }
 
+-- what an edit reaches is a core of what is picked, if all of that is
+core_is : (old new : Circuit) (pick : Picking) (modules wires : List Bool) → Known old new modules wires → IsWholeReach old new modules wires →
+    ((m : ℕ) → is_marked modules m ≡ true → has_module pick m ≡ true) → IsCore old new pick (is_marked modules)
+core_is old new pick modules wires known whole picked = record {
+  picked = picked;
+  same = known.reach.same;
+  driven = λ k p w m has drives reads. hears m w reads (known.reach.after k p w has drives) (is_marked modules m) refl;
+  changed = λ w m reads. changed w m reads (is_marked modules m) refl;
+}
+  where
+    hears : (m w : ℕ) → Reads new m w → is_marked wires w ≡ true → (b : Bool) → is_marked modules m ≡ b → is_marked modules m ≡ true
+    hears m w reads is true has = has
+    hears m w reads is false has = let not = whole.closed m has w reads in cc
+
+    changed : (w m : ℕ) → Reads new m w → (b : Bool) → is_marked modules m ≡ b → (is_marked modules m ≡ true) ⊎ IsDrivenAlike old new w
+    changed w m reads true has = inl has
+    changed w m reads false has = inr (by (as_before old new modules wires known w (whole.closed m has w reads)))
+      where
+        by : IsAsBefore old new w → IsDrivenAlike old new w
+        by (inl alike) = alike
+        by (inr none) = absurd (no_some (wire_at new w) none.1 (read_stands new known.new_ok m w reads))
+
 -- what is marked, numbered anew
-pub are_picks : (old new : Circuit) (modules wires all : List Bool) (picked : Picked) → Known old new modules wires → AreWiresOf old new modules wires all →
+pub are_picks : (old new : Circuit) (modules wires all : List Bool) (picked : Picked) → Known old new modules wires → HasReach old new modules wires → AreWiresOf old new modules wires all →
     AreNumbered all (length all) picked.wires.numbers.items picked.wires.places.items → AreNumbered modules (length modules) picked.modules.numbers.items picked.modules.places.items →
     AreGiven new modules picked.wires.numbers.items picked.given.items → ArePicks old new picked
-are_picks old new modules wires all picked known spread wire_list module_list given = record {
+are_picks old new modules wires all picked known has spread wire_list module_list given = record {
   region = record {
-    modules = λ m not. known.whole.reach.same m (sym (has_module_is m) ∙ not);
+    modules = λ m not. known.reach.same m (sym (has_module_is m) ∙ not);
     given = λ k is.
         let port = given.outside k (length new.wires + k + 1) is in
-        port_alike old new known.old_ok known.new_ok port.0.0 port.1 (pick.wire_of k) (known.whole.reach.same port.0.0 port.3) (finds_only_ports new (pick.wire_of k) port.1 port.0 port.2);
+        port_alike old new known.old_ok known.new_ok port.0.0 port.1 (pick.wire_of k) (known.reach.same port.0.0 port.3) (finds_only_ports new (pick.wire_of k) port.1 port.0 port.2);
     others = λ w not. as_before old new modules wires known w (unmarked w (sym (has_wire_is w) ∙ not));
   };
   before = record {
-    driven = λ m p w has drives. has_wire_is w ∙ spread.reached w (known.whole.reach.before m p w (sym (has_module_is m) ∙ has) drives);
+    driven = λ m p w has drives. has_wire_is w ∙ spread.reached w (known.reach.before m p w (sym (has_module_is m) ∙ has) drives);
     read = λ m w has reads. has_wire_is w ∙ spread.before m w (sym (has_module_is m) ∙ has) reads;
     places = λ k stands. place k (let low = some_within old.wires (pick.wire_of k) stands in let more = known.revision.wires in omega (arith, low, more));
     seats = λ k stands. seat k (let low = some_within old.modules (pick.module_of k) stands in let more = known.revision.modules in omega (arith, low, more));
     given_driven = λ k is.
         let port = given.outside k (length new.wires + k + 1) is in
-        (port.0.0, port.1, drives_old old new port.0.0 port.1 (pick.wire_of k) (known.whole.reach.same port.0.0 port.3) (finds_only_ports new (pick.wire_of k) port.1 port.0 port.2), has_module_is port.0.0 ∙ port.3);
+        (port.0.0, port.1, drives_old old new port.0.0 port.1 (pick.wire_of k) (known.reach.same port.0.0 port.3) (finds_only_ports new (pick.wire_of k) port.1 port.0 port.2), has_module_is port.0.0 ∙ port.3);
     own_driven = λ k m p not drives. own_old k m p not drives (is_marked modules m) refl;
   };
   after = record {
-    driven = λ m p w has drives. has_wire_is w ∙ spread.reached w (known.whole.reach.after m p w (sym (has_module_is m) ∙ has) drives);
+    driven = λ m p w has drives. has_wire_is w ∙ spread.reached w (known.reach.after m p w (sym (has_module_is m) ∙ has) drives);
     read = λ m w has reads. has_wire_is w ∙ spread.after m w (sym (has_module_is m) ∙ has) reads;
     places = λ k stands. place k (some_within new.wires (pick.wire_of k) stands);
     seats = λ k stands. seat k (some_within new.modules (pick.module_of k) stands);
@@ -117,12 +139,9 @@ are_picks old new modules wires all picked known spread wire_list module_list gi
         (port.0.0, port.1, finds_only_ports new (pick.wire_of k) port.1 port.0 port.2, has_module_is port.0.0 ∙ port.3);
     own_driven = own;
   };
-  closed = record {
-    driven = λ k p w m has drives reads. hears m w reads (known.whole.reach.after k p w (sym (has_module_is k) ∙ has) drives) (is_marked modules m) refl;
-    changed = λ w m reads. changed w m reads (is_marked modules m) refl;
-  };
-  wires = (all, subst (λ count. AreNumbered all count picked.wires.numbers.items picked.wires.places.items) (spread.places ∙ known.whole.reach.wire_count) wire_list);
-  modules = (modules, subst (λ count. AreNumbered modules count picked.modules.numbers.items picked.modules.places.items) known.whole.reach.module_count module_list);
+  core = (has.core, core_is old new pick has.core has.core_wires core_known has.whole (λ m is. has_module_is m ∙ has.grown.kept m is));
+  wires = (all, subst (λ count. AreNumbered all count picked.wires.numbers.items picked.wires.places.items) (spread.places ∙ known.reach.wire_count) wire_list);
+  modules = (modules, subst (λ count. AreNumbered modules count picked.modules.numbers.items picked.modules.places.items) known.reach.module_count module_list);
   given = given.places;
 }
   where
@@ -130,11 +149,11 @@ are_picks old new modules wires all picked known spread wire_list module_list gi
     pick = picking new picked
 
     has_wire_is : (w : ℕ) → has_wire pick w ≡ is_marked all w
-    has_wire_is w = subst (λ far. (number_at far picked.wires.numbers.items (place_at picked.wires.places.items w) == w) ≡ is_marked all w) (spread.places ∙ known.whole.reach.wire_count)
+    has_wire_is w = subst (λ far. (number_at far picked.wires.numbers.items (place_at picked.wires.places.items w) == w) ≡ is_marked all w) (spread.places ∙ known.reach.wire_count)
         (is_picked all picked.wires.numbers.items picked.wires.places.items wire_list w)
 
     has_module_is : (m : ℕ) → has_module pick m ≡ is_marked modules m
-    has_module_is m = subst (λ far. (number_at far picked.modules.numbers.items (place_at picked.modules.places.items m) == m) ≡ is_marked modules m) known.whole.reach.module_count
+    has_module_is m = subst (λ far. (number_at far picked.modules.numbers.items (place_at picked.modules.places.items m) == m) ≡ is_marked modules m) known.reach.module_count
         (is_picked modules picked.modules.numbers.items picked.modules.places.items module_list m)
 
     unmarked : (w : ℕ) → is_marked all w ≡ false → is_marked wires w ≡ false
@@ -172,19 +191,10 @@ are_picks old new modules wires all picked known spread wire_list module_list gi
 
     own_old : (k m p : ℕ) → pick.given k ≡ false → Drives old m p (pick.wire_of k) → (b : Bool) → is_marked modules m ≡ b → has_module pick m ≡ true
     own_old k m p not drives true is = has_module_is m ∙ is
-    own_old k m p not drives false is = own k m p not (drives_new old new m p (pick.wire_of k) (known.whole.reach.same m is) drives)
+    own_old k m p not drives false is = own k m p not (drives_new old new m p (pick.wire_of k) (known.reach.same m is) drives)
 
-    hears : (m w : ℕ) → Reads new m w → is_marked wires w ≡ true → (b : Bool) → is_marked modules m ≡ b → has_module pick m ≡ true
-    hears m w reads is true has = has_module_is m ∙ has
-    hears m w reads is false has = let not = known.whole.closed m has w reads in cc
-
-    changed : (w m : ℕ) → Reads new m w → (b : Bool) → is_marked modules m ≡ b → (has_module pick m ≡ true) ⊎ IsDrivenAlike old new w
-    changed w m reads true has = inl (has_module_is m ∙ has)
-    changed w m reads false has = inr (by (as_before old new modules wires known w (known.whole.closed m has w reads)))
-      where
-        by : IsAsBefore old new w → IsDrivenAlike old new w
-        by (inl alike) = alike
-        by (inr none) = absurd (no_some (wire_at new w) none.1 (read_stands new known.new_ok m w reads))
+    core_known : Known old new has.core has.core_wires
+    core_known = record { old_ok = known.old_ok; new_ok = known.new_ok; revision = known.revision; reach = has.whole.reach }
 
 -- the wires that are reached are marked, and those that the marked modules below a count read
 pub record AreSpread (old new : Circuit) (modules wires : List Bool) (count : ℕ) (marks : List Bool) : Type 0 where
@@ -220,7 +230,7 @@ spread_more old new modules wires marks half next m known one two read_old read_
     fewer = known.revision.wires
 
     size : length marks ≡ length new.wires
-    size = are.grown.places ∙ known.whole.reach.wire_count
+    size = are.grown.places ∙ known.reach.wire_count
 
     half_size : length half ≡ length marks
     half_size = one.places

@@ -18,8 +18,10 @@ use Rattle.mp_near.specs.laws.Picking.{Picking, has_module, placed, HasLevelsOf}
 use Rattle.mp_near.specs.laws.Regions.{OthersStay, Stays}
 use Rattle.mp_near.specs.laws.RegionRuns.{HasRunOf, OthersKeepRun}
 use Rattle.mp_near.proofs.lemmas.laws.PickedLevelLemmas.{picked_have_levels}
-use Rattle.mp_near.proofs.lemmas.laws.RegionLevelLemmas.{closed_regions_stay, regions_have_levels}
+use Rattle.mp_near.proofs.lemmas.laws.CoreLemmas.{closed_cores_stay}
+use Rattle.mp_near.proofs.lemmas.laws.RegionLevelLemmas.{regions_have_levels}
 use Rattle.mp_near.proofs.lemmas.laws.RunLemmas.{picked_have_runs, others_have_runs}
+use Rattle.mp_partition.specs.runs.Marks.{is_marked}
 use Rattle.mp_near.specs.Changes.{IsChange}
 use Rattle.mp_near.specs.reach.Numbers.{place_at}
 use Rattle.mp_near.specs.region.Picks.{picking}
@@ -65,14 +67,14 @@ module _ (change : Revision) (is : IsChange change) (small : Small) (like : IsSm
   abbrev pub pick : Picking
   pick = picking change.new.now small.picked
 
-  pub stays : (h : ℕ) → Stays change.old.now change.new.now small.now pick h
-  stays h = closed_regions_stay change.old.now change.new.now small.was small.now pick is.old is.new like.now is.revision like.region like.picks.closed h
+  pub stays : Stays change.old.now change.new.now small.now pick change.new.now.horizon
+  stays = closed_cores_stay change.old.now change.new.now small.was small.now pick (is_marked like.picks.core.0) is.old is.new like.now is.revision like.region like.picks.core.1 change.new.now.horizon (omega arith)
 
   had : HasRunOf change.old.now small.was pick
   had = picked_have_runs change.old.now small.was pick (level change.old.now) is.old like.picks.before like.region.before (picked_have_levels change.old.now small.was pick is.old like.was like.picks.before like.region.before)
 
   levels : HasLevelsOf change.new.now small.now pick change.new.now.horizon × OthersStay change.old.now change.new.now pick change.new.now.horizon
-  levels = regions_have_levels change.old.now change.new.now small.was small.now pick is.old is.new like.now is.revision like.region change.new.now.horizon (omega arith) (stays change.new.now.horizon)
+  levels = regions_have_levels change.old.now change.new.now small.was small.now pick is.old is.new like.now is.revision like.region change.new.now.horizon (omega arith) stays
 
   has : HasRunOf change.new.now small.now pick
   has = picked_have_runs change.new.now small.now pick (level change.old.now) is.new like.picks.after like.region.after levels.0

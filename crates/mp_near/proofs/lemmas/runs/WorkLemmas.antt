@@ -77,7 +77,7 @@ module _ (change : Revision) (is : IsChange change) (small : Small) (like : IsSm
       let low = entry_there k from to entry in
       subst (λ m. IsEntry change.old.now change.new.now m from to) (get_or_default numbers k (length change.new.now.modules + k + 1) 0 low)
       ((regions_have_work change.old.now change.new.now small.was small.now pick is.old is.new like.was like.now is.revision like.region least change.new.now.horizon (omega arith)
-      (stays change is small like change.new.now.horizon) k from to (entry_low k from to entry)).0 entry)
+      (stays change is small like) k from to (entry_low k from to entry)).0 entry)
     where
       entry_low : (k from to : ℕ) → IsEntry small.was small.now k from to → to ≤ change.new.now.horizon
       entry_low k from to entry = let ends = entry.window.ends in let horizon = like.region.after.horizon in omega (arith, ends, horizon)
@@ -100,7 +100,7 @@ module _ (change : Revision) (is : IsChange change) (small : Small) (like : IsSm
   nothing : numbers ≡ [] → AreWorkSpans change.old.now change.new.now []
   nothing none = record {
     known = λ m from to low entry. absurd (others_rest change.old.now change.new.now small.was small.now pick is.old is.new like.now is.revision like.region change.new.now.horizon (omega arith)
-        (stays change is small like change.new.now.horizon) m from to low (outside change is small like m (λ there. let size = ap (λ (xs : List ℕ). length xs) none in absurd (omega (arith, there, size)))) entry);
+        (stays change is small like) m from to low (outside change is small like m (λ there. let size = ap (λ (xs : List ℕ). length xs) none in absurd (omega (arith, there, size)))) entry);
     only = λ m from to k low at. let no = at.within in absurd (omega (arith, no));
     once = λ m from to k j low at other. let no = at.within in absurd (omega (arith, no));
     begun = λ k low. absurd (omega arith);
@@ -113,4 +113,4 @@ module _ (change : Revision) (is : IsChange change) (small : Small) (like : IsSm
       subst (AreWorkSpans change.old.now change.new.now) (sym (same ∙ ap (map (with_number (length change.new.now.modules) numbers)) (no_spans work_spans none are))) (nothing none)
   spans_up (inr least) work_spans all are same =
       subst (AreWorkSpans change.old.now change.new.now) (sym (renumbered work_spans all same))
-      (regions_have_work_spans change.old.now change.new.now small.was small.now pick is.old is.new like.was like.now is.revision like.region least (stays change is small like change.new.now.horizon) work_spans are)
+      (regions_have_work_spans change.old.now change.new.now small.was small.now pick is.old is.new like.was like.now is.revision like.region least (stays change is small like) work_spans are)

@@ -9,6 +9,7 @@ find_small-requires-clause-change g c = record {
   new = c.horizon-new_horizon.ensures.form;
   revision = c.requires.revision;
   run = c.requires.run;
+  least = c.least_delay-least.ensures;
 }
 
 pub redo_by-redone-requires-clause-change : goal.redo_by-redone-requires-clause-change
@@ -17,6 +18,7 @@ redo_by-redone-requires-clause-change g c = λ asked lives. record {
   new = c.horizon-new_horizon.ensures.form;
   revision = c.requires.revision;
   run = c.requires.run;
+  least = c.least_delay-least.ensures;
 }
 
 pub redo_by-redone-requires-clause-region : goal.redo_by-redone-requires-clause-region

@@ -12,7 +12,7 @@ loop-m-preserved c =
     let wires = c.args.reached.now.wires.items in
     let marks = c.loop-m.marks.items in
     let m = c.loop-m.m in
-    let known : Known old new modules wires = record { old_ok = c.requires.change.old; new_ok = c.requires.change.new; revision = c.requires.change.revision; whole = c.requires.whole } in
+    let known : Known old new modules wires = record { old_ok = c.requires.change.old; new_ok = c.requires.change.new; revision = c.requires.change.revision; reach = c.requires.reach } in
     elim c.if-index.branch [
       | then-index w ↦
           let one = w.mark_inputs.ensures in
@@ -25,7 +25,7 @@ loop-m-preserved c =
 
 pub returns : goal.returns
 returns c =
-    let size = c.requires.whole.reach.module_count in
+    let size = c.requires.reach.module_count in
     let value = c.module_slots-m-end.ensures.value in
     let over = c.loop-m-test.false in
     spread_all c.args.change.now.old.now c.args.change.now.new.now c.args.reached.now.modules.items c.args.reached.now.wires.items c.loop-m.marks.items c.loop-m.m (omega (arith, size, value, over)) c.loop-m.invariant

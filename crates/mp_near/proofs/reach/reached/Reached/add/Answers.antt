@@ -1,9 +1,10 @@
 use Rattle.std.proofs.Common.{◌∙◌, arith}
+use Rattle.mp_near.proofs.lemmas.reach.MarkLemmas.{grown_set}
 use Rattle.mp_near.proofs.lemmas.reach.ReachLemmas.{driven_marked, reach_more}
 use Rattle.mp_near.proofs.reach.reached.Reached.add.Goals as goal
 
-pub returns : goal.returns
-returns c =
+pub returns-clause-reach : goal.returns-clause-reach
+returns-clause-reach c =
     let old = c.args.old.now in
     let new = c.args.new.now in
     let wires = c.args.self.now.wires.items in
@@ -15,3 +16,6 @@ returns c =
     let before = driven_marked old new c.horizon-old_horizon.ensures.form c.requires.revision.wires c.args.id.0 wires half size one.driven in
     let after = driven_marked new new c.horizon-new_horizon.ensures.form (omega arith) c.args.id.0 half next (one.grown.places ∙ size) two.driven in
     reach_more old new c.args.self.now.modules.items wires half next c.args.id.0 c.requires.low one.grown two.grown before after c.requires.reach
+
+pub returns-clause-grown : goal.returns-clause-grown
+returns-clause-grown c = grown_set c.args.self.now.modules.items c.args.id.0 c.requires.low

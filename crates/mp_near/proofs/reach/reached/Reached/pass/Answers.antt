@@ -25,7 +25,7 @@ loop-m-preserved c =
           let few = is.few in
           let some = w.if-passed-eq0.false in
           rw (w.self-is, w.passed-is) (record {
-            reach = w.add.ensures;
+            reach = w.add.ensures.reach;
             few = omega (arith, few);
             low = omega arith;
             end = omega (arith, test);

@@ -6,7 +6,7 @@ use Rattle.mp_near.proofs.lemmas.region.PickLemmas.{Known, are_picks}
 use Rattle.mp_near.proofs.region.picked.Picked.of.Goals as goal
 
 pub given_wires-requires : goal.given_wires-requires
-given_wires-requires c = subst (λ (ms : List Bool). length ms ≡ length c.args.change.now.new.now.modules) (sym c.as_slice-3.ensures.value) c.requires.whole.reach.module_count
+given_wires-requires c = subst (λ (ms : List Bool). length ms ≡ length c.args.change.now.new.now.modules) (sym c.as_slice-3.ensures.value) c.requires.reach.reach.module_count
 
 pub returns : goal.returns
 returns c =
@@ -14,11 +14,11 @@ returns c =
     let new = c.args.change.now.new.now in
     let modules = c.args.reached.now.modules.items in
     let wires = c.args.reached.now.wires.items in
-    let known : Known old new modules wires = record { old_ok = c.requires.change.old; new_ok = c.requires.change.new; revision = c.requires.change.revision; whole = c.requires.whole } in
+    let known : Known old new modules wires = record { old_ok = c.requires.change.old; new_ok = c.requires.change.new; revision = c.requires.change.revision; reach = c.requires.reach.reach } in
     let all = c.in_ok-marks.marks.items in
     let picked : Picked = record { wires = c.in_ok-wires.wires; modules = c.in-Ok.modules; given = c.in-Ok-given_wires.given } in
     let numbers = picked.wires.numbers.items in
-    are_picks old new modules wires all picked known c.in_ok-marks.ensures
+    are_picks old new modules wires all picked known c.requires.reach c.in_ok-marks.ensures
     (subst (λ (ms : List Bool). AreNumbered ms (length ms) numbers picked.wires.places.items) c.as_slice.ensures.value c.in_ok-wires.ensures)
     (subst (λ (ms : List Bool). AreNumbered ms (length ms) picked.modules.numbers.items picked.modules.places.items) c.as_slice-2.ensures.value c.in-Ok.ensures)
     (subst (λ (ms : List Bool). AreGiven new ms numbers picked.given.items) c.as_slice-3.ensures.value
