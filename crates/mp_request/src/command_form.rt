@@ -1,7 +1,7 @@
 //! Forms of commands.
 use crate::arguments::Arguments;
 use crate::help::FORMS;
-use clap::Command as Parser;
+use clap::{Arg, Command as Parser};
 use std::alloc::{AllocError, Global};
 
 /// A command: its name, its help, and its arguments in order.
@@ -51,7 +51,21 @@ fn with_each<'a>(
 ) -> Result<Parser<'a>, AllocError> {
     let mut command = command;
     for form in arguments.forms() {
-        command = command.arg(form.argument(alloc)?)?;
+        command = with_argument(command, form.argument(alloc))?;
     }
     Ok(command)
+}
+
+/// The command with one more argument.
+fn with_argument<'a>(
+    command: Parser<'a>,
+    argument: Result<Arg<'a>, AllocError>,
+) -> Result<Parser<'a>, AllocError> {
+    match argument {
+        Ok(argument) => command.arg(argument),
+        Err(error) => {
+            drop(command);
+            Err(error)
+        }
+    }
 }

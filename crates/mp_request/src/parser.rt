@@ -109,9 +109,23 @@ static EXPLAINING: CommandForm = CommandForm {
 pub(crate) fn parser<'a>(alloc: Global) -> Result<Parser<'a>, AllocError> {
     let mut parser = program(alloc)?;
     for form in commands() {
-        parser = parser.subcommand(form.command(alloc)?)?;
+        parser = with_command(parser, form.command(alloc))?;
     }
-    parser.subcommand(explain(alloc)?)
+    with_command(parser, explain(alloc))
+}
+
+/// The parser with one more command.
+fn with_command<'a>(
+    parser: Parser<'a>,
+    command: Result<Parser<'a>, AllocError>,
+) -> Result<Parser<'a>, AllocError> {
+    match command {
+        Ok(command) => parser.subcommand(command),
+        Err(error) => {
+            drop(parser);
+            Err(error)
+        }
+    }
 }
 
 /// The commands that read a netlist. It is a function, so that proofs above don't look at their texts.

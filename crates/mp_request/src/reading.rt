@@ -86,12 +86,33 @@ fn command_of<'a>(
     word: &str,
     found: &ArgMatches<'a>,
 ) -> Result<Option<Command<'a>>, Error> {
-    Ok(Some(match word {
+    if word == "show" {
+        let picture = picture_words(alloc, found)?;
+        return Ok(Some(Command::Show(picture)));
+    }
+    match plain_command(word) {
+        Some(command) => Ok(Some(command)),
+        None => Ok(command_with_arguments(word, found)),
+    }
+}
+
+/// The command without arguments of its own that a word names; `None` if it names none.
+fn plain_command<'a>(word: &str) -> Option<Command<'a>> {
+    Some(match word {
         "waves" => Command::Waves,
         "report" => Command::Report,
         "check" => Command::Check,
         "dump" => Command::Dump,
-        "show" => Command::Show(picture_words(alloc, found)?),
+        "graph" => Command::Graph,
+        "verilog" => Command::Verilog,
+        "play" => Command::Play,
+        _ => return None,
+    })
+}
+
+/// The command other than `show`, with arguments of its own, that a word names; `None` if it names none.
+fn command_with_arguments<'a>(word: &str, found: &ArgMatches<'a>) -> Option<Command<'a>> {
+    Some(match word {
         "why" => Command::Why {
             wire: wire(found),
             time: time(found),
@@ -106,12 +127,9 @@ fn command_of<'a>(
             from: from(found),
             to: to(found),
         },
-        "graph" => Command::Graph,
-        "verilog" => Command::Verilog,
-        "play" => Command::Play,
         "desk" => desk_command(found),
-        _ => return Ok(None),
-    }))
+        _ => return None,
+    })
 }
 
 /// A desk that serves people at a folder if there is `--at`, and otherwise one whose lines are in its input.
@@ -125,14 +143,11 @@ fn desk_command<'a>(found: &ArgMatches<'a>) -> Command<'a> {
     }
 }
 
+/// The options of a timing diagram.
 fn picture_words<'a>(alloc: Global, found: &ArgMatches<'a>) -> Result<PictureWords<'a>, Error> {
-    let mut wires = Vec::new(alloc);
-    let mut causes = None;
-    if let Some((wire, time)) = pair(found, "causes") {
-        wires.push(wire)?;
-        causes = Some(time_in(alloc, time)?);
-    }
-    wires.extend_from_slice(found.get_strs("wire").unwrap_or(&[]))?;
+    let caused = pair(found, "causes");
+    let causes = causes_time(alloc, caused)?;
+    let wires = shown_wires(alloc, found, caused)?;
     Ok(PictureWords {
         wires,
         causes,
@@ -144,6 +159,28 @@ fn picture_words<'a>(alloc: Global, found: &ArgMatches<'a>) -> Result<PictureWor
         svg: found.get_flag("svg"),
         unit: found.get_str("unit").unwrap_or("time in units"),
     })
+}
+
+/// The time in the words of `--causes`; `None` if they aren't given.
+fn causes_time(alloc: Global, caused: Option<(&str, &str)>) -> Result<Option<u64>, Error> {
+    match caused {
+        Some((_, time)) => Ok(Some(time_in(alloc, time)?)),
+        None => Ok(None),
+    }
+}
+
+/// The wires to show: the one in the words of `--causes`, if they are given, and those that are named.
+fn shown_wires<'a>(
+    alloc: Global,
+    found: &ArgMatches<'a>,
+    caused: Option<(&'a str, &'a str)>,
+) -> Result<Vec<&'a str>, AllocError> {
+    let mut wires = Vec::new(alloc);
+    if let Some((wire, _)) = caused {
+        wires.push(wire)?;
+    }
+    wires.extend_from_slice(found.get_strs("wire").unwrap_or(&[]))?;
+    Ok(wires)
 }
 
 /// The two values of an option, or `None` if it isn't given.

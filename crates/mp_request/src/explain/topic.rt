@@ -50,14 +50,42 @@ impl Text for Topic {
 
     fn put_to<S: Sink>(&self, out: &mut Out<S>) -> Result<(), Failed> {
         match self {
-            Topic::Text(code) => ("text ", code.number(), " ", code.name()).put_to(out),
-            Topic::Edit(error) => ("edit ", error.number(), " ", edit_name(*error)).put_to(out),
-            Topic::Seat(code) => ("seat ", code.number(), " ", code.name()).put_to(out),
-            Topic::Finding(code) => ("finding ", code.number(), " ", code.word()).put_to(out),
+            Topic::Text(code) => put_text_title(out, *code),
+            Topic::Edit(error) => put_edit_title(out, *error),
+            Topic::Seat(code) => put_seat_title(out, *code),
+            Topic::Finding(code) => put_finding_title(out, *code),
             Topic::Check(check) => ("check ", check.word()).put_to(out),
             Topic::Kind(kind) => ("kind ", kind.word()).put_to(out),
         }
     }
+}
+
+/// Writes the title of a fault of a text.
+fn put_text_title<S: Sink>(out: &mut Out<S>, code: TextCode) -> Result<(), Failed>
+    ensures { Writes result out.old out.new (title (Topic.Text code)) }
+{
+    ("text ", code.number(), " ", code.name()).put_to(out)
+}
+
+/// Writes the title of a reason why an edit is refused.
+fn put_edit_title<S: Sink>(out: &mut Out<S>, error: EditError) -> Result<(), Failed>
+    ensures { Writes result out.old out.new (title (Topic.Edit error)) }
+{
+    ("edit ", error.number(), " ", edit_name(error)).put_to(out)
+}
+
+/// Writes the title of a reason why a line is refused at a seat.
+fn put_seat_title<S: Sink>(out: &mut Out<S>, code: SeatCode) -> Result<(), Failed>
+    ensures { Writes result out.old out.new (title (Topic.Seat code)) }
+{
+    ("seat ", code.number(), " ", code.name()).put_to(out)
+}
+
+/// Writes the title of a finding.
+fn put_finding_title<S: Sink>(out: &mut Out<S>, code: FindingCode) -> Result<(), Failed>
+    ensures { Writes result out.old out.new (title (Topic.Finding code)) }
+{
+    ("finding ", code.number(), " ", code.word()).put_to(out)
 }
 
 /// Whether the word is the number or the name.

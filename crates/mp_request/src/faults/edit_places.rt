@@ -1,6 +1,6 @@
 //! The word at fault in a line whose edit is refused.
 ghost use Rattle.std.specs.Prelude.{◌≡◌, ◌<◌, IfOk, length};
-ghost use Rattle.mp_request.specs.faults.EditPlaces.{wire_place, bundle_place, is_good, good_changes, stimulus_place, edit_place, edit_at, refusal_place};
+ghost use Rattle.mp_request.specs.faults.EditPlaces.{wire_place, bundle_place, is_good, good_changes, stimulus_place, edit_place, edit_in, edit_at, refusal_place};
 
 use crate::faults::module_places::module_place;
 use crate::faults::place::Place;
@@ -19,13 +19,21 @@ pub(crate) fn refusal_place(
 ) -> Result<Place, AllocError>
     ensures { IfOk result (λ place. place ≡ refusal_place netlist.now (edit_at line.now) error) }
 {
-    let Some(edit) = edit_at(alloc, line)? else {
-        return Ok(Place::Word(0));
+    let edit = edit_at(alloc, line)?;
+    let place = place_in_edit(netlist, &edit, error);
+    // The edit is dropped by a call: at the end of the scope, the drop of each of its parts would stand here.
+    drop(edit);
+    Ok(place)
+}
+
+/// The word at fault in the line of this edit, or its first word if there is no netlist or no edit.
+fn place_in_edit(netlist: &Option<Netlist>, edit: &Option<SingleEdit>, error: EditError) -> Place
+    ensures { result ≡ refusal_place netlist.now edit.now error }
+{
+    let (Some(netlist), Some(edit)) = (netlist, edit) else {
+        return Place::Word(0);
     };
-    match netlist {
-        Some(netlist) => Ok(edit_place(netlist, &edit, error)),
-        None => Ok(Place::Word(0)),
-    }
+    edit_place(netlist, edit, error)
 }
 
 /// The edit that a line states; `None` if it states none.
@@ -33,10 +41,22 @@ fn edit_at(alloc: Global, line: &[u8]) -> Result<Option<SingleEdit>, AllocError>
     ensures { IfOk result (λ edit. edit ≡ edit_at line.now) }
 {
     match read_line(alloc, line) {
-        Ok(Line::Change(Edit::Single(edit))) => Ok(Some(edit)),
-        Ok(_) => Ok(None),
+        Ok(line) => Ok(edit_in(line)),
         Err(LineError::OutOfMemory) => Err(AllocError),
         Err(_) => Ok(None),
+    }
+}
+
+/// The edit of one thing in a line; `None` if it has none.
+fn edit_in(line: Line) -> Option<SingleEdit>
+    ensures { result ≡ edit_in (Ok line) }
+{
+    match line {
+        Line::Change(Edit::Single(edit)) => Some(edit),
+        other => {
+            drop(other);
+            None
+        }
     }
 }
 

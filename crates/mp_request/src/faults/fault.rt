@@ -35,7 +35,10 @@ pub(crate) fn find_fault(alloc: Global, text: &[u8], error: TextError) -> Result
         return Ok(Fault { span, near: None });
     }
     let netlist = netlist_before(alloc, text, error.line, error.code)?;
-    plain_fault(alloc, text, error, &netlist)
+    let fault = plain_fault(alloc, text, error, &netlist);
+    // The netlist is dropped by a call: at the end of the scope, the drop of each of its parts would stand here.
+    drop(netlist);
+    fault
 }
 
 /// Finds what is wrong in a line whose bytes are all allowed. If its edit is refused, `netlist` is the netlist before it.
@@ -51,9 +54,28 @@ fn plain_fault(
 {
     let line = line_numbered(text, error.line);
     let words = words(alloc, line)?;
-    let place = place_in(alloc, text, error, netlist, words.as_slice())?;
-    let index = place.index(words.as_slice());
-    let near = near_in(alloc, netlist, words.as_slice(), index, error.code)?;
+    let fault = fault_in_words(alloc, text, error, netlist, words.as_slice());
+    drop(words);
+    fault
+}
+
+/// Finds what is wrong in a line with these words. If its edit is refused, `netlist` is the netlist before it.
+fn fault_in_words(
+    alloc: Global,
+    text: &[u8],
+    error: TextError,
+    netlist: &Option<Netlist>,
+    words: &[&[u8]],
+) -> Result<Fault, AllocError>
+    requires words { texts words.now ≡ words_of (line_numbered text.now error.line) }
+    requires ascii { AreAscii words.now }
+    ensures span { IfOk result (λ fault. fault.span ≡ plain_span text.now error netlist.now) }
+    ensures near { IfOk result (λ fault. fault.near ≡ plain_near text.now error netlist.now) }
+{
+    let place = place_in(alloc, text, error, netlist, words)?;
+    let index = place.index(words);
+    let near = near_in(alloc, netlist, words, index, error.code)?;
+    let line = line_numbered(text, error.line);
     let span = span_of(statement_part(line), index);
     Ok(Fault { span, near })
 }

@@ -1,9 +1,9 @@
 //! The name nearest to a word.
-ghost use Rattle.std.specs.Prelude.{◌≡◌, ◌∷◌, List, ℕ, Some, IfOk, drop, map};
+ghost use Rattle.std.specs.Prelude.{◌≡◌, ◌&&◌, ◌∷◌, List, ℕ, Some, IfOk, drop, map};
 ghost use Rattle.std.specs.List.{before_first};
 ghost use Rattle.mp_netlist.specs.Circuit.{wire_at};
 ghost use Rattle.mp_text.specs.lexing.Numbers.{is_slash};
-ghost use Rattle.mp_request.specs.faults.Nearest.{distance, is_nearer, nearer, nearest, wire_names, statement_words, kind_words, name_part};
+ghost use Rattle.mp_request.specs.faults.Nearest.{distance, is_near, is_nearer, nearer, nearest, wire_names, statement_words, kind_words, name_part};
 
 use mp_netlist::{Name, Netlist, WireId};
 use std::alloc::{AllocError, Global};
@@ -74,14 +74,41 @@ fn nearer(
 ) -> Result<Option<Name>, AllocError>
     ensures { IfOk result (λ near. near ≡ nearer word.now best name) }
 {
+    // The names that aren't returned are dropped by calls: at the end of the scope, the drop of each of their parts would stand here.
+    match replaces(alloc, word, &best, &name) {
+        Ok(true) => {
+            drop(best);
+            Ok(Some(name))
+        }
+        Ok(false) => {
+            drop(name);
+            Ok(best)
+        }
+        Err(error) => {
+            drop(best);
+            drop(name);
+            Err(error)
+        }
+    }
+}
+
+/// Whether a name is near to a word, and nearer than the best one so far, if there is one.
+fn replaces(
+    alloc: Global,
+    word: &[u8],
+    best: &Option<Name>,
+    name: &Name,
+) -> Result<bool, AllocError>
+    ensures { IfOk result (λ replaces. replaces ≡ (is_near word.now (distance word.now name.now) && is_nearer word.now best.now (distance word.now name.now))) }
+{
     if word.len() > NAME_BYTES {
-        return Ok(best);
+        return Ok(false);
     }
-    let new = distance(alloc, word, &name)?;
-    if new.saturating_mul(3) > word.len() || !is_nearer(alloc, word, new, &best)? {
-        return Ok(best);
+    let new = distance(alloc, word, name)?;
+    if new.saturating_mul(3) > word.len() {
+        return Ok(false);
     }
-    Ok(Some(name))
+    is_nearer(alloc, word, new, best)
 }
 
 /// Whether the distance is below that of the name, or there is no name.

@@ -1,9 +1,9 @@
 //! What is shown of a line that can't be read.
-ghost use Rattle.std.specs.Prelude.{◌≡◌, ◌++◌, ◌-◌, IfOk, map, take, drop, replicate};
+ghost use Rattle.std.specs.Prelude.{◌≡◌, ◌++◌, ◌-◌, IfOk, length, map, take, drop, replicate, codes};
 ghost use Rattle.std.specs.Fmt.{decimal};
 ghost use Rattle.mp_request.specs.faults.FaultTexts.{shown_byte, dots_before, dots_behind, shown_part, marks, margin, located, fault_line, meant, suggestion, fault_text, width, lead};
 
-use crate::faults::fault::find_fault;
+use crate::faults::fault::{Fault, find_fault};
 use crate::faults::spans::{is_allowed, is_gap};
 use crate::faults::text_lines::line_numbered;
 use mp_netlist::Name;
@@ -27,12 +27,35 @@ pub fn fault_text(
     ensures { IfOk result (λ shown. shown.items ≡ fault_text text.now error meaning.now) }
 {
     let fault = find_fault(alloc, text, error)?;
+    let shown = shown_fault(alloc, text, error, meaning, &fault);
+    // The fault is dropped by a call: at the end of the scope, the drop of each of its parts would stand here.
+    drop(fault);
+    shown
+}
+
+/// Shows the line of an error with this fault, as `fault_text` does.
+fn shown_fault(
+    alloc: Global,
+    text: &[u8],
+    error: TextError,
+    meaning: &str,
+    fault: &Fault,
+) -> Result<Vec<u8>, AllocError>
+    ensures { IfOk result (λ shown. shown.items ≡ fault_line text.now error fault.now.span ++ (codes "     " ++ (meaning.now ++ suggestion fault.now.near))) }
+{
     let mut shown = Vec::new(alloc);
     push_fault_line(&mut shown, text, error, fault.span)?;
-    shown.extend_from_slice(b"     ")?;
-    shown.extend_from_slice(meaning.as_bytes())?;
-    push_suggestion(&mut shown, &fault.near)?;
+    push_meaning(&mut shown, meaning, &fault.near)?;
     Ok(shown)
+}
+
+/// Appends the meaning of an error, with the name that may have been meant, if there is one.
+fn push_meaning(text: &mut Vec<u8>, meaning: &str, near: &Option<Name>) -> Result<(), AllocError>
+    ensures { IfOk result (λ _. text.new.items ≡ text.old.items ++ (codes "     " ++ (meaning.now ++ suggestion near.now))) }
+{
+    text.extend_from_slice(b"     ")?;
+    text.extend_from_slice(meaning.as_bytes())?;
+    push_suggestion(text, near)
 }
 
 /// Appends the line of the error with marks below the word at fault, unless the error is of line 0.
@@ -60,14 +83,44 @@ fn push_line(
     ensures { IfOk result (λ _. text.new.items ≡ text.old.items ++ located line.now number span) }
 {
     let digits = number.to_string(*text.allocator())?;
-    let mut blank = Vec::new(*text.allocator());
-    push_times(&mut blank, b' ', digits.len())?;
-    push_margin(text, digits.as_bytes())?;
+    push_numbered(text, line, digits.as_bytes(), span)
+}
+
+/// Appends the line after its number, and the marks below it.
+fn push_numbered(
+    text: &mut Vec<u8>,
+    line: &[u8],
+    number: &[u8],
+    span: (usize, usize),
+) -> Result<(), AllocError>
+    ensures { IfOk result (λ _. text.new.items ≡ text.old.items ++ (margin number.now ++ (shown_part line.now span.0 ++ (codes "\n" ++ (margin (replicate (length number.now) 32) ++ (marks span ++ codes "\n")))))) }
+{
+    push_margin(text, number)?;
     push_part(text, line, span.0)?;
     text.extend_from_slice(b"\n")?;
-    push_margin(text, blank.as_slice())?;
+    push_marked_line(text, number.len(), span)
+}
+
+/// Appends the marks below a line whose number has this number of digits.
+fn push_marked_line(
+    text: &mut Vec<u8>,
+    digits: usize,
+    span: (usize, usize),
+) -> Result<(), AllocError>
+    ensures { IfOk result (λ _. text.new.items ≡ text.old.items ++ (margin (replicate digits 32) ++ (marks span ++ codes "\n"))) }
+{
+    push_blank_margin(text, digits)?;
     push_marks(text, span)?;
     text.extend_from_slice(b"\n")
+}
+
+/// Appends blanks in place of a number with this number of digits, and a bar.
+fn push_blank_margin(text: &mut Vec<u8>, digits: usize) -> Result<(), AllocError>
+    ensures { IfOk result (λ _. text.new.items ≡ text.old.items ++ margin (replicate digits 32)) }
+{
+    push_times(text, b' ', 4_usize.saturating_sub(digits))?;
+    push_times(text, b' ', digits)?;
+    text.extend_from_slice(b" | ")
 }
 
 /// Appends the number of a line and a bar.

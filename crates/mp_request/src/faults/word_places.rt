@@ -1,5 +1,5 @@
 //! The word at fault in a line that is wrong by itself.
-ghost use Rattle.std.specs.Prelude.{◌≡◌, ◌≤◌, ◌<◌, All, IfOk, length};
+ghost use Rattle.std.specs.Prelude.{◌≡◌, ◌+◌, ◌≤◌, ◌<◌, All, IfOk, length};
 ghost use Rattle.mp_text.specs.Names.{texts, AreAscii};
 ghost use Rattle.mp_request.specs.faults.Places.{module_parts};
 ghost use Rattle.mp_request.specs.faults.WordPlaces.{begins_with, first_unread, unread_part, number_place, lack_place, count_place, word_place};
@@ -80,20 +80,27 @@ fn number_place(alloc: Global, words: &[&[u8]]) -> Result<Place, AllocError>
     ensures { IfOk result (λ place. place ≡ number_place (texts words.now)) }
 {
     if begins_with(words, b"wire") {
-        let numbers = first_unread::<u64>(alloc, behind(words, 2))?;
-        return Ok(Place::Word(2 + numbers));
+        return unread_behind_name::<u64>(alloc, behind(words, 2));
     }
     if begins_with(words, b"module") {
         return unread_part(alloc, module_parts(words));
     }
     if begins_with(words, b"stim") {
-        let changes = first_unread::<(u64, u64)>(alloc, behind(words, 2))?;
-        return Ok(Place::Word(2 + changes));
+        return unread_behind_name::<(u64, u64)>(alloc, behind(words, 2));
     }
     if begins_with(words, b"bundle") {
         return Ok(Place::Word(5));
     }
     Ok(Place::Word(1))
+}
+
+/// The first of the words after a statement and a name that can't be read as a `W`.
+fn unread_behind_name<W: Worded>(alloc: Global, words: &[&[u8]]) -> Result<Place, AllocError>
+    requires { All (λ word. W.may_read word.now) words.now }
+    ensures { IfOk result (λ place. place ≡ Place.Word (2 + first_unread W.read (texts words.now))) }
+{
+    let read = first_unread::<W>(alloc, words)?;
+    Ok(Place::Word(2 + read))
 }
 
 /// The first parameter or port of a module that can't be read.
