@@ -90,7 +90,8 @@ fn is_any_marked(inputs: &[Input], marks: &[bool]) -> bool
     inputs.iter().any(|input| is_marked(marks, input.wire.0))
 }
 
-fn is_marked(marks: &[bool], number: u32) -> bool
+/// Whether there is a mark at this number.
+pub(crate) fn is_marked(marks: &[bool], number: u32) -> bool
     ensures { result ≡ is_marked marks.now number }
 {
     match marks.get(number as usize) {

@@ -3,7 +3,7 @@ ghost use Rattle.std.specs.Prelude.{◌≡◌, ℕ, ◌<◌, IfOk, length, slice
 ghost use Rattle.mp_partition.specs.runs.Marks.{is_marked};
 ghost use Rattle.mp_near.specs.region.Given.{AreGiven, AreMarksAt, AreOutside};
 
-use crate::reach::mark_outputs;
+use crate::reach::{is_marked, mark_outputs};
 use mp_netlist::{ModuleId, Netlist};
 use std::alloc::{AllocError, Global};
 
@@ -50,13 +50,4 @@ fn marks_at(alloc: Global, marks: &[bool], numbers: &[u32]) -> Result<Vec<bool>,
         found.push(is_marked(marks, *number))?;
     }
     Ok(found)
-}
-
-fn is_marked(marks: &[bool], number: u32) -> bool
-    ensures { result ≡ is_marked marks.now number }
-{
-    match marks.get(number as usize) {
-        Some(mark) => *mark,
-        None => false,
-    }
 }
