@@ -7,6 +7,7 @@ pub mod examples;
 mod finding;
 mod inputs;
 pub mod laws;
+mod shared_wave;
 mod track;
 mod wave_list;
 mod waves;

@@ -1,10 +1,13 @@
 //! Lists of waves.
-ghost use Rattle.std.specs.Prelude.{◌≡◌, map, option_map, IfOk};
+ghost use Rattle.std.specs.Prelude.{◌≡◌, None, map, option_map, IfOk};
 ghost use Rattle.std.specs.Option.{option_copied};
 ghost use Rattle.std.specs.Arc.{arc_value};
 ghost use Rattle.mp_netlist.specs.Slots.{slot_at};
+ghost use Rattle.mp_pieces.specs.Replaced.{AreApart, AreReplaced};
 ghost use Rattle.mp_model.specs.WaveLists.{listed_waves};
 
+use crate::shared_wave::SharedWave;
+use mp_pieces::Pieces;
 use mp_wave::Wave;
 use std::alloc::{AllocError, Global};
 use std::sync::Arc;
@@ -16,6 +19,8 @@ pub(crate) enum WaveList {
     InPlace(Vec<Option<Wave>>),
     /// Each wave has a block of its own, which other lists may share.
     Shared(Vec<Option<Arc<Wave, Global>>>),
+    /// Each wave has such a block, and copies of the list share its pieces until one of them writes there.
+    Pieces(Pieces<SharedWave>),
 }
 
 impl WaveList {
@@ -26,6 +31,7 @@ impl WaveList {
         match self {
             WaveList::InPlace(list) => wave_at(list.as_slice(), place),
             WaveList::Shared(list) => shared_at(list.as_slice(), place),
+            WaveList::Pieces(list) => wave_in(list, place),
         }
     }
 
@@ -39,20 +45,56 @@ impl WaveList {
                 Some(slot) => shared(slot),
                 None => Ok(None),
             },
+            WaveList::Pieces(list) => share_in(list, place),
         }
     }
 
     /// All waves, to be shared; those that are kept in place are copied.
-    pub(crate) fn share_all(
-        &self,
-        alloc: Global,
-    ) -> Result<Vec<Option<Arc<Wave, Global>>>, AllocError>
-        ensures { IfOk result (λ list. map (option_map arc_value) list.items ≡ listed_waves self.now) }
+    pub(crate) fn share_all(&self, alloc: Global) -> Result<Pieces<SharedWave>, AllocError>
+        ensures { IfOk result (λ list. list ≡ listed_waves self.now) }
     {
         match self {
             WaveList::InPlace(list) => all_copied(alloc, list.as_slice()),
             WaveList::Shared(list) => all_shared(alloc, list.as_slice()),
+            WaveList::Pieces(list) => list.copy(),
         }
+    }
+
+    /// Waves like these, but with wave `k` of another list at place `places[k]`, all to be shared.
+    pub(crate) fn replaced(
+        &self,
+        alloc: Global,
+        places: &[u32],
+        others: &WaveList,
+    ) -> Result<Pieces<SharedWave>, AllocError>
+        requires { AreApart places.now }
+        ensures { IfOk result (AreReplaced None (listed_waves self.now) places.now (listed_waves others.now)) }
+    {
+        let mut list = self.share_all(alloc)?;
+        let found = others.share_all(alloc)?;
+        list.replace(places, &found, &SharedWave::none())?;
+        Ok(list)
+    }
+}
+
+fn wave_in(list: &Pieces<SharedWave>, place: usize) -> Option<&Wave>
+    ensures { option_copied result ≡ slot_at list.now place }
+{
+    match list.get(place) {
+        Some(found) => found.get(),
+        None => None,
+    }
+}
+
+fn share_in(
+    list: &Pieces<SharedWave>,
+    place: usize,
+) -> Result<Option<Arc<Wave, Global>>, AllocError>
+    ensures { IfOk result (λ wave. option_map arc_value wave ≡ slot_at list.now place) }
+{
+    match list.get(place) {
+        Some(found) => found.share(),
+        None => Ok(None),
     }
 }
 
@@ -74,15 +116,12 @@ fn shared_at(list: &[Option<Arc<Wave, Global>>], place: usize) -> Option<&Wave>
     }
 }
 
-fn all_copied(
-    alloc: Global,
-    waves: &[Option<Wave>],
-) -> Result<Vec<Option<Arc<Wave, Global>>>, AllocError>
-    ensures { IfOk result (λ list. map (option_map arc_value) list.items ≡ waves.now) }
+fn all_copied(alloc: Global, waves: &[Option<Wave>]) -> Result<Pieces<SharedWave>, AllocError>
+    ensures { IfOk result (λ list. list ≡ waves.now) }
 {
-    let mut list = Vec::with_capacity(alloc, waves.len())?;
+    let mut list = Pieces::new(alloc);
     for slot in waves {
-        list.push(copied(alloc, slot.as_ref())?)?;
+        list.push(SharedWave::of(copied(alloc, slot.as_ref())?))?;
     }
     Ok(list)
 }
@@ -90,12 +129,12 @@ fn all_copied(
 fn all_shared(
     alloc: Global,
     waves: &[Option<Arc<Wave, Global>>],
-) -> Result<Vec<Option<Arc<Wave, Global>>>, AllocError>
-    ensures { IfOk result (λ list. map (option_map arc_value) list.items ≡ map (option_map arc_value) waves.now) }
+) -> Result<Pieces<SharedWave>, AllocError>
+    ensures { IfOk result (λ list. list ≡ map (option_map arc_value) waves.now) }
 {
-    let mut list = Vec::with_capacity(alloc, waves.len())?;
+    let mut list = Pieces::new(alloc);
     for slot in waves {
-        list.push(shared(slot)?)?;
+        list.push(SharedWave::of(shared(slot)?))?;
     }
     Ok(list)
 }
@@ -109,7 +148,10 @@ fn copied(alloc: Global, wave: Option<&Wave>) -> Result<Option<Arc<Wave, Global>
     }
 }
 
-fn shared(slot: &Option<Arc<Wave, Global>>) -> Result<Option<Arc<Wave, Global>>, AllocError>
+/// A wave that has a block of its own, shared once more.
+pub(crate) fn shared(
+    slot: &Option<Arc<Wave, Global>>,
+) -> Result<Option<Arc<Wave, Global>>, AllocError>
     ensures { IfOk result (λ shared. option_map arc_value shared ≡ option_map arc_value slot.now) }
 {
     match slot {

@@ -26,10 +26,11 @@ impl Model for Waves {
 }
 
 impl Waves {
-    ghost use Rattle.std.specs.Prelude.{◌≡◌, map, option_map, IfOk};
+    ghost use Rattle.std.specs.Prelude.{◌≡◌, None, map, option_map, IfOk};
     ghost use Rattle.std.specs.Option.{option_copied};
     ghost use Rattle.std.specs.Arc.{arc_value};
     ghost use Rattle.mp_netlist.specs.Slots.{slot_at};
+    ghost use Rattle.mp_pieces.specs.Replaced.{AreApart, AreReplaced};
 
     /// The waves by wire number, `None` if there is no wire.
     pub fn new(list: Vec<Option<Arc<Wave, Global>>>) -> Waves
@@ -78,7 +79,25 @@ impl Waves {
     pub fn share(&self, alloc: Global) -> Result<Waves, AllocError>
         ensures { IfOk result (λ waves. waves ≡ self.now) }
     {
-        Ok(Waves::new(self.list.share_all(alloc)?))
+        Ok(Waves {
+            list: WaveList::Pieces(self.list.share_all(alloc)?),
+        })
+    }
+
+    /// These waves, but with wave `k` of other waves for the wire of number `wires[k]`. All are shared; those that are kept in place are copied.
+    pub fn with_part(
+        &self,
+        alloc: Global,
+        wires: &[u32],
+        part: &Waves,
+    ) -> Result<Waves, AllocError>
+        requires { AreApart wires.now }
+        ensures { IfOk result (AreReplaced None self.now wires.now part.now) }
+    {
+        let list = self.list.replaced(alloc, wires, &part.list)?;
+        Ok(Waves {
+            list: WaveList::Pieces(list),
+        })
     }
 }
 

@@ -3,3 +3,5 @@ pub mod Checkpoints
 pub mod Outcomes
 pub mod Runs
 pub mod Marks
+pub mod KeptStates
+pub mod Replacing

@@ -4,7 +4,9 @@ mod bit_memory;
 mod checkpoint;
 mod checkpoints;
 mod run;
+mod shared_states;
 mod state_list;
+mod states;
 
 pub use checkpoint::Checkpoint;
 pub use checkpoints::Checkpoints;

@@ -1,11 +1,10 @@
 //! A netlist that is edited, and its present version.
 
-use crate::opening_version::opening_version;
+use crate::opening_version::{first_run, opening_version};
 use crate::prepared::Prepared;
 use crate::versions::versions_of;
 use mp_depend::Work;
 use mp_depend::work::laws::edits_revise;
-use mp_engine::evaluate;
 use mp_near::redo_edit;
 use mp_netlist::{Edit, EditError, Netlist};
 use mp_partition::Run;
@@ -73,7 +72,7 @@ impl<G: Gate> Session<G> {
         requires open { IsOpen (G.may gate) }
         ensures { IfOk result (λ session. session ≡ opened netlist.now) }
     {
-        let run = evaluate(rt, alloc, netlist, &crew, &gate)?;
+        let run = first_run(rt, alloc, netlist, &crew, &gate)?;
         let version = opening_version(alloc, netlist, &run)?;
         Ok(Session {
             alloc,

@@ -10,7 +10,7 @@ pub(crate) struct Numbering {
 }
 
 impl Numbering {
-    ghost use Rattle.std.specs.Prelude.{◌≡◌, ◌<◌, ◌^◌, None, IfOk, IfSome, length, slice_index_or};
+    ghost use Rattle.std.specs.Prelude.{◌≡◌, ◌<◌, ◌^◌, IfOk, length};
     ghost use Rattle.mp_near.specs.reach.Numbers.{AreNumbered, place_at};
 
     /// The numbers that are marked.
@@ -36,18 +36,6 @@ impl Numbering {
         match self.places.get(number as usize) {
             Some(place) => *place,
             None => number,
-        }
-    }
-
-    /// The place of a number, if it is picked.
-    pub(crate) fn place_in(&self, number: u32) -> Option<u32>
-        ensures some { IfSome result (λ place. (place ≡ place_at self.now.places.items number) × (place < length self.now.numbers.items) × (slice_index_or self.now.numbers.items place 0 ≡ number)) }
-        ensures none { result ≡ None → place_at self.now.places.items number < length self.now.numbers.items → slice_index_or self.now.numbers.items (place_at self.now.places.items number) 0 ≡ number → ⊥ }
-    {
-        let place = self.place_of(number);
-        match self.numbers.get(place as usize) {
-            Some(found) if *found == number => Some(place),
-            _ => None,
         }
     }
 }

@@ -19,8 +19,9 @@ end_memory n m = option_map (λ (r : ModuleRecord). state n m (n.horizon - 1)) (
 abbrev pub checkpoint : Circuit → ℕ → ℕ → Option Memory
 checkpoint n m c = if nat_lt c n.horizon && c % checkpoint_units n.horizon == 0 then option_map (λ (r : ModuleRecord). state_before n m r c) (module_at n m) else None
 
--- the wave of each wire that stands, and of each module its state after the last unit and before each checkpoint
+-- the netlist's horizon, the wave of each wire that stands, and of each module its state after the last unit and before each checkpoint
 pub record IsRun (n : Circuit) (run : Outcome) : Type 0 where
+  pub horizon : run.horizon ≡ n.horizon
   pub waves : (w : ℕ) → wave_of run w ≡ slot_wave n w (wire_at n w)
   pub ends : (m : ℕ) → end_of run m ≡ end_memory n m
   pub checkpoints : (m c : ℕ) → checkpoint_of run m c ≡ checkpoint n m c

@@ -2,6 +2,7 @@
 ghost use Rattle.std.specs.Prelude.{◌≡◌};
 
 use crate::runs::checkpoints::Checkpoints;
+use crate::runs::states::States;
 use mp_model::Waves;
 use mp_modules::Memory;
 use mp_netlist::{ModuleId, WireId, checkpoint_units};
@@ -15,18 +16,16 @@ use std::sync::Arc;
 pub struct Run {
     horizon: u32,
     waves: Waves,
-    ends: Vec<Option<Memory>>,
-    kept: Vec<Option<Arc<Checkpoints, Global>>>,
+    states: States,
 }
 
 impl Model for Run {
-    ghost use Rattle.std.specs.Prelude.{map, option_map};
-    ghost use Rattle.std.specs.Arc.{arc_value};
     ghost use Rattle.mp_partition.specs.runs.Outcomes.{Outcome};
+    ghost use Rattle.mp_partition.specs.runs.KeptStates.{ends_of, kept_of};
 
     ghost Value = { Outcome };
 
-    ghost view = { λ run. record { horizon = run.horizon; waves = run.waves; ends = run.ends.items; kept = map (option_map arc_value) run.kept.items } };
+    ghost view = { λ run. record { horizon = run.horizon; waves = run.waves; ends = ends_of run.states; kept = kept_of run.states } };
 }
 
 impl Run {
@@ -34,7 +33,9 @@ impl Run {
     ghost use Rattle.std.specs.Option.{option_copied};
     ghost use Rattle.std.specs.Arc.{arc_value};
     ghost use Rattle.mp_netlist.specs.Slots.{slot_at};
+    ghost use Rattle.mp_pieces.specs.Replaced.{AreApart};
     ghost use Rattle.mp_partition.specs.runs.Outcomes.{Outcome, wave_of, end_of, checkpoint_of};
+    ghost use Rattle.mp_partition.specs.runs.Replacing.{HasReplaced};
 
     /// The run up to a horizon with these waves, last states and states at checkpoints.
     pub fn new(
@@ -48,8 +49,7 @@ impl Run {
         Run {
             horizon,
             waves,
-            ends,
-            kept,
+            states: States::Whole { ends, kept },
         }
     }
 
@@ -71,20 +71,14 @@ impl Run {
     pub fn end_memory(&self, id: ModuleId) -> Option<Memory>
         ensures { result ≡ end_of self.now id.0 }
     {
-        match self.ends.get(id.0 as usize) {
-            Some(Some(memory)) => Some(*memory),
-            _ => None,
-        }
+        self.states.end(id.0 as usize)
     }
 
     /// The states of a module that the run kept.
     pub fn checkpoints(&self, id: ModuleId) -> Option<&Checkpoints>
         ensures { option_copied result ≡ slot_at self.now.kept id.0 }
     {
-        match self.kept.get(id.0 as usize) {
-            Some(Some(kept)) => Some(kept),
-            _ => None,
-        }
+        self.states.kept(id.0 as usize)
     }
 
     /// The states of a module that the run kept, shared and not copied.
@@ -94,10 +88,7 @@ impl Run {
     ) -> Result<Option<Arc<Checkpoints, Global>>, AllocError>
         ensures { IfOk result (λ kept. option_map arc_value kept ≡ slot_at self.now.kept id.0) }
     {
-        match self.kept.get(id.0 as usize) {
-            Some(Some(kept)) => Ok(Some(Arc::try_clone(kept)?)),
-            _ => Ok(None),
-        }
+        self.states.share_kept(id.0 as usize)
     }
 
     /// The state of a module that exists before the unit of a checkpoint, which is a multiple of `checkpoint_units` below the horizon. The state
@@ -108,9 +99,54 @@ impl Run {
         if time >= self.horizon || !time.is_multiple_of(checkpoint_units(self.horizon)) {
             return None;
         }
-        match self.kept.get(id.0 as usize) {
-            Some(Some(kept)) => Some(kept.kept_at(time)),
-            _ => None,
+        match self.states.kept(id.0 as usize) {
+            Some(kept) => Some(kept.kept_at(time)),
+            None => None,
+        }
+    }
+
+    /// The same run, shared with this one.
+    pub fn share(&self, alloc: Global) -> Result<Run, AllocError>
+        ensures { IfOk result (λ run. run ≡ self.now) }
+    {
+        let waves = self.waves.share(alloc)?;
+        match self.states.share(alloc) {
+            Ok(states) => Ok(Run {
+                horizon: self.horizon,
+                waves,
+                states,
+            }),
+            Err(error) => {
+                drop(waves);
+                Err(error)
+            }
+        }
+    }
+
+    /// This run, but with what the run of a part has of its wire `k` for the wire of number `wires[k]`, and of its module `k` for module `modules[k]`. All
+    /// is shared with both runs.
+    pub fn with_part(
+        &self,
+        alloc: Global,
+        wires: &[u32],
+        modules: &[u32],
+        part: &Run,
+    ) -> Result<Run, AllocError>
+        requires wires { AreApart wires.now }
+        requires modules { AreApart modules.now }
+        ensures { IfOk result (HasReplaced self.now wires.now modules.now part.now) }
+    {
+        let waves = self.waves.with_part(alloc, wires, &part.waves)?;
+        match self.states.with_part(alloc, modules, &part.states) {
+            Ok(states) => Ok(Run {
+                horizon: self.horizon,
+                waves,
+                states,
+            }),
+            Err(error) => {
+                drop(waves);
+                Err(error)
+            }
         }
     }
 }

@@ -220,6 +220,7 @@ checkpoints_are n t marks kept slots made are = record {
 
 pub whole_run_is : (n : Circuit) (run : Outcome) → run.horizon ≡ n.horizon → AreWavesOf n run.waves → AreSlots (length n.modules) (end_memory n) run.ends → AreCheckpoints n run.kept → IsRun n run
 whole_run_is n run same waves ends kept = record {
+  horizon = same;
   waves = waves;
   ends = slot_is (length n.modules) (end_memory n) run.ends (λ k past. no_module n (λ (r : ModuleRecord). state n k (n.horizon - 1)) k past) ends;
   checkpoints = λ m c. checkpoint_is n m c run same kept;

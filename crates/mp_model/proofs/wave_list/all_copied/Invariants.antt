@@ -1,7 +1,6 @@
-use Rattle.std.proofs.Common.{◌≡◌, option_map, map, take}
-use Rattle.std.specs.Arc.{arc_value}
+use Rattle.std.proofs.Common.{◌≡◌, take}
 use Rattle.mp_model.proofs.wave_list.all_copied.Given as goal
 
 -- those so far are shared
 abbrev pub invariant-loop-slot : goal.invariant-loop-slot
-invariant-loop-slot l = map (option_map arc_value) l.list.items ≡ take l.slot-index l.waves
+invariant-loop-slot l = l.list ≡ take l.slot-index l.waves

@@ -4,4 +4,4 @@ use Rattle.mp_model.proofs.wave_list.all_shared.Given as goal
 
 -- those so far are shared
 abbrev pub invariant-loop-slot : goal.invariant-loop-slot
-invariant-loop-slot l = map (option_map arc_value) l.list.items ≡ map (option_map arc_value) (take l.slot-index l.waves)
+invariant-loop-slot l = l.list ≡ map (option_map arc_value) (take l.slot-index l.waves)

@@ -2,6 +2,7 @@
 use Rattle.std.proofs.Common.{◌≡◌, ℕ, ◌+◌, ◌<◌, ◌≤◌, Bool, true, false, List, [], ◌∷◌, ◌++◌, ◌⊎◌, ◌==◌, length, slice_index_or, refl, ap, sym, ◌∙◌, arith, inl, inr}
 use Rattle.std.proofs.lemmas.Bool.{cases_lt, cases_eq, eq-eqb, ne_eqb}
 use Rattle.std.proofs.lemmas.List.{get_or_append_left, get_or_default, get_or_past, get_or_push, length_push}
+use Rattle.mp_pieces.specs.Replaced.{AreApart, IsElsewhere}
 use Rattle.mp_partition.specs.runs.Marks.{is_marked}
 use Rattle.mp_near.specs.reach.Numbers.{AreNumbered, number_at, place_at}
 
@@ -116,11 +117,10 @@ is_picked marks numbers places are x = elim (cases_lt x (length marks)) as (λ _
           | inr none ↦ let at : number_at far numbers (place_at places x) ≡ far + place_at places x + 1 = get_or_past numbers (place_at places x) (far + place_at places x + 1) none in let no : ⊥ = omega arith in no
         ]) ∙ sym not
 
--- a number that isn't at its place isn't picked
-pub not_picked : (all : List Bool) (far : ℕ) (numbers places : List ℕ) → AreNumbered all far numbers places → (x : ℕ) →
-    (place_at places x < length numbers → slice_index_or numbers (place_at places x) 0 ≡ x → ⊥) → (number_at far numbers (place_at places x) == x) ≡ false
+-- a number that isn't listed isn't picked
+pub not_picked : (all : List Bool) (far : ℕ) (numbers places : List ℕ) → AreNumbered all far numbers places → (x : ℕ) → IsElsewhere numbers x → (number_at far numbers (place_at places x) == x) ≡ false
 not_picked all far numbers places are x not = ne_eqb (number_at far numbers (place_at places x)) x (λ same. elim (cases_lt (place_at places x) (length numbers)) as (λ _. ⊥) [
-  | inl here ↦ not here (get_or_default numbers (place_at places x) 0 (far + place_at places x + 1) here ∙ same)
+  | inl here ↦ not (place_at places x) here (get_or_default numbers (place_at places x) 0 (far + place_at places x + 1) here ∙ same)
   | inr past ↦
       let at : number_at far numbers (place_at places x) ≡ far + place_at places x + 1 = get_or_past numbers (place_at places x) (far + place_at places x + 1) past in
       elim (cases_lt x far) as (λ _. ⊥) [
@@ -132,3 +132,26 @@ not_picked all far numbers places are x not = ne_eqb (number_at far numbers (pla
 -- a number at its place is picked
 pub picked_at : (far : ℕ) (numbers : List ℕ) (k x : ℕ) → k < length numbers → slice_index_or numbers k 0 ≡ x → number_at far numbers k ≡ x
 picked_at far numbers k x low is = get_or_default numbers k (far + k + 1) 0 low ∙ is
+
+-- the number is listed at a place
+pub record IsListed (numbers : List ℕ) (x : ℕ) : Type 0 where
+  pub place : ℕ
+  pub low : place < length numbers
+  pub at : slice_index_or numbers place 0 ≡ x
+
+-- a number is listed or not
+pub listed_or_not : (all : List Bool) (far : ℕ) (numbers places : List ℕ) → AreNumbered all far numbers places → (x : ℕ) → IsListed numbers x ⊎ IsElsewhere numbers x
+listed_or_not all far numbers places are x = elim (cases_lt (place_at places x) (length numbers)) as (λ _. IsListed numbers x ⊎ IsElsewhere numbers x) [
+  | inl here ↦ elim (cases_eq (slice_index_or numbers (place_at places x) 0) x) as (λ _. IsListed numbers x ⊎ IsElsewhere numbers x) [
+    | inl same ↦ inl (record { place = place_at places x; low = here; at = same })
+    | inr other ↦ inr (λ k low at. other (ap (λ (j : ℕ). slice_index_or numbers j 0) (placed k low at) ∙ at))
+  ]
+  | inr past ↦ inr (λ k low at. let place = placed k low at in let no : ⊥ = omega (arith, place, low, past) in no)
+]
+  where
+    placed : (k : ℕ) → k < length numbers → slice_index_or numbers k 0 ≡ x → place_at places x ≡ k
+    placed k low at = sym (ap (λ (y : ℕ). place_at places y) at) ∙ are.placed k 0 low
+
+-- no number is listed twice
+pub numbers_apart : (all : List Bool) (far : ℕ) (numbers places : List ℕ) → AreNumbered all far numbers places → AreApart numbers
+numbers_apart all far numbers places are j k low_j low_k same = sym (are.placed j 0 low_j) ∙ ap (λ (y : ℕ). place_at places y) same ∙ are.placed k 0 low_k

@@ -1,15 +1,17 @@
 -- What the run of a region and the run of its netlist have of each other.
-use Rattle.std.proofs.Common.{◌≡◌, ℕ, ◌+◌, ◌-◌, ◌%◌, ◌<◌, ◌==◌, ◌&&◌, nat_lt, Bool, true, false, cond, List, Option, Some, None, option_map, length, slice_index_or, refl, ap, sym, subst, ◌∙◌, arith}
+use Rattle.std.proofs.Common.{◌≡◌, ℕ, ◌+◌, ◌%◌, ◌<◌, ◌==◌, ◌&&◌, nat_lt, Bool, true, false, cond, List, ◌⊎◌, inl, inr, Option, Some, None, option_map, length, slice_index_or, refl, ap, sym, subst, ◌∙◌, arith}
 use Rattle.std.proofs.lemmas.Bool.{lt-ltb, eq-eqb}
 use Rattle.std.proofs.lemmas.List.{get_or_default}
-use Rattle.mp_modules.specs.declared.memory.Memory.{Memory}
+use Rattle.mp_modules.specs.Memories.{blank}
+use Rattle.mp_pieces.specs.Replaced.{IsElsewhere}
 use Rattle.mp_records.specs.declared.module_record.ModuleRecord.{ModuleRecord}
 use Rattle.mp_netlist.specs.Slots.{slot_at}
 use Rattle.mp_netlist.specs.Circuit.{Circuit, wire_at, module_at}
 use Rattle.mp_netlist.specs.Limits.{checkpoint_units}
 use Rattle.mp_model.specs.Waves.{level, slot_wave, state}
-use Rattle.mp_partition.specs.runs.Checkpoints.{state_before, IsBorder}
-use Rattle.mp_partition.specs.runs.Outcomes.{Outcome, wave_of, end_of}
+use Rattle.mp_partition.specs.runs.Checkpoints.{kept_at, state_before, IsBorder}
+use Rattle.mp_partition.specs.runs.Outcomes.{Outcome, wave_of, end_of, checkpoint_of}
+use Rattle.mp_partition.specs.runs.Replacing.{HasReplaced}
 use Rattle.mp_partition.specs.runs.Runs.{IsRun, end_memory, checkpoint}
 use Rattle.mp_partition.specs.declared.runs.checkpoint.Checkpoint.{Checkpoint}
 use Rattle.mp_depend.specs.recording.Endings.{HasCheckpoints}
@@ -23,12 +25,11 @@ use Rattle.mp_near.proofs.lemmas.laws.RegionLevelLemmas.{regions_have_levels}
 use Rattle.mp_near.proofs.lemmas.laws.RunLemmas.{picked_have_runs, others_have_runs}
 use Rattle.mp_partition.specs.runs.Marks.{is_marked}
 use Rattle.mp_near.specs.Changes.{IsChange}
-use Rattle.mp_near.specs.reach.Numbers.{place_at}
 use Rattle.mp_near.specs.region.Picks.{picking}
 use Rattle.mp_near.specs.region.Regions.{IsSmall}
 use Rattle.mp_near.specs.declared.revision.Revision.{Revision}
 use Rattle.mp_near.specs.declared.region.small.Small.{Small}
-use Rattle.mp_near.proofs.lemmas.reach.NumberLemmas.{not_picked, picked_at}
+use Rattle.mp_near.proofs.lemmas.reach.NumberLemmas.{IsListed, listed_or_not, not_picked, picked_at}
 
 -- a time of a checkpoint
 is_time : (horizon c : ℕ) → IsBorder horizon c → c < horizon → (nat_lt c horizon && c % checkpoint_units horizon == 0) ≡ true
@@ -48,20 +49,11 @@ checkpoints_as n s m k horizon same kept has c border low =
 pub states_nowhere : (n : Circuit) (m : ℕ) → module_at n m ≡ None → HasCheckpoints n m None
 states_nowhere n m none c border low = rw none refl
 
--- a module stands exactly if it has a last state
-pub no_end : (n : Circuit) (m : ℕ) → end_memory n m ≡ None → module_at n m ≡ None
-no_end n m none = by (module_at n m) refl
-  where
-    by : (slot : Option ModuleRecord) → module_at n m ≡ slot → module_at n m ≡ None
-    by None at = at
-    by (Some r) at = let some : end_memory n m ≡ Some (state n m (n.horizon - 1)) = ap (option_map (λ (r : ModuleRecord). state n m (n.horizon - 1))) at in absurd (let no : ⊥ = cc in no)
-
-pub some_end : (n : Circuit) (m : ℕ) (end : Memory) → end_memory n m ≡ Some end → (r : ModuleRecord) × (module_at n m ≡ Some r)
-some_end n m end is = by (module_at n m) refl
-  where
-    by : (slot : Option ModuleRecord) → module_at n m ≡ slot → (r : ModuleRecord) × (module_at n m ≡ Some r)
-    by None at = let none : end_memory n m ≡ None = ap (option_map (λ (r : ModuleRecord). state n m (n.horizon - 1))) at in absurd (let no : ⊥ = cc in no)
-    by (Some r) at = (r, at)
+-- runs with one horizon that keep the same of two modules have the same states of them
+same_checkpoint : (a b : Outcome) (m k c : ℕ) → a.horizon ≡ b.horizon → slot_at a.kept m ≡ slot_at b.kept k → checkpoint_of a m c ≡ checkpoint_of b k c
+same_checkpoint a b m k c horizon kept =
+    ap (λ (h : ℕ). cond (nat_lt c h && c % checkpoint_units h == 0) (option_map (λ ks. kept_at ks c blank) (slot_at a.kept m)) None) horizon
+    ∙ ap (λ (found : Option (List Checkpoint)). cond (nat_lt c b.horizon && c % checkpoint_units b.horizon == 0) (option_map (λ ks. kept_at ks c blank) found) None) kept
 
 module _ (change : Revision) (is : IsChange change) (small : Small) (like : IsSmall change.old.now change.new.now small) where
   abbrev pub pick : Picking
@@ -114,38 +106,43 @@ module _ (change : Revision) (is : IsChange change) (small : Small) (like : IsSm
       let number : m ≡ pick.module_of k = module_at_place k m (omega arith) at in
       states_nowhere small.was k (like.region.before.modules k ∙ ap (option_map (placed pick.place_of)) (ap (λ v. module_at change.old.now v) (sym number) ∙ none))
 
-  -- what the run of the region has of the new netlist
-  module _ (found : Outcome) (run : IsRun small.now found) where
-    pub wave_within : (w place : ℕ) → place < length small.picked.wires.numbers.items → slice_index_or small.picked.wires.numbers.items place 0 ≡ w → wave_of found place ≡ slot_wave change.new.now w (wire_at change.new.now w)
-    wave_within w place low at = run.waves place ∙ has.waves place ∙ ap (λ v. slot_wave change.new.now v (wire_at change.new.now v)) (picked_at (length change.new.now.wires) small.picked.wires.numbers.items place w low at)
-
-    pub end_within : (m place : ℕ) → place < length small.picked.modules.numbers.items → slice_index_or small.picked.modules.numbers.items place 0 ≡ m → end_of found place ≡ end_memory change.new.now m
-    end_within m place low at = run.ends place ∙ has.ends place ∙ ap (λ v. end_memory change.new.now v) (picked_at (length change.new.now.modules) small.picked.modules.numbers.items place m low at)
-
-    pub states_within : (m place : ℕ) (r : ModuleRecord) → place < length small.picked.modules.numbers.items → slice_index_or small.picked.modules.numbers.items place 0 ≡ m → module_at change.new.now m ≡ Some r →
-        HasCheckpoints change.new.now m (slot_at found.kept place)
-    states_within m place r low at stands =
-        let number : pick.module_of place ≡ m = picked_at (length change.new.now.modules) small.picked.modules.numbers.items place m low at in
-        let here : module_at small.now place ≡ Some (placed pick.place_of r) = like.region.after.modules place ∙ ap (option_map (placed pick.place_of)) (ap (λ v. module_at change.new.now v) number ∙ stands) in
-        checkpoints_as small.now change.new.now place m (sym like.region.after.horizon) (λ c. ap (λ v. checkpoint change.new.now v c) (sym number) ∙ sym (has.checkpoints place c)) (slot_at found.kept place)
-        (runs_keep_states small.now found run place (placed pick.place_of r) here)
-
-  -- and what the old run has of it
-  pub wave_outside : (w : ℕ) → (place_at small.picked.wires.places.items w < length small.picked.wires.numbers.items → slice_index_or small.picked.wires.numbers.items (place_at small.picked.wires.places.items w) 0 ≡ w → ⊥) →
-      wave_of change.run.now w ≡ slot_wave change.new.now w (wire_at change.new.now w)
-  wave_outside w none = is.run.waves w ∙ sym (others.waves w (not_picked like.picks.wires.0 (length change.new.now.wires) small.picked.wires.numbers.items small.picked.wires.places.items like.picks.wires.1 w none))
-
-  abbrev pub IsOutside : ℕ → Type 0
-  IsOutside m = place_at small.picked.modules.places.items m < length small.picked.modules.numbers.items → slice_index_or small.picked.modules.numbers.items (place_at small.picked.modules.places.items m) 0 ≡ m → ⊥
-
-  pub outside : (m : ℕ) → IsOutside m → has_module pick m ≡ false
+  pub outside : (m : ℕ) → IsElsewhere small.picked.modules.numbers.items m → has_module pick m ≡ false
   outside m none = not_picked like.picks.modules.0 (length change.new.now.modules) small.picked.modules.numbers.items small.picked.modules.places.items like.picks.modules.1 m none
 
-  pub end_outside : (m : ℕ) → IsOutside m → end_of change.run.now m ≡ end_memory change.new.now m
-  end_outside m none = is.run.ends m ∙ sym (others.ends m (outside m none))
+  -- the old run with what the run of the region has of what is picked is the run of the new netlist
+  module _ (found new : Outcome) (run : IsRun small.now found) (made : HasReplaced change.run.now small.picked.wires.numbers.items small.picked.modules.numbers.items found new) where
+    abbrev n : Circuit
+    n = change.new.now
 
-  pub states_outside : (m : ℕ) (r : ModuleRecord) → IsOutside m → module_at change.new.now m ≡ Some r → HasCheckpoints change.new.now m (slot_at change.run.now.kept m)
-  states_outside m r none stands =
-      let not = outside m none in
-      checkpoints_as change.old.now change.new.now m m is.revision.horizon (λ c. others.checkpoints m c not) (slot_at change.run.now.kept m)
-      (runs_keep_states change.old.now change.run.now is.run m r (like.region.region.modules m not ∙ stands))
+    wave_is : (w : ℕ) → IsListed small.picked.wires.numbers.items w ⊎ IsElsewhere small.picked.wires.numbers.items w → wave_of new w ≡ slot_wave n w (wire_at n w)
+    wave_is w (inl at) =
+        ap (wave_of new) (sym at.at) ∙ made.waves.replaced at.place at.low ∙ run.waves at.place ∙ has.waves at.place
+        ∙ ap (λ v. slot_wave n v (wire_at n v)) (picked_at (length n.wires) small.picked.wires.numbers.items at.place w at.low at.at)
+    wave_is w (inr none) =
+        made.waves.kept w none ∙ is.run.waves w
+        ∙ sym (others.waves w (not_picked like.picks.wires.0 (length n.wires) small.picked.wires.numbers.items small.picked.wires.places.items like.picks.wires.1 w none))
+
+    end_is : (m : ℕ) → IsListed small.picked.modules.numbers.items m ⊎ IsElsewhere small.picked.modules.numbers.items m → end_of new m ≡ end_memory n m
+    end_is m (inl at) =
+        ap (end_of new) (sym at.at) ∙ made.ends.replaced at.place at.low ∙ run.ends at.place ∙ has.ends at.place
+        ∙ ap (λ v. end_memory n v) (picked_at (length n.modules) small.picked.modules.numbers.items at.place m at.low at.at)
+    end_is m (inr none) = made.ends.kept m none ∙ is.run.ends m ∙ sym (others.ends m (outside m none))
+
+    state_is : (m c : ℕ) → IsListed small.picked.modules.numbers.items m ⊎ IsElsewhere small.picked.modules.numbers.items m → checkpoint_of new m c ≡ checkpoint n m c
+    state_is m c (inl at) =
+        same_checkpoint new found m at.place c (made.horizon ∙ is.run.horizon ∙ sym is.revision.horizon ∙ sym like.region.after.horizon ∙ sym run.horizon)
+        (ap (slot_at new.kept) (sym at.at) ∙ made.kept.replaced at.place at.low)
+        ∙ run.checkpoints at.place c ∙ has.checkpoints at.place c
+        ∙ ap (λ v. checkpoint n v c) (picked_at (length n.modules) small.picked.modules.numbers.items at.place m at.low at.at)
+    state_is m c (inr none) = same_checkpoint new change.run.now m m c made.horizon (made.kept.kept m none) ∙ is.run.checkpoints m c ∙ sym (others.checkpoints m c (outside m none))
+
+    pub run_joined : IsRun n new
+    run_joined = record {
+      horizon = made.horizon ∙ is.run.horizon ∙ sym is.revision.horizon;
+      waves = λ w. wave_is w (listed_or_not like.picks.wires.0 (length n.wires) small.picked.wires.numbers.items small.picked.wires.places.items like.picks.wires.1 w);
+      ends = λ m. end_is m (listed m);
+      checkpoints = λ m c. state_is m c (listed m);
+    }
+      where
+        listed : (m : ℕ) → IsListed small.picked.modules.numbers.items m ⊎ IsElsewhere small.picked.modules.numbers.items m
+        listed m = listed_or_not like.picks.modules.0 (length n.modules) small.picked.modules.numbers.items small.picked.modules.places.items like.picks.modules.1 m

@@ -100,7 +100,7 @@ module _ (change : Revision) (is : IsChange change) (small : Small) (like : IsSm
   nothing : numbers ≡ [] → AreWorkSpans change.old.now change.new.now []
   nothing none = record {
     known = λ m from to low entry. absurd (others_rest change.old.now change.new.now small.was small.now pick is.old is.new like.now is.revision like.region change.new.now.horizon (omega arith)
-        (stays change is small like) m from to low (outside change is small like m (λ there. let size = ap (λ (xs : List ℕ). length xs) none in absurd (omega (arith, there, size)))) entry);
+        (stays change is small like) m from to low (outside change is small like m (λ k there one. let size = ap (λ (xs : List ℕ). length xs) none in absurd (omega (arith, there, size)))) entry);
     only = λ m from to k low at. let no = at.within in absurd (omega (arith, no));
     once = λ m from to k j low at other. let no = at.within in absurd (omega (arith, no));
     begun = λ k low. absurd (omega arith);

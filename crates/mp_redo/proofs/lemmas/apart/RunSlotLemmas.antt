@@ -15,6 +15,7 @@ use Rattle.mp_redo.specs.apart.RunSlots.{RunsAreBySlots, RunsKeepStates}
 
 pub runs_are_by_slots : RunsAreBySlots
 runs_are_by_slots n run has = record {
+  horizon = has.horizon;
   waves = slot_is (length n.wires) (λ w. slot_wave n w (wire_at n w)) run.waves (no_wave n) has.waves;
   ends = slot_is (length n.modules) (end_memory n) run.ends (λ m past. no_module n (λ (r : ModuleRecord). state n m (n.horizon - 1)) m past) has.ends;
   checkpoints = λ m c. checkpoint_is n m c run has.horizon has.kept;

@@ -263,6 +263,7 @@ module _ (old new : Circuit) (old_ok : IsCircuit old) (ok : IsCircuit new) (revi
 -- the run of a netlist from its parts
 pub run_made : (n : Circuit) (run : Outcome) → run.horizon ≡ n.horizon → AreSlots (length n.wires) (λ w. slot_wave n w (wire_at n w)) run.waves → AreSlots (length n.modules) (end_memory n) run.ends → AreCheckpoints n run.kept → IsRun n run
 run_made n run same waves ends kept = record {
+  horizon = same;
   waves = λ w. slot_is (length n.wires) (λ k. slot_wave n k (wire_at n k)) run.waves (no_wave n) waves w;
   ends = λ m. slot_is (length n.modules) (end_memory n) run.ends (λ k past. no_module n (λ (r : ModuleRecord). state n k (n.horizon - 1)) k past) ends m;
   checkpoints = λ m c. checkpoint_is n m c run same kept;

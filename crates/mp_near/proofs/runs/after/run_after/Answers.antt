@@ -1,14 +1,20 @@
-use Rattle.std.proofs.Common.{List, Option, length, sym, subst}
-use Rattle.mp_wave.specs.Waveform.{Waveform}
-use Rattle.mp_netlist.specs.Circuit.{wire_at}
-use Rattle.mp_model.specs.Waves.{slot_wave}
-use Rattle.mp_partition.specs.runs.Outcomes.{AreSlots}
-use Rattle.mp_partition.specs.runs.Runs.{IsRun}
-use Rattle.mp_redo.proofs.lemmas.apart.RunSlotLemmas.{runs_are_by_slots}
+use Rattle.std.proofs.Common.{length}
+use Rattle.mp_redo.proofs.lemmas.parts.OkLemmas.{on_ok}
+use Rattle.mp_near.proofs.lemmas.reach.NumberLemmas.{numbers_apart}
+use Rattle.mp_near.proofs.lemmas.runs.RunLemmas.{run_joined}
 use Rattle.mp_near.proofs.runs.after.run_after.Goals as goal
+
+pub with_part-requires-clause-wires : goal.with_part-requires-clause-wires
+with_part-requires-clause-wires c =
+    let wires = c.requires.region.picks.wires in
+    numbers_apart wires.0 (length c.args.change.now.new.now.wires) c.args.small.now.picked.wires.numbers.items c.args.small.now.picked.wires.places.items wires.1
+
+pub with_part-requires-clause-modules : goal.with_part-requires-clause-modules
+with_part-requires-clause-modules c =
+    let modules = c.requires.region.picks.modules in
+    numbers_apart modules.0 (length c.args.change.now.new.now.modules) c.args.small.now.picked.modules.numbers.items c.args.small.now.picked.modules.places.items modules.1
 
 pub returns : goal.returns
 returns c =
-    let n = c.args.change.now.new.now in
-    let waves = subst (λ (xs : List (Option Waveform)). AreSlots (length n.wires) (λ w. slot_wave n w (wire_at n w)) xs) (sym c.new.ensures) c.in_ok-waves.ensures in
-    subst (IsRun n) (sym c.new-2.ensures) (runs_are_by_slots n _ (record { horizon = c.horizon.ensures.value; waves = waves; ends = c.in_ok-ends.ensures; kept = c.in_ok-kept.ensures }))
+    let is = c.requires in
+    on_ok c.with_part.result _ _ (λ run made. run_joined c.args.change.now is.known c.args.small.now is.region c.args.found.now run is.run made) c.with_part.ensures
