@@ -85,12 +85,7 @@ impl Waves {
     }
 
     /// These waves, but with wave `k` of other waves for the wire of number `wires[k]`. All are shared; those that are kept in place are copied.
-    pub fn with_part(
-        &self,
-        alloc: Global,
-        wires: &[u32],
-        part: &Waves,
-    ) -> Result<Waves, AllocError>
+    pub fn with_part(&self, alloc: Global, wires: &[u32], part: &Waves) -> Result<Waves, AllocError>
         requires { AreApart wires.now }
         ensures { IfOk result (AreReplaced None self.now wires.now part.now) }
     {

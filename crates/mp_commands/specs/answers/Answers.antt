@@ -5,8 +5,8 @@ use Rattle.mp_commands.specs.declared.views.drawing.Drawing.TheVariants as drawi
 use Rattle.mp_commands.specs.answers.WorkLines.{work_text}
 use Rattle.mp_commands.specs.answers.EditAnswers.{edits_from}
 use Rattle.mp_commands.specs.answers.Kept.{Kept}
-use Rattle.mp_commands.specs.declared.answers.asked.Asked.{Asked}
-use Rattle.mp_commands.specs.declared.answers.asked.Asked.TheVariants as askeds
+use Rattle.mp_commands.specs.declared.answers.asked.AskedAnswer.{AskedAnswer}
+use Rattle.mp_commands.specs.declared.answers.asked.AskedAnswer.TheVariants as askeds
 use Rattle.mp_commands.specs.views.Views.{view_text, view_wires}
 use Rattle.mp_commands.specs.answers.ShortReplies.{refused_text, unread_text}
 
@@ -52,7 +52,7 @@ answer_text kept Version = version_text (length kept.edits)
 answer_text kept (Edits from) = edits_text kept.edits from
 
 -- the text of what a question asks for
-abbrev pub asked_answer : Asked → Kept → List ℕ
+abbrev pub asked_answer : AskedAnswer → Kept → List ℕ
 asked_answer (askeds.View view) kept = asked_text (missing_at kept.netlist (view_wires view)) (view_text view kept.netlist)
 asked_answer (askeds.Wire name) kept = wire_text kept.netlist (wire_named kept.netlist name.now)
 asked_answer askeds.Netlist kept = written kept.netlist

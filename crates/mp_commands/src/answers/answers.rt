@@ -5,7 +5,7 @@ ghost use Rattle.mp_streams.specs.WriteErrors.{Writes as WritesAll};
 ghost use Rattle.mp_commands.specs.views.Views.{view_text, view_wires};
 ghost use Rattle.mp_commands.specs.answers.Answers.{asked_text, wire_text, version_text, edits_text, answer_text, asked_answer};
 
-use crate::answers::asked::Asked;
+use crate::answers::asked::AskedAnswer;
 use crate::answers::edit_answers::put_edits;
 use crate::answers::short_replies::{put_refused, put_unread};
 use crate::answers::snapshot::Snapshot;
@@ -28,7 +28,7 @@ pub fn put_answer<R: Threads + Sync, T: Sink>(
 ) -> Result<(), WriteError>
     ensures { WritesAll result out.old out.new (answer_text of.now question.now) }
 {
-    put_asked(rt, alloc, out, of, &Asked::of_question(question))
+    put_asked(rt, alloc, out, of, &AskedAnswer::of_question(question))
 }
 
 /// Writes what is asked for.
@@ -37,17 +37,17 @@ fn put_asked<R: Threads + Sync, T: Sink>(
     alloc: Global,
     out: &mut Out<T>,
     of: &Snapshot<'_>,
-    asked: &Asked<'_>,
+    asked: &AskedAnswer<'_>,
 ) -> Result<(), WriteError>
     ensures { WritesAll result out.old out.new (asked_answer asked.now of.now) }
 {
     match asked {
-        Asked::View(view) => put_view(rt, alloc, out, of, view),
-        Asked::Wire(name) => Ok(put_wire(out, of, name)?),
-        Asked::Netlist => Ok(put_netlist(out, of.netlist())?),
-        Asked::Work => put_work_lines(out, of.netlist(), of.work),
-        Asked::Version => Ok(("version ", of.version.number(), "\n").put_to(out)?),
-        Asked::Edits { from } => Ok(put_edits_from(out, of.version, *from)?),
+        AskedAnswer::View(view) => put_view(rt, alloc, out, of, view),
+        AskedAnswer::Wire(name) => Ok(put_wire(out, of, name)?),
+        AskedAnswer::Netlist => Ok(put_netlist(out, of.netlist())?),
+        AskedAnswer::Work => put_work_lines(out, of.netlist(), of.work),
+        AskedAnswer::Version => Ok(("version ", of.version.number(), "\n").put_to(out)?),
+        AskedAnswer::Edits { from } => Ok(put_edits_from(out, of.version, *from)?),
     }
 }
 

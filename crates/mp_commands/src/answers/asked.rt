@@ -12,7 +12,7 @@ use mp_text::{Question, WireNames};
 
 /// What a question asks for: a view, or a text that is none.
 #[derive(Clone, Copy)]
-pub(crate) enum Asked<'a> {
+pub(crate) enum AskedAnswer<'a> {
     View(View<'a>),
     /// The line of the wire of this name.
     Wire(&'a Name),
@@ -26,38 +26,38 @@ pub(crate) enum Asked<'a> {
     Edits { from: u64 },
 }
 
-impl<'a> Asked<'a> {
+impl<'a> AskedAnswer<'a> {
     /// What this question asks for.
-    pub(crate) fn of_question(question: &'a Question) -> Asked<'a>
+    pub(crate) fn of_question(question: &'a Question) -> AskedAnswer<'a>
         ensures { asked_answer result ≡ (λ kept. answer_text kept question.now) }
     {
         match question {
-            Question::Wave(name) => Asked::Wire(name),
-            Question::Text => Asked::Netlist,
-            Question::Work => Asked::Work,
-            Question::Version => Asked::Version,
-            Question::Edits { from } => Asked::Edits { from: *from },
-            Question::Waves => Asked::View(View::Waves),
-            Question::Report => Asked::View(View::Report),
-            Question::Check => Asked::View(View::Check),
-            Question::Dump => Asked::View(View::Dump),
-            Question::Graph => Asked::View(View::Graph),
-            Question::Verilog => Asked::View(View::Verilog),
+            Question::Wave(name) => AskedAnswer::Wire(name),
+            Question::Text => AskedAnswer::Netlist,
+            Question::Work => AskedAnswer::Work,
+            Question::Version => AskedAnswer::Version,
+            Question::Edits { from } => AskedAnswer::Edits { from: *from },
+            Question::Waves => AskedAnswer::View(View::Waves),
+            Question::Report => AskedAnswer::View(View::Report),
+            Question::Check => AskedAnswer::View(View::Check),
+            Question::Dump => AskedAnswer::View(View::Dump),
+            Question::Graph => AskedAnswer::View(View::Graph),
+            Question::Verilog => AskedAnswer::View(View::Verilog),
             Question::Show { from, to, wires } => {
-                Asked::View(View::Picture(shown(*from, *to, wires)))
+                AskedAnswer::View(View::Picture(shown(*from, *to, wires)))
             }
-            Question::Waits { time } => Asked::View(View::Waits { time: *time }),
-            Question::Measure { from, to } => Asked::View(View::Measure(TimeRange {
+            Question::Waits { time } => AskedAnswer::View(View::Waits { time: *time }),
+            Question::Measure { from, to } => AskedAnswer::View(View::Measure(TimeRange {
                 from: *from,
                 to: *to,
             })),
-            Question::Why { wire, time, steps } => Asked::View(View::Why(WhyLines {
+            Question::Why { wire, time, steps } => AskedAnswer::View(View::Why(WhyLines {
                 wire,
                 time: *time,
                 steps: *steps,
             })),
             Question::Path { wire, time } => {
-                Asked::View(View::Path(PathLines { wire, time: *time }))
+                AskedAnswer::View(View::Path(PathLines { wire, time: *time }))
             }
         }
     }

@@ -10,7 +10,7 @@ ghost use Rattle.mp_partition.specs.runs.Runs.{end_memory};
 ghost use Rattle.mp_model.specs.Waves.{AreWavesOf};
 ghost use Rattle.mp_engine.specs.region_runs.StateHistories.{kept_of, HasHistory, HasMarked, IsHistory};
 
-use crate::region_runs::gate::pass_gate;
+use crate::region_runs::gate::{pass_all, pass_gate};
 use crate::region_runs::state_history::StateHistory;
 use mp_model::Waves;
 use mp_modules::Memory;
@@ -215,31 +215,6 @@ fn all_waves(
 {
     let waves = Waves::of_all(alloc, found_waves(alloc, region, simulation)?)?;
     Ok(waves)
-}
-
-/// All modules of the partition pass the gate for time 0.
-fn pass_all<R: Wait, G: Gate>(
-    rt: &R,
-    alloc: Global,
-    region: &Region<'_>,
-    gate: &G,
-) -> Result<(), AllocError>
-    requires open { IsOpen (G.may gate.now) }
-{
-    let modules = all_modules(alloc, region)?;
-    pass_gate(rt, gate, modules.as_slice(), 0);
-    Ok(())
-}
-
-/// The modules of the partition, by number.
-fn all_modules(alloc: Global, netlist: &Region<'_>) -> Result<Vec<u32>, AllocError> {
-    let mut modules = Vec::new(alloc);
-    for m in 0..netlist.module_slots() {
-        if netlist.module(ModuleId(m)).is_some() {
-            modules.push(m)?;
-        }
-    }
-    Ok(modules)
 }
 
 /// The states of the modules after the last unit.

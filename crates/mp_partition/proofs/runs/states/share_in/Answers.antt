@@ -1,0 +1,10 @@
+use Rattle.std.proofs.Common.{◌≤◌, None, length, sym, rules}
+use Rattle.std.proofs.lemmas.List.{get_or_past}
+use Rattle.mp_pieces.proofs.CutLemmas.{past_from_none}
+use Rattle.mp_partition.proofs.runs.states.share_in.Goals as goal
+
+pub returns-in-None : goal.returns-in-None
+returns-in-None c =
+    let list = c.args.kept.now in
+    let past : length list ≤ c.args.place = past_from_none list c.args.place (search rules) in
+    sym (get_or_past list c.args.place None past)
