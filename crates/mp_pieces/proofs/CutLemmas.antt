@@ -1,12 +1,12 @@
 -- What is read of pieces end to end, and what each change of a piece does to them.
-use Rattle.std.proofs.Common.{◌≡◌, ℕ, zero, suc, ◌+◌, ◌-◌, ◌*◌, ◌<◌, ◌≤◌, List, [], ◌∷◌, ◌++◌, length, get_or, take, drop, None, ◌⊎◌, inl, inr, refl, sym, ap, subst, ◌∙◌, arith, length-append, append-nil, append_assoc}
+use Rattle.std.proofs.Common.{◌≡◌, ℕ, zero, suc, ◌+◌, ◌-◌, ◌*◌, ◌<◌, ◌≤◌, List, [], ◌∷◌, ◌++◌, length, get_or, None, ◌⊎◌, inl, inr, refl, sym, ap, subst, ◌∙◌, arith, length-append, append-nil, append_assoc}
 use Rattle.std.proofs.Math.ListN.{set}
 use Rattle.std.specs.List.{slice_get}
 use Rattle.std.specs.Prelude.{Result, Ok, Err, OnOk, OnErr}
-use Rattle.std.proofs.lemmas.List.{set-append_left, set-append_right, take_all, take_at, drop_all, drop_at, drop-drop, nil_from_length}
+use Rattle.std.proofs.lemmas.List.{set-append_left, set-append_right}
 use Rattle.std.proofs.lemmas.Option.{slice_get_past}
 use Rattle.std.proofs.lemmas.Bool.{cases_lt}
-use Rattle.mp_pieces.specs.Cuts.{joined, AreCut, changed_at}
+use Rattle.mp_pieces.specs.Cuts.{joined, AreCut}
 
 -- what stands in the first of two lists, and in the second
 slice_get-left : {X : Type 0} (xs ys : List X) (i : ℕ) → i < length xs → slice_get (xs ++ ys) i ≡ slice_get xs i
@@ -19,46 +19,11 @@ slice_get-right [] ys i k is = ap (slice_get ys) (omega arith)
 slice_get-right (x ∷ xs) ys zero k is = absurd (omega arith)
 slice_get-right (x ∷ xs) ys (suc i) k is = slice_get-right xs ys i k (omega arith)
 
--- a list with one entry changed is the list with what is made of that entry in its place
-pub changed_at_read : {X : Type 0} (change : X → X) (entries : List X) (index : ℕ) (entry : X) → index < length entries → entry ≡ get_or entries index entry
-    → set entries index (change entry) ≡ changed_at change entries index
-changed_at_read change [] index entry within is = absurd (omega arith)
-changed_at_read change (first ∷ entries) zero entry within is = ap (λ e. change e ∷ entries) is
-changed_at_read change (first ∷ entries) (suc index) entry within is = ap (λ rest. first ∷ rest) (changed_at_read change entries index entry (omega arith) is)
-
-pub changed_at-set : {X : Type 0} (change : X → X) (entries : List X) (index : ℕ) (d : X) → changed_at change entries index ≡ set entries index (change (get_or entries index d))
-changed_at-set change [] index d = refl
-changed_at-set change (first ∷ entries) zero d = refl
-changed_at-set change (first ∷ entries) (suc index) d = ap (λ rest. first ∷ rest) (changed_at-set change entries index d)
-
-pub changed_at_past : {X : Type 0} (change : X → X) (entries : List X) (index : ℕ) → length entries ≤ index → entries ≡ changed_at change entries index
-changed_at_past change [] index past = refl
-changed_at_past change (first ∷ entries) zero past = absurd (omega arith)
-changed_at_past change (first ∷ entries) (suc index) past = ap (λ rest. first ∷ rest) (changed_at_past change entries index (omega arith))
-
-pub length-changed_at : {X : Type 0} (change : X → X) (entries : List X) (index : ℕ) → length (changed_at change entries index) ≡ length entries
-length-changed_at change [] index = refl
-length-changed_at change (first ∷ entries) zero = refl
-length-changed_at change (first ∷ entries) (suc index) = ap suc (length-changed_at change entries index)
-
-changed_at-left : {X : Type 0} (change : X → X) (xs ys : List X) (index : ℕ) → index < length xs → changed_at change (xs ++ ys) index ≡ changed_at change xs index ++ ys
-changed_at-left change [] ys index within = absurd (omega arith)
-changed_at-left change (x ∷ xs) ys zero within = refl
-changed_at-left change (x ∷ xs) ys (suc index) within = ap (λ rest. x ∷ rest) (changed_at-left change xs ys index (omega arith))
-
-changed_at-right : {X : Type 0} (change : X → X) (xs ys : List X) (index k : ℕ) → index ≡ length xs + k → changed_at change (xs ++ ys) index ≡ xs ++ changed_at change ys k
-changed_at-right change [] ys index k is = ap (changed_at change ys) (omega arith)
-changed_at-right change (x ∷ xs) ys zero k is = absurd (omega arith)
-changed_at-right change (x ∷ xs) ys (suc index) k is = ap (λ rest. x ∷ rest) (changed_at-right change xs ys index k (omega arith))
-
 -- what reads nothing is past the end
 pub past_from_none : {X : Type 0} (xs : List X) (i : ℕ) → None ≡ slice_get xs i → length xs ≤ i
 past_from_none [] i none = omega arith
 past_from_none (x ∷ xs) zero none = cc
 past_from_none (x ∷ xs) (suc i) none = omega (arith, past_from_none xs i none)
-
-none_taken : {X : Type 0} (n i : ℕ) (xs : List X) → length xs ≤ i → take n (drop i xs) ≡ []
-none_taken n i xs past = ap (take n) (drop_all i xs past) ∙ take_all n [] (omega arith)
 
 module _ {X : Type 0} (n : ℕ) (some : 0 < n) where
   pub length-joined : (pieces : List (List X)) (count : ℕ) → AreCut n pieces count → length (joined pieces) ≡ count
@@ -97,34 +62,6 @@ module _ {X : Type 0} (n : ℕ) (some : 0 < n) where
           slice_get_past (piece ++ joined pieces) (suc k * n + r) (omega (arith, length-append piece (joined pieces), rest, cut.1, few)) ∙ sym (slice_get_past (joined pieces) (k * n + r) (omega (arith, rest, few))) ∙ behind
       by behind (inr many) = slice_get-right piece (joined pieces) (suc k * n + r) (k * n + r) (omega (arith, cut.1, many)) ∙ behind
 
-  -- the entries of a piece
-  pub piece_is : (pieces : List (List X)) (count : ℕ) → AreCut n pieces count → (k : ℕ) → take n (drop (k * n) (joined pieces)) ≡ get_or pieces k []
-  piece_is [] count cut k = none_taken n (k * n) [] (omega arith)
-  piece_is (piece ∷ pieces) count cut zero = ap (λ i. take n (drop i (piece ++ joined pieces))) zero_at ∙ by (cases_lt count n)
-    where
-      zero_at : zero * n ≡ zero
-      zero_at = omega arith
-
-      by : (count < n) ⊎ (n ≤ count) → take n (piece ++ joined pieces) ≡ piece
-      by (inl few) =
-          let rest = length-joined pieces (count - n) cut.2 in
-          take_all n (piece ++ joined pieces) (omega (arith, length-append piece (joined pieces), rest, cut.1, few))
-          ∙ ap (λ behind. piece ++ behind) (nil_from_length (joined pieces) (omega (arith, rest, few))) ∙ append-nil piece
-      by (inr many) = take_at piece (joined pieces) n (omega (arith, cut.1, many))
-  piece_is (piece ∷ pieces) count cut (suc k) = by (piece_is pieces (count - n) cut.2 k) (cases_lt count n)
-    where
-      further : n + k * n ≡ suc k * n
-      further = omega arith
-
-      by : take n (drop (k * n) (joined pieces)) ≡ get_or pieces k [] → (count < n) ⊎ (n ≤ count) → take n (drop (suc k * n) (piece ++ joined pieces)) ≡ get_or pieces k []
-      by behind (inl few) =
-          let rest = length-joined pieces (count - n) cut.2 in
-          none_taken n (suc k * n) (piece ++ joined pieces) (omega (arith, length-append piece (joined pieces), rest, cut.1, few, further))
-          ∙ sym (none_taken n (k * n) (joined pieces) (omega (arith, rest, few))) ∙ behind
-      by behind (inr many) =
-          ap (take n) (ap (λ i. drop i (piece ++ joined pieces)) (sym further) ∙ sym (drop-drop (k * n) n (piece ++ joined pieces))
-          ∙ ap (drop (k * n)) (drop_at piece (joined pieces) n (omega (arith, cut.1, many)))) ∙ behind
-
   -- the place of an entry is in a piece
   pub piece_within : (pieces : List (List X)) (count : ℕ) → AreCut n pieces count → (k r : ℕ) → r < n → k * n + r < count → k < length pieces
   piece_within [] count cut k r place within = absurd (omega (arith, cut, within))
@@ -153,16 +90,6 @@ module _ {X : Type 0} (n : ℕ) (some : 0 < n) where
       let here : suc k * n + r - n ≡ k * n + r = omega arith in
       ap (λ rest. piece ++ rest) (set_in pieces (count - n) cut.2 k r y place (omega (arith, within)))
       ∙ sym (set-append_right piece (joined pieces) n (suc k * n + r) y (omega (arith, cut.1, within)) (omega arith) ∙ ap (λ i. piece ++ set (joined pieces) i y) here)
-
-  -- an entry of a piece is changed
-  pub change_in : (pieces : List (List X)) (count : ℕ) → AreCut n pieces count → (k r : ℕ) (change : X → X) → r < n → k * n + r < count
-      → joined (set pieces k (changed_at change (get_or pieces k []) r)) ≡ changed_at change (joined pieces) (k * n + r)
-  change_in [] count cut k r change place within = absurd (omega (arith, cut, within))
-  change_in (piece ∷ pieces) count cut zero r change place within =
-      sym (ap (changed_at change (piece ++ joined pieces)) (omega arith) ∙ changed_at-left change piece (joined pieces) r (omega (arith, cut.1, place, within)))
-  change_in (piece ∷ pieces) count cut (suc k) r change place within =
-      ap (λ rest. piece ++ rest) (change_in pieces (count - n) cut.2 k r change place (omega (arith, within)))
-      ∙ sym (changed_at-right change piece (joined pieces) (suc k * n + r) (k * n + r) (omega (arith, cut.1, within)))
 
   -- a piece of one entry goes last
   pub AreCut-add : (pieces : List (List X)) (count : ℕ) → AreCut n pieces count → length pieces * n ≤ count → (y : X) → AreCut n (pieces ++ (y ∷ []) ∷ []) (count + 1)

@@ -1,4 +1,4 @@
-//! Lists whose copies share their entries.
+//! Lists whose copies share their entries: a copy costs a few bytes for 256 entries, and a write makes only the piece anew in which the entry stands.
 #![tactic(auto)]
 
 mod kept;

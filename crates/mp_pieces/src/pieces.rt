@@ -88,11 +88,6 @@ impl<T: Kept> Pieces<T> {
             count: self.count,
         })
     }
-
-    /// Where its memory is from.
-    pub fn allocator(&self) -> Global {
-        *self.shared.allocator()
-    }
 }
 
 ghost use Rattle.std.specs.Prelude.{◌≡◌, ◌<◌, ◌+◌, ◌++◌, ◌∷◌, [], OnOk, OnErr, length, slice_set, slice_index_or, vec_len};
