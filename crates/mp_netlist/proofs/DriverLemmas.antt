@@ -1,7 +1,6 @@
 -- The search for a driver finds the port that has a wire as its output.
-use Rattle.std.proofs.Common.{◌≡◌, ◌≢◌, ℕ, ◌+◌, ◌==◌, Bool, true, false, cond, List, [], ◌∷◌, Option, Some, None, slice_index_or, is_some, length, zero, suc, refl, ap, sym, subst, ◌∙◌, arith, inl, inr, ◌⊎◌}
+use Rattle.std.proofs.Common.{◌≡◌, ◌≢◌, ℕ, ◌+◌, ◌==◌, Bool, true, false, cond, List, [], ◌∷◌, Option, Some, None, slice_index_or, is_some, zero, suc, refl, ap, sym, subst, ◌∙◌, arith, inl, inr, ◌⊎◌}
 use Rattle.std.proofs.lemmas.Bool.{and_parts, eqb-true, eq-eqb}
-use Rattle.std.proofs.lemmas.List.{get_or_past}
 use Rattle.mp_records.specs.declared.ids.WireId.{WireId}
 use Rattle.mp_records.specs.declared.ids.ModuleId.{ModuleId}
 use Rattle.mp_records.specs.declared.module_record.ModuleRecord.{ModuleRecord}
@@ -181,23 +180,16 @@ leaves_no_driver n ok w none = by (driven_by n w)
     by (inl found) = let no = sym (ap is_some none) ∙ driven_stands n ok found.0 found.1 w found.2 in cc
     by (inr same) = same ∙ ap (λ slot. stimulus_driver (stimulus_in slot)) none
 
--- no port drives a wire that is yet to be added
-pub next_is_undriven : (n : Circuit) → IsCircuit n → (w : ℕ) → w ≡ length n.wires → (m : ℕ) → port_of (module_at n m) w ≡ None
-next_is_undriven n ok w next m = by (module_at n m) refl
+-- a port of a module that a look at its outputs finds drives the wire
+pub port_drives : (n : Circuit) (m w p : ℕ) → port_of (module_at n m) w ≡ Some p → Drives n m p w
+port_drives n m w p is = by (module_at n m) refl is
   where
-    absent : wire_at n w ≡ None
-    absent = get_or_past n.wires w None (omega (arith, next))
-
-    undriven : (r : ModuleRecord) → module_at n m ≡ Some r → (found : Option ℕ) → port_from 0 r.outputs w ≡ found → port_from 0 r.outputs w ≡ None
-    undriven r at None is = is
-    undriven r at (Some p) is =
+    by : (slot : Option ModuleRecord) → module_at n m ≡ slot → port_of slot w ≡ Some p → Drives n m p w
+    by None at is = cc
+    by (Some r) at is =
         let port = port_found 0 r.outputs w p is in
-        let stands = driven_stands n ok m port.0 w (record { part = r; stands = at; output = port.2 }) in
-        let no = sym (ap is_some absent) ∙ stands in cc
-
-    by : (slot : Option ModuleRecord) → module_at n m ≡ slot → port_of slot w ≡ None
-    by None at = refl
-    by (Some r) at = undriven r at (port_from 0 r.outputs w) refl
+        let same : port.0 ≡ p = omega (arith, port.1) in
+        record { part = r; stands = at; output = subst (λ i. (slice_index_or r.outputs i no_output).wire ≡ wire w) same port.2 }
 
 -- the driver of a wire without a stimulus is found among the ports
 pub portless_driver : (n : Circuit) (w : ℕ) → is_some (stimulus_at n w) ≡ false → driver_from 0 n.modules w Nothing ≡ driver n w

@@ -1,8 +1,11 @@
 pub mod LimitLemmas
 pub mod IndexLemmas
+pub mod EitherLemmas
 pub mod TableLemmas
 pub mod DriverLemmas
 pub mod DrivenLemmas
+pub mod LeastLemmas
+pub mod KnowledgeLemmas
 pub mod DelayLemmas
 pub mod NameLemmas
 pub mod UseLemmas
@@ -12,5 +15,4 @@ pub mod PortEditLemmas
 pub mod ModuleLemmas
 pub mod NewPortLemmas
 pub mod EditLemmas
-pub mod RefusalLemmas
 mod BatchLemmas

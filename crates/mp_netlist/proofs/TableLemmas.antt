@@ -1,15 +1,15 @@
 -- The look-up of a name among slots, and what each change of a slot does to the names and to their table.
 use Rattle.std.proofs.Common.{◌≡◌, ℕ, zero, suc, ◌+◌, ◌-◌, ◌^◌, ◌<◌, ◌≤◌, ◌↔◌, Bool, true, false, cond, List, [], ◌∷◌, ◌++◌, length, get_or, Option, None, Some, option_map, MatchOption, is_some, is_none, unwrap_or, ◌⊎◌, inl, inr, refl, sym, ap, subst, ◌∙◌, arith, true≢false, length-append}
 use Rattle.std.proofs.Math.ListN.{set, length-set}
-use Rattle.std.specs.List.{position_from}
+use Rattle.std.specs.List.{position_from, slice_get}
 use Rattle.std.specs.Str.{bytes_eq}
 use Rattle.std.specs.Option.{option_and_then}
 use Rattle.std.proofs.lemmas.List.{get_or_past, get_or_push, get_or_append_left, get_or-set_same, get_or-set_other}
 use Rattle.std.proofs.lemmas.Slice.Eq.{bytes_eq-Decides}
 use Rattle.std.proofs.lemmas.Bool.{cases_lt, cases_eq}
 use Rattle.mp_records.specs.Names.{is_name}
-use Rattle.mp_netlist.specs.Slots.{has_name, number_named}
-use Rattle.mp_netlist.specs.Tables.{standing_number, HadName, IsTable}
+use Rattle.mp_netlist.specs.Slots.{thing_in, has_name, number_named}
+use Rattle.mp_netlist.specs.Tables.{named_number, IsTable}
 
 module _ {X : Type 0} (p : X → Bool) (d : X) (none : p d ≡ false) where
   -- what the first place that passes is, or that none passes
@@ -48,6 +48,12 @@ module _ {X : Type 0} (p : X → Bool) (d : X) (none : p d ≡ false) where
       by None None same first = refl
       by (Some i) None same first = let yes = (same i).0 refl in let no = first i in cc
       by f (Some k) same first = (same k).1 (let e : k - 0 ≡ k = omega arith in subst (λ j. p (get_or xs j d) ≡ true) e first.1)
+
+-- what stands in a slot, by a look at the list of slots
+pub thing_in_get : {R : Type 0} (slots : List (Option R)) (number : ℕ) → thing_in (slice_get slots number) ≡ get_or slots number None
+thing_in_get [] number = refl
+thing_in_get (slot ∷ slots) zero = refl
+thing_in_get (slot ∷ slots) (suc number) = thing_in_get slots number
 
 -- which slot is at a place, after one goes last
 abbrev pub PushedAt : {R : Type 0} → List (Option R) → Option R → ℕ → Type 0
@@ -116,51 +122,43 @@ module _ {R : Type 0} (name_of : R → List ℕ) where
       by i has (inl within) = absurd (true≢false (sym has ∙ none i within))
       by i has (inr past) = nobody name _ (get_or_past slots i None past) has
 
-  -- what has a name stands
-  has_stands : (name : List ℕ) (slot : Option R) → has_name name_of name slot ≡ true → is_some slot ≡ true
-  has_stands name None has = absurd (true≢false (sym has))
-  has_stands name (Some thing) has = refl
-
   -- with its slot a look-up finds just the thing that has the name
-  standing_has : (slots : List (Option R)) (look : List ℕ → Option ℕ) → IsTable name_of slots look → (name : List ℕ) (i : ℕ)
-      → (standing_number slots (look name) ≡ Some i) ↔ (has_name name_of name (get_or slots i None) ≡ true)
-  standing_has slots look table name i = by (look name) refl
+  naming_has : (slots : List (Option R)) (look : List ℕ → Option ℕ) → IsTable name_of slots look → (name : List ℕ) (i : ℕ)
+      → (named_number name_of slots name (look name) ≡ Some i) ↔ (has_name name_of name (get_or slots i None) ≡ true)
+  naming_has slots look table name i = by (look name) refl
     where
-      at : (k : ℕ) (b : Bool) → look name ≡ Some k → is_some (get_or slots k None) ≡ b → (cond b (Some k) None ≡ Some i) ↔ (has_name name_of name (get_or slots i None) ≡ true)
-      at k true is stands = (
-        λ h. let same : k ≡ i = cc in subst (λ j. has_name name_of name (get_or slots j None) ≡ true) same ((table.found name k is).1 stands),
+      at : (k : ℕ) (b : Bool) → look name ≡ Some k → has_name name_of name (get_or slots k None) ≡ b → (cond b (Some k) None ≡ Some i) ↔ (has_name name_of name (get_or slots i None) ≡ true)
+      at k true is has = (
+        λ h. let same : k ≡ i = cc in subst (λ j. has_name name_of name (get_or slots j None) ≡ true) same has,
         λ h. sym is ∙ table.finds name i h,
       )
-      at k false is gone = (
+      at k false is other = (
         λ h. cc,
         λ h.
-            let other = table.finds name i h in
+            let found = table.finds name i h in
             let same : i ≡ k = cc in
-            absurd (true≢false (sym (has_stands name (get_or slots i None) h) ∙ ap (λ j. is_some (get_or slots j None)) same ∙ gone)),
+            absurd (true≢false (sym h ∙ ap (λ j. has_name name_of name (get_or slots j None)) same ∙ other)),
       )
 
-      by : (found : Option ℕ) → look name ≡ found → (standing_number slots found ≡ Some i) ↔ (has_name name_of name (get_or slots i None) ≡ true)
+      by : (found : Option ℕ) → look name ≡ found → (named_number name_of slots name found ≡ Some i) ↔ (has_name name_of name (get_or slots i None) ≡ true)
       by None is = (λ h. cc, λ h. let other = table.finds name i h in cc)
-      by (Some k) is = at k (is_some (get_or slots k None)) is refl
+      by (Some k) is = at k (has_name name_of name (get_or slots k None)) is refl
 
   -- with the slots the table answers the look-up of the definition
   module _ (slots : List (Option R)) (look : List ℕ → Option ℕ) (table : IsTable name_of slots look) (name : List ℕ) where
-    looked_up : standing_number slots (look name) ≡ number_named name_of slots name
+    looked_up : named_number name_of slots name (look name) ≡ number_named name_of slots name
     unfolding number_named
-    looked_up = search_from_lookup (has_name name_of name) None refl slots (standing_number slots (look name)) (standing_has slots look table name)
-
-    pub number_stands : (k : ℕ) → look name ≡ Some k → is_some (get_or slots k None) ≡ true → Some k ≡ number_named name_of slots name
-    number_stands k is stands = sym (ap (standing_number slots) is ∙ ap (λ b. cond b (Some k) None) stands) ∙ looked_up
-
-    pub number_gone : (k : ℕ) → look name ≡ Some k → is_some (get_or slots k None) ≡ false → None ≡ number_named name_of slots name
-    number_gone k is gone = sym (ap (standing_number slots) is ∙ ap (λ b. cond b (Some k) None) gone) ∙ looked_up
-
-    pub number_unknown : look name ≡ None → None ≡ number_named name_of slots name
-    number_unknown is = sym (ap (standing_number slots) is) ∙ looked_up
+    looked_up = search_from_lookup (has_name name_of name) None refl slots (named_number name_of slots name (look name)) (naming_has slots look table name)
 
     -- the thing that has the name is the one that a look-up finds
     pub number_having : (k : ℕ) → has_name name_of name (get_or slots k None) ≡ true → Some k ≡ number_named name_of slots name
-    number_having k has = number_stands k (table.finds name k has) (has_stands name (get_or slots k None) has)
+    number_having k has = sym (ap (named_number name_of slots name) (table.finds name k has) ∙ ap (λ b. cond b (Some k) None) has) ∙ looked_up
+
+    pub number_other : (k : ℕ) → look name ≡ Some k → has_name name_of name (get_or slots k None) ≡ false → None ≡ number_named name_of slots name
+    number_other k is other = sym (ap (named_number name_of slots name) is ∙ ap (λ b. cond b (Some k) None) other) ∙ looked_up
+
+    pub number_unknown : look name ≡ None → None ≡ number_named name_of slots name
+    number_unknown is = sym (ap (named_number name_of slots name) is) ∙ looked_up
 
   -- what is known of a thing that a name finds
   pub record IsNamed (slots : List (Option R)) (name : List ℕ) : Type 0 where
@@ -192,7 +190,6 @@ module _ {R : Type 0} (name_of : R → List ℕ) where
   IsTable-copy slots look new is table = record {
     few = table.few;
     finds = λ q number has. is q ∙ table.finds q number has;
-    found = λ q number at. table.found q number (sym (is q) ∙ at);
   }
 
   -- where a look-up finds nothing no thing has the name
@@ -219,26 +216,21 @@ module _ {R : Type 0} (name_of : R → List ℕ) where
         absurd (true≢false (sym (equal_name name q (sym (is ∙ same))) ∙ e))
     finds-push q number b e (inr (inr w)) has = nobody q _ w.1 has
 
-    found-push : (q : List ℕ) (number : ℕ) (b : Bool) → bytes_eq name q ≡ b → cond b (Some (length slots)) (look q) ≡ Some number
-        → HadName name_of (slots ++ Some thing ∷ []) q number
-    found-push q number true e is =
-        let last : length slots ≡ number = cc in (
-          rw length-append (omega arith),
-          λ stands. ap (has_name name_of q) (get_or_push slots (Some thing) None number last) ∙ equal_name q (name_of thing) (sym (same ∙ same_name name q e)),
-        )
-    found-push q number false e is =
-        let was = table.found q number is in
-        let here = get_or_append_left slots (Some thing ∷ []) None number was.0 in (
-          rw length-append (omega (arith, was.0)),
-          λ stands. ap (has_name name_of q) here ∙ was.1 (sym (ap is_some here) ∙ stands),
-        )
+    finds-noted : (q : List ℕ) (number : ℕ) (b : Bool) → bytes_eq name q ≡ b → has_name name_of q (get_or slots number None) ≡ true → cond b (Some (length slots)) (look q) ≡ Some number
+    finds-noted q number true e has =
+        let had = subst (λ n. has_name name_of n (get_or slots number None) ≡ true) (sym (same_name name q e)) has in
+        absurd (true≢false (sym had ∙ named_none slots name free number))
+    finds-noted q number false e has = table.finds q number has
+
+    -- the table has the name, and the thing is yet to go last
+    pub IsTable-noted : (new : List ℕ → Option ℕ) → ((q : List ℕ) → new q ≡ cond (bytes_eq name q) (Some (length slots)) (look q)) → IsTable name_of slots new
+    IsTable-noted new is = record { few = table.few; finds = λ q number has. is q ∙ finds-noted q number (bytes_eq name q) refl has }
 
     pub IsTable-push : (new : List ℕ → Option ℕ) → length slots < 2 ^ 32 → ((q : List ℕ) → new q ≡ cond (bytes_eq name q) (Some (length slots)) (look q))
         → IsTable name_of (slots ++ Some thing ∷ []) new
     IsTable-push new room is = record {
       few = rw length-append (omega arith);
       finds = λ q number has. is q ∙ finds-push q number (bytes_eq name q) refl (pushed_at slots (Some thing) number) has;
-      found = λ q number at. found-push q number (bytes_eq name q) refl (sym (is q) ∙ at);
     }
 
   -- a thing goes, or is written over by one of its name
@@ -249,27 +241,10 @@ module _ {R : Type 0} (name_of : R → List ℕ) where
         table.finds q number (subst (λ k. has_name name_of q (get_or slots k None) ≡ true) (sym w.0) (kept q (sym (ap (has_name name_of q) w.1) ∙ has)))
     finds-rewrite q number (inr w) has = table.finds q number (sym (ap (has_name name_of q) w.1) ∙ has)
 
-    still_has : (q : List ℕ) (s : Option R) → slot ≡ s → (is_some (get_or slots i None) ≡ true → has_name name_of q (get_or slots i None) ≡ true)
-        → is_some s ≡ true → has_name name_of q s ≡ true
-    still_has q None is was stands = absurd (true≢false (sym stands))
-    still_has q (Some s) is was stands =
-        let own = kept (name_of s) (ap (has_name name_of (name_of s)) is ∙ equal_name (name_of s) (name_of s) refl) in
-        equal_name q (name_of s) (one_name q (name_of s) (get_or slots i None) (was (has_stands (name_of s) (get_or slots i None) own)) own)
-
-    found-rewrite : (q : List ℕ) (number : ℕ) → RewrittenAt slots i slot number → look q ≡ Some number → HadName name_of (set slots i slot) q number
-    found-rewrite q number (inl w) is =
-        let was = table.found q number is in
-        let there = subst (λ k. is_some (get_or slots k None) ≡ true → has_name name_of q (get_or slots k None) ≡ true) w.0 was.1 in
-        (rw length-set was.0, λ stands. ap (has_name name_of q) w.1 ∙ still_has q slot refl there (sym (ap is_some w.1) ∙ stands))
-    found-rewrite q number (inr w) is =
-        let was = table.found q number is in
-        (rw length-set was.0, λ stands. ap (has_name name_of q) w.1 ∙ was.1 (sym (ap is_some w.1) ∙ stands))
-
     pub IsTable-rewrite : IsTable name_of (set slots i slot) look
     IsTable-rewrite = record {
       few = rw length-set table.few;
       finds = λ q number has. finds-rewrite q number (rewritten_at slots i slot within number) has;
-      found = λ q number is. found-rewrite q number (rewritten_at slots i slot within number) is;
     }
 
   -- each thing that stands has a name

@@ -1,5 +1,5 @@
 -- What an edit does to a netlist.
-use Rattle.std.specs.Prelude.{◌≡◌, ◌⊎◌, IsTrue, ℕ, ◌+◌, Bool, true, false, not, ◌&&◌, ◌==◌, List, [], ◌∷◌, ◌++◌, length, map, Option, Some, None, is_none, is_some, unwrap_or, option_map, Result, Ok, Err, is_ok, nat_lt, nat_le, if◌then◌else◌, slice_set, option_and_then}
+use Rattle.std.specs.Prelude.{◌≡◌, ◌⊎◌, IsTrue, ℕ, ◌+◌, Bool, true, not, ◌&&◌, ◌==◌, List, [], ◌∷◌, ◌++◌, length, map, Option, Some, None, is_none, is_some, unwrap_or, option_map, Result, Ok, Err, is_ok, nat_lt, nat_le, if◌then◌else◌, slice_set, option_and_then}
 use Rattle.std.specs.List.{list_all, list_any, filter_map, enumerate_from}
 use Rattle.std.specs.Str.{bytes_eq}
 use Rattle.mp_modules.specs.declared.kind.Kind.{Kind}
@@ -419,19 +419,6 @@ after_each place n (edit ∷ edits) = go_on (λ next. after_each (place + 1) nex
 abbrev pub after : Circuit → Edit → Result Circuit EditError
 after n (Single edit) = after_single n edit
 after n (Batch edits) = if is_batch edits then after_each 1 n edits else Err BadBatch
-
--- the edits of one thing that take memory: those that add a thing, and that which sets a stimulus
-abbrev pub single_takes_memory : SingleEdit → Bool
-single_takes_memory (AddWire name width level) = true
-single_takes_memory (AddModule new) = true
-single_takes_memory (AddBundle new) = true
-single_takes_memory (SetStimulus name changes) = true
-single_takes_memory _ = false
-
--- the edits that take memory: a batch does, since it is made on a copy
-abbrev pub takes_memory : Edit → Bool
-takes_memory (Single edit) = single_takes_memory edit
-takes_memory (Batch edits) = true
 
 -- want of memory may come in place of the answer: where an edit of one thing is accepted, and for a batch that is one whatever its edits meet
 abbrev pub may_want : {T : Type 0} → Edit → Result T EditError → Bool

@@ -12,5 +12,8 @@ pub mod Replays
 pub mod Records
 pub mod DriverSearch
 pub mod DrivenWires
+pub mod Around
+pub mod Knowledge
+pub mod Least
 pub mod Laws
 pub mod Indexes

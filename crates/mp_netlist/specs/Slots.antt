@@ -6,6 +6,11 @@ use Rattle.std.specs.Str.{bytes_eq}
 abbrev pub slot_at : {R : Type 0} → List (Option R) → ℕ → Option R
 slot_at slots number = slice_index_or slots number None
 
+-- what stands in a slot, if there is one
+abbrev pub thing_in : {R : Type 0} → Option (Option R) → Option R
+thing_in None = None
+thing_in (Some slot) = slot
+
 -- whether a thing that passes the test stands in the slot
 abbrev pub stands_and : {R : Type 0} → (R → Bool) → Option R → Bool
 stands_and test None = false

@@ -1,5 +1,6 @@
 //! Numbers by name.
-ghost use Rattle.std.specs.Prelude.{◌≡◌, List, ℕ, cond, None, Some, IfOk, OnOk, OnErr};
+ghost use Rattle.std.specs.Prelude.{◌≡◌, List, ℕ, cond, None, Some, IfOk, OnOk, OnErr, option_map};
+ghost use Rattle.std.specs.Option.{option_and_then};
 ghost use Rattle.std.specs.Str.{bytes_eq};
 ghost use Rattle.std.specs.Arc.{arc_value};
 ghost use Rattle.indexmap.specs.IndexMap.{get};
@@ -9,9 +10,10 @@ use mp_records::Name;
 use std::alloc::{AllocError, Global};
 use std::sync::Arc;
 
-/// Numbers by name. Copies share them until one of them gets another name.
+/// Numbers by name. What a copy gets is kept beside the numbers that it shares with others.
 #[derive(Drop)]
 pub struct Index {
+    first: Option<Arc<IndexMap<Name, u32>, Global>>,
     numbers: Option<Arc<IndexMap<Name, u32>, Global>>,
 }
 
@@ -24,7 +26,10 @@ impl Index {
     pub fn new() -> Index
         ensures { (name : List ℕ) → number_in result name ≡ None }
     {
-        Index { numbers: None }
+        Index {
+            first: None,
+            numbers: None,
+        }
     }
 
     /// An index without names. It has room for this number of names, if there is memory for it.
@@ -36,9 +41,10 @@ impl Index {
         }
         match empty_map(alloc, room) {
             Ok(numbers) => Index {
+                first: None,
                 numbers: Some(numbers),
             },
-            Err(_) => Index { numbers: None },
+            Err(_) => Index::new(),
         }
     }
 
@@ -46,9 +52,9 @@ impl Index {
     pub fn get(&self, name: &Name) -> Option<u32>
         ensures { result ≡ number_in self.now name.now }
     {
-        match &self.numbers {
-            Some(shared) => shared.get(name).copied(),
-            None => None,
+        match number_of(&self.numbers, name) {
+            Some(number) => Some(number),
+            None => number_of(&self.first, name),
         }
     }
 
@@ -60,7 +66,7 @@ impl Index {
         let key = name.clone()?;
         match &mut self.numbers {
             Some(shared) => insert_shared(shared, key, number)?,
-            None => self.numbers = Some(first(alloc, key, number)?),
+            None => self.numbers = Some(only(alloc, key, number)?),
         }
         Ok(())
     }
@@ -69,12 +75,38 @@ impl Index {
     pub fn copy(&self) -> Result<Index, AllocError>
         ensures { IfOk result (λ copy. (name : List ℕ) → number_in copy name ≡ number_in self.now name) }
     {
-        match &self.numbers {
-            Some(shared) => Ok(Index {
-                numbers: Some(Arc::try_clone(shared)?),
+        match &self.first {
+            Some(_) => Ok(Index {
+                first: shared(&self.first)?,
+                numbers: shared(&self.numbers)?,
             }),
-            None => Ok(Index { numbers: None }),
+            None => Ok(Index {
+                first: shared(&self.numbers)?,
+                numbers: None,
+            }),
         }
+    }
+}
+
+/// The number of a name among shared numbers, if there are any.
+fn number_of(numbers: &Option<Arc<IndexMap<Name, u32>, Global>>, name: &Name) -> Option<u32>
+    ensures { result ≡ option_and_then (λ shared. get bytes_eq (arc_value shared) name.now) numbers.now }
+{
+    match numbers {
+        Some(shared) => shared.get(name).copied(),
+        None => None,
+    }
+}
+
+/// The same numbers once more, with no name copied.
+fn shared(
+    numbers: &Option<Arc<IndexMap<Name, u32>, Global>>,
+) -> Result<Option<Arc<IndexMap<Name, u32>, Global>>, AllocError>
+    ensures { IfOk result (λ same. option_map arc_value same ≡ option_map arc_value numbers.now) }
+{
+    match numbers {
+        Some(shared) => Ok(Some(Arc::try_clone(shared)?)),
+        None => Ok(None),
     }
 }
 
@@ -99,7 +131,7 @@ fn insert_shared(
 }
 
 /// The number of one name.
-fn first(
+fn only(
     alloc: Global,
     name: Name,
     number: u32,

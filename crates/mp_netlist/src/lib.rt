@@ -1,15 +1,19 @@
 //! Netlists of event modules, and the edits that change them.
 #![tactic(auto)]
 
+mod around;
 mod checkpoint;
 mod driver;
 mod format;
 mod index;
+mod known;
 pub mod laws;
+mod least;
 mod module_table;
 mod netlist;
 mod new_error;
 mod record_changes;
+mod slots;
 mod table;
 
 pub use checkpoint::checkpoint_units;

@@ -1,8 +1,9 @@
 //! Things by number and by name.
-ghost use Rattle.std.specs.Prelude.{◌≡◌, ◌<◌, List, ℕ, true, None, IfSome, is_some, option_map, slice_index_or, slice_set, vec_len};
+ghost use Rattle.std.specs.Prelude.{◌≡◌, List, ℕ, true, IfOk, IfSome};
 ghost use Rattle.mp_netlist.specs.Slots.{slot_at, has_name};
 
 use crate::index::Index;
+use crate::slots::Slots;
 use mp_records::Name;
 use std::alloc::{AllocError, Global};
 use std::marker::Model;
@@ -46,7 +47,7 @@ pub trait Change<R: Named>: Drop {
 /// Things by number, from 0 in the order of adding, and by name. The number of a removed thing may stay in the index, since its slot stays empty.
 #[derive(Drop)]
 pub struct Table<R: Named> {
-    slots: Vec<Option<R>>,
+    slots: Slots<R>,
     index: Index,
 }
 
@@ -57,22 +58,23 @@ impl<R: Named> Model for Table<R> {
 
     ghost Value = { List (Option R) };
 
-    ghost view = { λ table. table.slots.items };
+    ghost view = { λ table. table.slots };
 
-    ghost invariant = { λ table. IsTable R.name_of table.slots.items (number_in table.index) };
+    ghost invariant = { λ table. IsTable R.name_of table.slots (number_in table.index) };
 }
 
 impl<R: Named> Table<R> {
-    ghost use Rattle.std.specs.Prelude.{◌≡◌, ◌<◌, ◌^◌, ◌++◌, ◌∷◌, [], None, Some, OnOk, OnErr, IfOk, length, slice_set, option_map, string_bytes};
+    ghost use Rattle.std.specs.Prelude.{◌≡◌, ◌<◌, ◌≤◌, ◌^◌, ◌++◌, ◌∷◌, [], None, Some, OnOk, OnErr, IfOk, length, slice_set, option_map, string_bytes};
     ghost use Rattle.std.specs.Option.{option_copied};
     ghost use Rattle.mp_netlist.specs.Slots.{slot_at, number_named};
+    ghost use Rattle.mp_netlist.specs.Tables.{KeepsNames};
 
     /// An empty table.
     pub fn new(alloc: Global) -> Table<R>
         ensures { result ≡ [] }
     {
         Table {
-            slots: Vec::new(alloc),
+            slots: Slots::new(alloc),
             index: Index::new(),
         }
     }
@@ -81,7 +83,7 @@ impl<R: Named> Table<R> {
     pub fn with_room(alloc: Global, room: usize) -> Table<R>
         ensures { result ≡ [] }
     {
-        match Vec::with_capacity(alloc, room) {
+        match Slots::with_room(alloc, room) {
             Ok(slots) => Table {
                 slots,
                 index: Index::with_room(alloc, room),
@@ -94,10 +96,7 @@ impl<R: Named> Table<R> {
     pub fn get(&self, number: u32) -> Option<&R>
         ensures { option_copied result ≡ slot_at self.now number }
     {
-        match self.slots.get(number as usize) {
-            Some(Some(found)) => Some(found),
-            _ => None,
-        }
+        self.slots.get(number)
     }
 
     /// The number of the thing that has this name.
@@ -105,7 +104,7 @@ impl<R: Named> Table<R> {
         ensures { result ≡ number_named R.name_of self.now name.now }
     {
         match self.index.get(name) {
-            Some(number) if stands(self.slots.as_slice(), number) => Some(number),
+            Some(number) if has_name(&self.slots, number, name.as_str()) => Some(number),
             _ => None,
         }
     }
@@ -114,7 +113,7 @@ impl<R: Named> Table<R> {
     pub fn number_near(&self, name: &Name, near: u32) -> Option<u32>
         ensures { result ≡ number_named R.name_of self.now name.now }
     {
-        match number_around(self.slots.as_slice(), near, name.as_str()) {
+        match number_around(&self.slots, near, name.as_str()) {
             Some(number) => Some(number),
             None => self.number_named(name),
         }
@@ -134,9 +133,8 @@ impl<R: Named> Table<R> {
     fn number_sought(&self, text: &str) -> Option<u32>
         ensures { result ≡ number_named R.name_of self.now text.now }
     {
-        let slots = self.slots.as_slice();
-        for number in 0..slots.len() {
-            if has_name(slots, number as u32, text) {
+        for number in 0..self.slots.len() {
+            if has_name(&self.slots, number as u32, text) {
                 return Some(number as u32);
             }
         }
@@ -151,29 +149,46 @@ impl<R: Named> Table<R> {
         ensures err { OnErr result (self.new ≡ self.old) }
     {
         let number = self.slots.len() as u32;
-        let alloc = *self.slots.allocator();
-        self.slots.reserve(1)?;
-        self.index.insert(alloc, added.name(), number)?;
-        self.slots.push(Some(added)).unwrap();
-        Ok(())
+        self.index
+            .insert(self.slots.allocator(), added.name(), number)?;
+        self.slots.push(added)
     }
 
     /// Removes the thing of this number. The number stays empty.
-    pub fn remove(&mut self, number: u32)
-        ensures { self.new ≡ slice_set self.old number None }
+    pub fn remove(&mut self, number: u32) -> Result<(), AllocError>
+        ensures ok { OnOk result (self.new ≡ slice_set self.old number None) }
+        ensures err { OnErr result (self.new ≡ self.old) }
     {
-        if (number as usize) < self.slots.len() {
-            clear(&mut self.slots, number as usize);
-        }
+        self.put(number, None)
     }
 
     /// Changes what stands in the slot of this number.
-    pub fn change<C: Change<R>>(&mut self, number: u32, change: C)
-        ensures { self.new ≡ slice_set self.old number (option_map (C.changed change) (slot_at self.old number)) }
+    pub fn change<C: Change<R>>(&mut self, number: u32, change: C) -> Result<(), AllocError>
+        ensures ok { OnOk result (self.new ≡ slice_set self.old number (option_map (C.changed change) (slot_at self.old number))) }
+        ensures err { OnErr result (self.new ≡ self.old) }
     {
-        if (number as usize) < self.slots.len() {
-            change_slot(&mut self.slots, number as usize, change);
+        let changed = self.changed(number, change)?;
+        self.put(number, changed)
+    }
+
+    /// What stands in the slot of this number, changed.
+    pub fn changed<C: Change<R>>(&self, number: u32, change: C) -> Result<Option<R>, AllocError>
+        ensures value { IfOk result (λ changed. changed ≡ option_map (C.changed change) (slot_at self.now number)) }
+        ensures names { IfOk result (λ changed. KeepsNames R.name_of (slot_at self.now number) changed) }
+    {
+        match self.slots.get(number) {
+            Some(thing) => Ok(Some(changed_copy(thing, change)?)),
+            None => Ok(None),
         }
+    }
+
+    /// Puts something into the slot of this number, if there is such a slot: what stood there with other properties, or nothing.
+    pub fn put(&mut self, number: u32, thing: Option<R>) -> Result<(), AllocError>
+        requires { KeepsNames R.name_of (slot_at self.old number) thing }
+        ensures ok { OnOk result (self.new ≡ slice_set self.old number thing) }
+        ensures err { OnErr result (self.new ≡ self.old) }
+    {
+        self.slots.put(number, thing)
     }
 
     /// A copy of the table. The index of names is shared.
@@ -181,33 +196,36 @@ impl<R: Named> Table<R> {
         ensures { IfOk result (λ copy. copy ≡ self.now) }
     {
         Ok(Table {
-            slots: Vec::from_clones(*self.slots.allocator(), self.slots.as_slice())?,
+            slots: self.slots.copy()?,
             index: self.index.copy()?,
         })
     }
 
     /// The number of things that were ever added.
     pub fn len(&self) -> usize
-        ensures { result ≡ length self.now }
+        ensures value { result ≡ length self.now }
+        ensures few { result ≤ 2 ^ 32 }
     {
         self.slots.len()
     }
 
-    /// The slots, by number.
-    pub fn as_slice(&self) -> &[Option<R>]
-        ensures { result.now ≡ self.now }
-    {
-        self.slots.as_slice()
-    }
-
     /// The allocator of its memory.
     pub fn allocator(&self) -> Global {
-        *self.slots.allocator()
+        self.slots.allocator()
     }
 }
 
+/// A copy of a thing, changed.
+fn changed_copy<R: Named, C: Change<R>>(thing: &R, change: C) -> Result<R, AllocError>
+    ensures { IfOk result (λ copy. copy ≡ C.changed change thing.now) }
+{
+    let mut copy = thing.clone()?;
+    change.make(&mut copy);
+    Ok(copy)
+}
+
 /// The number of the thing of this name, if it is at most 4 below or 5 above this number.
-fn number_around<R: Named>(slots: &[Option<R>], near: u32, name: &str) -> Option<u32>
+fn number_around<R: Named>(slots: &Slots<R>, near: u32, name: &str) -> Option<u32>
     ensures { IfSome result (λ number. has_name R.name_of name.now (slot_at slots.now number) ≡ true) }
 {
     for step in STEPS {
@@ -220,39 +238,11 @@ fn number_around<R: Named>(slots: &[Option<R>], near: u32, name: &str) -> Option
 }
 
 /// Whether the thing of this number exists and has this name.
-fn has_name<R: Named>(slots: &[Option<R>], number: u32, name: &str) -> bool
+fn has_name<R: Named>(slots: &Slots<R>, number: u32, name: &str) -> bool
     ensures { result ≡ has_name R.name_of name.now (slot_at slots.now number) }
 {
-    match slots.get(number as usize) {
-        Some(Some(thing)) => name == thing.name().as_str(),
-        _ => false,
-    }
-}
-
-/// Whether the thing of this number exists.
-fn stands<T>(slots: &[Option<T>], number: u32) -> bool
-    ensures { result ≡ is_some (slice_index_or slots.now number None) }
-{
-    match slots.get(number as usize) {
-        Some(slot) => slot.is_some(),
+    match slots.get(number) {
+        Some(thing) => name == thing.name().as_str(),
         None => false,
     }
-}
-
-/// Changes what stands in the slot of this number.
-fn change_slot<R: Named, C: Change<R>>(slots: &mut Vec<Option<R>>, number: usize, change: C)
-    requires { number < vec_len slots.old }
-    ensures { slots.new.items ≡ slice_set slots.old.items number (option_map (C.changed change) (slice_index_or slots.old.items number None)) }
-{
-    if let Some(thing) = &mut slots[number] {
-        change.make(thing);
-    }
-}
-
-/// Empties the slot of this number.
-fn clear<T: Drop>(slots: &mut Vec<Option<T>>, number: usize)
-    requires { number < vec_len slots.old }
-    ensures { slots.new.items ≡ slice_set slots.old.items number None }
-{
-    slots[number] = None;
 }

@@ -1,5 +1,5 @@
 -- What is read of pieces end to end, and what each change of a piece does to them.
-use Rattle.std.proofs.Common.{◌≡◌, ℕ, zero, suc, ◌+◌, ◌-◌, ◌*◌, ◌<◌, ◌≤◌, List, [], ◌∷◌, ◌++◌, length, get_or, None, ◌⊎◌, inl, inr, refl, sym, ap, subst, ◌∙◌, arith, length-append, append-nil, append_assoc}
+use Rattle.std.proofs.Common.{◌≡◌, ℕ, zero, suc, ◌+◌, ◌-◌, ◌*◌, ◌<◌, ◌≤◌, List, [], ◌∷◌, ◌++◌, length, get_or, Option, Some, None, ◌⊎◌, inl, inr, refl, sym, ap, subst, ◌∙◌, arith, length-append, append-nil, append_assoc}
 use Rattle.std.proofs.Math.ListN.{set}
 use Rattle.std.specs.List.{slice_get}
 use Rattle.std.specs.Prelude.{Result, Ok, Err, OnOk, OnErr}
@@ -18,6 +18,15 @@ slice_get-right : {X : Type 0} (xs ys : List X) (i k : ℕ) → i ≡ length xs 
 slice_get-right [] ys i k is = ap (slice_get ys) (omega arith)
 slice_get-right (x ∷ xs) ys zero k is = absurd (omega arith)
 slice_get-right (x ∷ xs) ys (suc i) k is = slice_get-right xs ys i k (omega arith)
+
+abbrev or_else : {X : Type 0} → Option X → X → X
+or_else None d = d
+or_else (Some x) d = x
+
+got : {X : Type 0} (xs : List X) (i : ℕ) (d : X) → get_or xs i d ≡ or_else (slice_get xs i) d
+got [] i d = refl
+got (x ∷ xs) zero d = refl
+got (x ∷ xs) (suc i) d = got xs i d
 
 -- what reads nothing is past the end
 pub past_from_none : {X : Type 0} (xs : List X) (i : ℕ) → None ≡ slice_get xs i → length xs ≤ i
@@ -61,6 +70,9 @@ module _ {X : Type 0} (n : ℕ) (some : 0 < n) where
           let rest = length-joined pieces (count - n) cut.2 in
           slice_get_past (piece ++ joined pieces) (suc k * n + r) (omega (arith, length-append piece (joined pieces), rest, cut.1, few)) ∙ sym (slice_get_past (joined pieces) (k * n + r) (omega (arith, rest, few))) ∙ behind
       by behind (inr many) = slice_get-right piece (joined pieces) (suc k * n + r) (k * n + r) (omega (arith, cut.1, many)) ∙ behind
+
+  pub read_in : (pieces : List (List X)) (count : ℕ) → AreCut n pieces count → (k r : ℕ) (d : X) → r < n → get_or (joined pieces) (k * n + r) d ≡ get_or (get_or pieces k []) r d
+  read_in pieces count cut k r d place = got (joined pieces) (k * n + r) d ∙ ap (λ found. or_else found d) (get_in pieces count cut k r place) ∙ sym (got (get_or pieces k []) r d)
 
   -- the place of an entry is in a piece
   pub piece_within : (pieces : List (List X)) (count : ℕ) → AreCut n pieces count → (k r : ℕ) → r < n → k * n + r < count → k < length pieces

@@ -5,6 +5,8 @@ mod kept;
 mod piece;
 mod pieces;
 mod replacing;
+mod rows;
 
 pub use kept::Kept;
-pub use pieces::Pieces;
+pub use pieces::{Pieces, push_to_row};
+pub use rows::Row;

@@ -1,8 +1,9 @@
 //! A piece that lists share.
-ghost use Rattle.std.specs.Prelude.{◌≡◌, ◌<◌, ◌++◌, ◌∷◌, [], OnOk, OnErr, vec_len, slice_set};
+ghost use Rattle.std.specs.Prelude.{◌≡◌, ◌<◌, ◌++◌, ◌∷◌, [], OnOk, OnErr, length, slice_index_or, vec_len, slice_set};
 ghost use Rattle.std.specs.Arc.{arc_value};
 
 use crate::kept::Kept;
+use crate::rows::{Row, push_number_in};
 use std::alloc::{AllocError, Global};
 use std::marker::Model;
 use std::sync::Arc;
@@ -74,6 +75,19 @@ impl<T: Kept> Piece<T> {
     {
         set_in(&mut self.entries, place, entry)
     }
+}
+
+/// Adds a number at the end of a row of a piece, in a copy where others have the piece too.
+pub(crate) fn push_number(
+    piece: &mut Piece<Row>,
+    place: usize,
+    number: u32,
+) -> Result<(), AllocError>
+    requires { place < length piece.old }
+    ensures ok { OnOk result (piece.new ≡ slice_set piece.old place (slice_index_or piece.old place [] ++ number ∷ [])) }
+    ensures err { OnErr result (piece.new ≡ piece.old) }
+{
+    push_number_in(&mut piece.entries, place, number)
 }
 
 /// Adds an entry at the end, in a copy where others look there too.

@@ -1,6 +1,7 @@
 //! A list in pieces that its copies share.
 use crate::kept::Kept;
-use crate::piece::Piece;
+use crate::piece::{Piece, push_number};
+use crate::rows::Row;
 use std::alloc::{AllocError, Global};
 use std::marker::Model;
 
@@ -88,6 +89,11 @@ impl<T: Kept> Pieces<T> {
             count: self.count,
         })
     }
+
+    /// Where its memory is from.
+    pub fn allocator(&self) -> Global {
+        *self.shared.allocator()
+    }
 }
 
 ghost use Rattle.std.specs.Prelude.{◌≡◌, ◌<◌, ◌+◌, ◌++◌, ◌∷◌, [], OnOk, OnErr, length, slice_set, slice_index_or, vec_len};
@@ -141,4 +147,28 @@ fn add_piece<T: Kept>(shared: &mut Vec<Piece<T>>, entry: T) -> Result<(), AllocE
     shared.reserve(1)?;
     shared.push(Piece::of(alloc, entry)?).unwrap();
     Ok(())
+}
+
+/// Adds a number at the end of the row at this index.
+pub fn push_to_row(rows: &mut Pieces<Row>, index: usize, number: u32) -> Result<(), AllocError>
+    requires within { index < length rows.old }
+    ensures ok { OnOk result (rows.new ≡ slice_set rows.old index (slice_index_or rows.old index [] ++ number ∷ [])) }
+    ensures err { OnErr result (rows.new ≡ rows.old) }
+{
+    push_number_at(&mut rows.shared, index / PIECE, index % PIECE, number)
+}
+
+/// Adds a number at the end of a row of one of the pieces.
+fn push_number_at(
+    shared: &mut Vec<Piece<Row>>,
+    piece: usize,
+    place: usize,
+    number: u32,
+) -> Result<(), AllocError>
+    requires piece { piece < vec_len shared.old }
+    requires place { place < length (slice_index_or shared.old.items piece []) }
+    ensures ok { OnOk result (shared.new.items ≡ slice_set shared.old.items piece (slice_set (slice_index_or shared.old.items piece []) place (slice_index_or (slice_index_or shared.old.items piece []) place [] ++ number ∷ []))) }
+    ensures err { OnErr result (shared.new.items ≡ shared.old.items) }
+{
+    push_number(&mut shared[piece], place, number)
 }

@@ -22,9 +22,13 @@ pub record IsReach (old new : Circuit) (modules wires : List Bool) : Type 0 wher
 abbrev pub ReadsNone : Circuit → List Bool → ℕ → Type 0
 ReadsNone n wires m = (w : ℕ) → Reads n m w → is_marked wires w ≡ false
 
--- of the modules from a number on, below another, none that isn't marked reads a marked wire
+-- each module that reads the wire is marked
+abbrev pub AreReadersMarked : Circuit → List Bool → ℕ → Type 0
+AreReadersMarked n modules w = (m : ℕ) → Reads n m w → is_marked modules m ≡ true
+
+-- of the wires from a number on, below another, each that is marked has marked readers alone
 abbrev pub IsClosedBetween : Circuit → List Bool → List Bool → ℕ → ℕ → Type 0
-IsClosedBetween n modules wires from to = (m : ℕ) → from ≤ m → m < to → is_marked modules m ≡ false → ReadsNone n wires m
+IsClosedBetween n modules wires from to = (w : ℕ) → from ≤ w → w < to → is_marked wires w ≡ true → AreReadersMarked n modules w
 
 -- and no other module reads a marked wire
 pub record IsWholeReach (old new : Circuit) (modules wires : List Bool) : Type 0 where

@@ -1,13 +1,13 @@
-//! The modules that an edit reaches, found in passes over all modules.
+//! The modules that an edit reaches, found from wire to wire.
 ghost use Rattle.std.specs.Prelude.{◌≡◌, Ok, IfOk, IfSome};
 ghost use Rattle.mp_netlist.specs.Edits.{after};
 ghost use Rattle.mp_depend.specs.work.Revisions.{IsRevision};
 ghost use Rattle.mp_near.specs.reach.Reach.{IsWholeReach};
 
 use crate::reach::named::{named_modules, named_wires};
-use crate::reach::ports::{mark_outputs, reads_marked};
+use crate::reach::ports::{is_marked, mark_outputs, reads_marked};
 use crate::revision::Revision;
-use mp_netlist::{Edit, ModuleId, Netlist};
+use mp_netlist::{Edit, ModuleId, Netlist, WireId};
 use std::alloc::{AllocError, Global};
 
 /// Marks on modules, and on each wire that is another in the new netlist or that a marked module drives, before the edit or after it.
@@ -40,7 +40,7 @@ pub(crate) fn find_reached(
     }
 }
 
-/// How far a pass over modules has come: how many more may be marked, and the number after the last module that it marked.
+/// How far a pass over wires has come: how many more modules may be marked, and the number after the last wire at which one was.
 #[derive(Clone, Copy)]
 struct Passed {
     left: u32,
@@ -48,12 +48,12 @@ struct Passed {
 }
 
 impl Reached {
-    ghost use Rattle.std.specs.Prelude.{◌≡◌, ◌<◌, ◌≤◌, ℕ, Ok, true, false, IfOk, IfSome, length};
+    ghost use Rattle.std.specs.Prelude.{◌≡◌, ◌<◌, ◌≤◌, ◌+◌, ◌^◌, ℕ, Ok, true, false, IfOk, IfSome, length};
     ghost use Rattle.mp_netlist.specs.Edits.{after};
     ghost use Rattle.mp_depend.specs.work.Revisions.{IsRevision};
     ghost use Rattle.mp_partition.specs.runs.Marks.{is_marked};
     ghost use Rattle.mp_near.specs.reach.Marks.{AreGrown};
-    ghost use Rattle.mp_near.specs.reach.Reach.{IsReach, IsWholeReach, IsClosedBetween, ReadsNone};
+    ghost use Rattle.mp_near.specs.reach.Reach.{AreReadersMarked, IsReach, IsWholeReach, IsClosedBetween, ReadsNone};
 
     /// What the edit may change, and the wires of modules that it may.
     fn first(
@@ -81,13 +81,13 @@ impl Reached {
     }
 
     /// Marks the modules that read marked wires, at most so many, and those that read theirs, and says whether that are all. Modules that read each
-    /// other's wires mostly have numbers that follow each other. So the search goes from the first module up, and then over those below.
+    /// other's wires mostly have wires whose numbers follow each other. So the search goes from the first wire up, and then over those below.
     fn spread(&mut self, old: &Netlist, new: &Netlist, most: u32) -> bool
         requires revision { IsRevision old.now new.now }
         requires reach { IsReach old.now new.now self.old.modules.items self.old.wires.items }
         ensures { result ≡ true → IsWholeReach old.now new.now self.new.modules.items self.new.wires.items }
     {
-        let end = new.module_slots();
+        let end = new.wire_slots();
         let start = self.first_marked(end);
         let mut left = most;
         'rounds: for _ in 0..MOST_ROUNDS {
@@ -105,20 +105,20 @@ impl Reached {
         false
     }
 
-    /// The number of the first module that is marked, or 0.
+    /// The number of the first wire that is marked, or 0.
     fn first_marked(&self, count: u32) -> u32
-        requires { length self.now.modules.items ≡ count }
+        requires { length self.now.wires.items ≡ count }
         ensures { result ≤ count }
     {
-        for m in 0..count {
-            if self.modules[m as usize] {
-                return m;
+        for w in 0..count {
+            if self.wires[w as usize] {
+                return w;
             }
         }
         0
     }
 
-    /// Marks the modules from a number on, below another, that read marked wires, in one pass. `None` if too many do.
+    /// Marks the modules that read marked wires, of those from a number on, below another. `None` if there are too many, or if it isn't known which do.
     fn pass(
         &mut self,
         old: &Netlist,
@@ -130,7 +130,7 @@ impl Reached {
         requires revision { IsRevision old.now new.now }
         requires reach { IsReach old.now new.now self.old.modules.items self.old.wires.items }
         requires from { from ≤ to }
-        requires to { to ≤ length new.now.modules }
+        requires to { to ≤ length new.now.wires }
         ensures reach { IsReach old.now new.now self.new.modules.items self.new.wires.items }
         ensures last { IfSome result (λ passed. passed.last ≤ to) }
         ensures closed { IfSome result (λ passed. IsClosedBetween new.now self.new.modules.items self.new.wires.items passed.last to) }
@@ -140,30 +140,77 @@ impl Reached {
             left: most,
             last: from,
         };
-        for m in from..to {
-            if self.hears(new, ModuleId(m)) {
-                if passed.left == 0 {
-                    return None;
-                }
-                self.add(old, new, ModuleId(m));
-                passed = Passed {
-                    left: passed.left - 1,
-                    last: m + 1,
-                };
-            }
+        for w in from..to {
+            let Some(after) = self.step(old, new, WireId(w), passed) else {
+                return None;
+            };
+            passed = after;
         }
         Some(passed)
     }
 
-    /// Whether a module that isn't marked reads a marked wire.
-    fn hears(&self, new: &Netlist, id: ModuleId) -> bool
-        requires { id.0 < length self.now.modules.items }
-        ensures { result ≡ false → is_marked self.now.modules.items id.0 ≡ false → ReadsNone new.now self.now.wires.items id.0 }
+    /// Marks the modules that read the next wire, if it is marked.
+    fn step(&mut self, old: &Netlist, new: &Netlist, wire: WireId, passed: Passed) -> Option<Passed>
+        requires revision { IsRevision old.now new.now }
+        requires reach { IsReach old.now new.now self.old.modules.items self.old.wires.items }
+        requires room { wire.0 + 1 < 2 ^ 32 }
+        requires last { passed.last ≤ wire.0 }
+        ensures reach { IsReach old.now new.now self.new.modules.items self.new.wires.items }
+        ensures last { IfSome result (λ after. after.last ≤ wire.0 + 1) }
+        ensures fewer { IfSome result (λ after. after.left ≤ passed.left) }
+        ensures closed { IfSome result (λ after. IsClosedBetween new.now self.old.modules.items self.old.wires.items passed.last wire.0 → IsClosedBetween new.now self.new.modules.items self.new.wires.items after.last (wire.0 + 1)) }
+        ensures same { IfSome result (λ after. after.left ≡ passed.left → (after.last ≡ passed.last) × (self.new ≡ self.old)) }
     {
-        if self.modules[id.0 as usize] {
-            return false;
+        if !is_marked(self.wires.as_slice(), wire.0) {
+            return Some(passed);
         }
-        reads_marked(new, id, self.wires.as_slice())
+        let Some(left) = self.visit(old, new, wire, passed.left) else {
+            return None;
+        };
+        if left == passed.left {
+            return Some(passed);
+        }
+        Some(Passed {
+            left,
+            last: wire.0 + 1,
+        })
+    }
+
+    /// Marks the modules that read a marked wire, and says how many more may be marked. `None` if there are too many, or if it isn't known which do.
+    fn visit(&mut self, old: &Netlist, new: &Netlist, wire: WireId, most: u32) -> Option<u32>
+        requires revision { IsRevision old.now new.now }
+        requires reach { IsReach old.now new.now self.old.modules.items self.old.wires.items }
+        requires marked { is_marked self.old.wires.items wire.0 ≡ true }
+        ensures reach { IsReach old.now new.now self.new.modules.items self.new.wires.items }
+        ensures fewer { IfSome result (λ left. left ≤ most) }
+        ensures readers { IfSome result (λ left. AreReadersMarked new.now self.new.modules.items wire.0) }
+        ensures same { IfSome result (λ left. left ≡ most → self.new ≡ self.old) }
+    {
+        let Some(row) = new.around(wire) else {
+            return None;
+        };
+        let mut left = most;
+        for m in row {
+            if self.hears(new, ModuleId(*m)) {
+                if left == 0 {
+                    return None;
+                }
+                self.add(old, new, ModuleId(*m));
+                left -= 1;
+            }
+        }
+        Some(left)
+    }
+
+    /// Whether a module has a mark that isn't set, and reads a marked wire.
+    fn hears(&self, new: &Netlist, id: ModuleId) -> bool
+        ensures low { result ≡ true → id.0 < length self.now.modules.items }
+        ensures none { result ≡ false → id.0 < length self.now.modules.items → is_marked self.now.modules.items id.0 ≡ false → ReadsNone new.now self.now.wires.items id.0 }
+    {
+        match self.modules.get(id.0 as usize) {
+            Some(false) => reads_marked(new, id, self.wires.as_slice()),
+            _ => false,
+        }
     }
 
     /// Marks a module with the wires that it drives.
@@ -173,6 +220,8 @@ impl Reached {
         requires low { id.0 < length self.old.modules.items }
         ensures reach { IsReach old.now new.now self.new.modules.items self.new.wires.items }
         ensures grown { AreGrown self.old.modules.items self.new.modules.items }
+        ensures wires { AreGrown self.old.wires.items self.new.wires.items }
+        ensures marked { is_marked self.new.modules.items id.0 ≡ true }
     {
         // Their contracts say that the netlists are well formed.
         let _old_horizon = old.horizon();

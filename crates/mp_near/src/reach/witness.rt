@@ -8,7 +8,7 @@ impl Reached {
     ghost use Rattle.mp_depend.specs.work.Revisions.{IsRevision};
     ghost use Rattle.mp_near.specs.reach.Reach.{HasReach, IsWholeReach};
 
-    /// Marks the first module that has this delay, with the wires that it drives, if modules are marked and none of them has it.
+    /// Marks a module that has this delay, with the wires that it drives, if modules are marked and none of them has it.
     pub(crate) fn add_witness(&mut self, old: &Netlist, new: &Netlist, delay: u32)
         requires revision { IsRevision old.now new.now }
         requires whole { IsWholeReach old.now new.now self.old.modules.items self.old.wires.items }
@@ -20,13 +20,13 @@ impl Reached {
     }
 }
 
-/// The first module that has this delay. `None` if a marked one has it, or if none is marked.
+/// A module that has this delay. `None` if a marked one has it, or if none is marked.
 fn find_witness(netlist: &Netlist, marks: &[bool], delay: u32) -> Option<ModuleId>
     requires { length marks.now ≡ length netlist.now.modules }
     ensures { IfSome result (λ id. id.0 < length netlist.now.modules) }
 {
     if lack_delay(netlist, marks, delay) {
-        first_with(netlist, delay)
+        one_with(netlist, delay)
     } else {
         None
     }
@@ -46,6 +46,18 @@ fn lack_delay(netlist: &Netlist, marks: &[bool], delay: u32) -> bool
         }
     }
     is_any_marked
+}
+
+/// The module that the netlist names as one of the least delay, if it has this delay, and otherwise the first that has it.
+fn one_with(netlist: &Netlist, delay: u32) -> Option<ModuleId>
+    ensures { IfSome result (λ id. id.0 < length netlist.now.modules) }
+{
+    let named = netlist.fastest();
+    if named.0 < netlist.module_slots() && has_delay(netlist, named, delay) {
+        Some(named)
+    } else {
+        first_with(netlist, delay)
+    }
 }
 
 fn first_with(netlist: &Netlist, delay: u32) -> Option<ModuleId>

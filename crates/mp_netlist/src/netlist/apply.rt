@@ -11,21 +11,19 @@ use mp_records::{
 use std::alloc::AllocError;
 
 impl Netlist {
-    ghost use Rattle.std.specs.Prelude.{◌≡◌, ◌<◌, [], ◌∷◌, ◌++◌, Ok, None, Some, length, IfOk, IfErr, OnOk, OnErr, IsTrue, map, option_map, string_bytes};
+    ghost use Rattle.std.specs.Prelude.{◌≡◌, ◌<◌, [], ◌∷◌, ◌++◌, Ok, None, Some, length, IfOk, IfErr, OnOk, OnErr, map, option_map, string_bytes};
     ghost use Rattle.mp_records.specs.declared.edit.Edit.TheVariants.{Single};
     ghost use Rattle.mp_records.specs.declared.single_edit.SingleEdit.TheVariants.{AddModule};
-    ghost use Rattle.mp_records.specs.declared.edit_error.EditError.TheVariants.{OutOfMemory};
     ghost use Rattle.mp_records.specs.PortChanges.{with_input, with_input_delay, with_output, with_delay};
     ghost use Rattle.mp_netlist.specs.Circuit.{IsCircuit, wire_at, module_at, wire_named, module_named, bundle_named};
-    ghost use Rattle.mp_netlist.specs.Edits.{after, after_single, RefusedBy, takes_memory, single_takes_memory, refusal, edited, wire_refusal, wire_removal_refusal, module_refusal, module_removal_refusal, bundle_refusal, bundle_removal_refusal, input_refusal, output_refusal, input_delay_refusal, delay_refusal, stimulus_refusal, clearing_refusal, with_wire_record, with_new_wire, input_of, output_of, new_module, with_new_module, new_bundle, with_new_bundle, with_bundle, with_stimulus, without_stimulus, with_wire, with_module, wire_id, module_id, bundle_id};
+    ghost use Rattle.mp_netlist.specs.Edits.{after, after_single, RefusedBy, refusal, edited, wire_refusal, wire_removal_refusal, module_refusal, module_removal_refusal, bundle_refusal, bundle_removal_refusal, input_refusal, output_refusal, input_delay_refusal, delay_refusal, stimulus_refusal, clearing_refusal, with_wire_record, with_new_wire, input_of, output_of, new_module, with_new_module, new_bundle, with_new_bundle, with_bundle, with_stimulus, without_stimulus, with_wire, with_module, wire_id, module_id, bundle_id};
 
-    /// Makes the edit. The error is the first check that fails; or `OutOfMemory`, which only a batch and an edit that adds a thing or sets a stimulus
-    /// can get. A batch is made as a whole, or refused for the first of its edits that is refused: with `InBatch`, or with `OutOfMemory` if memory
-    /// runs out before that. A refused edit leaves the netlist as it was.
+    /// Makes the edit. The error is the first check that fails; or `OutOfMemory`, which any edit can get, also one that only removes a thing or sets a
+    /// delay: what it changes may have to be made anew where other copies of the netlist share it. A batch is made as a whole, or refused for the first
+    /// of its edits that is refused: with `InBatch`, or with `OutOfMemory` if memory runs out before that. A refused edit leaves the netlist as it was.
     pub fn apply(&mut self, edit: &Edit) -> Result<(), EditError>
         ensures ok { OnOk result (after self.old edit.now ≡ Ok self.new) }
         ensures refused { IfErr result (RefusedBy edit.now (after self.old edit.now)) }
-        ensures memory { IfErr result (λ error. error ≡ OutOfMemory → IsTrue (takes_memory edit.now)) }
         ensures err { OnErr result (self.new ≡ self.old) }
     {
         match edit {
@@ -41,7 +39,6 @@ impl Netlist {
     pub(crate) fn apply_single(&mut self, edit: &SingleEdit) -> Result<(), EditError>
         ensures ok { OnOk result (after_single self.old edit.now ≡ Ok self.new) }
         ensures refused { IfErr result (RefusedBy (Single edit.now) (after_single self.old edit.now)) }
-        ensures memory { IfErr result (λ error. error ≡ OutOfMemory → IsTrue (single_takes_memory edit.now)) }
         ensures err { OnErr result (self.new ≡ self.old) }
     {
         if let SingleEdit::AddModule(new) = edit {
@@ -71,36 +68,35 @@ impl Netlist {
     pub(crate) fn make_single(&mut self, edit: &SingleEdit) -> Result<(), AllocError>
         requires { refusal self.old edit.now ≡ None }
         ensures ok { OnOk result (self.new ≡ edited self.old edit.now) }
-        ensures memory { OnErr result (IsTrue (single_takes_memory edit.now)) }
         ensures err { OnErr result (self.new ≡ self.old) }
     {
         match edit {
             SingleEdit::AddWire { name, width, level } => self.add_wire(name, *width, *level),
-            SingleEdit::RemoveWire { wire } => Ok(self.remove_wire(wire)),
+            SingleEdit::RemoveWire { wire } => self.remove_wire(wire),
             SingleEdit::AddModule(new) => self.make_module(new.get()),
-            SingleEdit::RemoveModule { module } => Ok(self.remove_module(module)),
+            SingleEdit::RemoveModule { module } => self.remove_module(module),
             SingleEdit::AddBundle(new) => self.add_bundle(new.get()),
-            SingleEdit::RemoveBundle { bundle } => Ok(self.remove_bundle(bundle)),
-            SingleEdit::RewireInput { module, port, wire } => Ok(self.rewire_input(
+            SingleEdit::RemoveBundle { bundle } => self.remove_bundle(bundle),
+            SingleEdit::RewireInput { module, port, wire } => self.rewire_input(
                 module,
                 *port,
                 wire.get(),
-            )),
-            SingleEdit::RewireOutput { module, port, wire } => Ok(self.rewire_output(
+            ),
+            SingleEdit::RewireOutput { module, port, wire } => self.rewire_output(
                 module, *port, wire,
-            )),
+            ),
             SingleEdit::SetInputDelay {
                 module,
                 port,
                 delay,
-            } => Ok(self.set_input_delay(module, *port, *delay)),
+            } => self.set_input_delay(module, *port, *delay),
             SingleEdit::SetDelay {
                 module,
                 port,
                 delay,
-            } => Ok(self.set_delay(module, *port, *delay)),
+            } => self.set_delay(module, *port, *delay),
             SingleEdit::SetStimulus { wire, changes } => self.set_stimulus(wire, changes),
-            SingleEdit::ClearStimulus { wire } => Ok(self.clear_stimulus(wire)),
+            SingleEdit::ClearStimulus { wire } => self.clear_stimulus(wire),
         }
     }
 
@@ -125,16 +121,17 @@ impl Netlist {
         ensures err { OnErr result (self.new ≡ self.old) }
     {
         let number = self.wires.len() as u32;
-        self.modules.add_mark(WireId(number))?;
+        self.modules.add_wire(WireId(number))?;
         self.wires.push(added)
     }
 
-    fn remove_wire(&mut self, name: &Name)
+    fn remove_wire(&mut self, name: &Name) -> Result<(), AllocError>
         requires { wire_removal_refusal self.old name.now ≡ None }
-        ensures { self.new ≡ with_wire self.old (wire_id self.old name.now).0 None }
+        ensures ok { OnOk result (self.new ≡ with_wire self.old (wire_id self.old name.now).0 None) }
+        ensures err { OnErr result (self.new ≡ self.old) }
     {
         let id = self.id_of(name);
-        self.wires.remove(id.0);
+        self.wires.remove(id.0)
     }
 
     /// Adds a module that no check refuses.
@@ -175,12 +172,13 @@ impl Netlist {
         self.modules.push(added)
     }
 
-    fn remove_module(&mut self, name: &Name)
+    fn remove_module(&mut self, name: &Name) -> Result<(), AllocError>
         requires { module_removal_refusal self.old name.now ≡ None }
-        ensures { self.new ≡ with_module self.old (module_id self.old name.now).0 None }
+        ensures ok { OnOk result (self.new ≡ with_module self.old (module_id self.old name.now).0 None) }
+        ensures err { OnErr result (self.new ≡ self.old) }
     {
         let id = self.module_id(name);
-        self.modules.remove(id.0);
+        self.modules.remove(id.0)
     }
 
     fn add_bundle(&mut self, new: &NewBundle) -> Result<(), AllocError>
@@ -207,54 +205,64 @@ impl Netlist {
         self.bundles.push(added)
     }
 
-    fn remove_bundle(&mut self, name: &Name)
+    fn remove_bundle(&mut self, name: &Name) -> Result<(), AllocError>
         requires { bundle_removal_refusal self.old name.now ≡ None }
-        ensures { self.new ≡ with_bundle self.old (bundle_id self.old name.now).0 None }
+        ensures ok { OnOk result (self.new ≡ with_bundle self.old (bundle_id self.old name.now).0 None) }
+        ensures err { OnErr result (self.new ≡ self.old) }
     {
         let id = self.bundle_id(name);
-        self.bundles.remove(id.0);
+        self.bundles.remove(id.0)
     }
 
-    fn rewire_input(&mut self, name: &Name, port: u64, wire: &Name)
+    fn rewire_input(&mut self, name: &Name, port: u64, wire: &Name) -> Result<(), AllocError>
         requires { input_refusal self.old name.now port wire.now ≡ None }
-        ensures { self.new ≡ with_module self.old (module_id self.old name.now).0
-            (option_map (with_input port (wire_id self.old wire.now)) (module_at self.old (module_id self.old name.now).0)) }
+        ensures ok { OnOk result (self.new ≡ with_module self.old (module_id self.old name.now).0
+            (option_map (with_input port (wire_id self.old wire.now)) (module_at self.old (module_id self.old name.now).0))) }
+        ensures err { OnErr result (self.new ≡ self.old) }
     {
         let id = self.module_id(name);
         let read = self.id_of(wire);
         let port = port as usize;
-        self.modules.change(id.0, NewInput { port, wire: read });
+        self.modules.change(id.0, NewInput { port, wire: read })
     }
 
-    fn rewire_output(&mut self, name: &Name, port: u64, wire: &Option<Boxed<Name>>)
+    fn rewire_output(
+        &mut self,
+        name: &Name,
+        port: u64,
+        wire: &Option<Boxed<Name>>,
+    ) -> Result<(), AllocError>
         requires { output_refusal self.old name.now port wire.now ≡ None }
-        ensures { self.new ≡ with_module self.old (module_id self.old name.now).0
-            (option_map (with_output port (option_map (wire_id self.old) wire.now)) (module_at self.old (module_id self.old name.now).0)) }
+        ensures ok { OnOk result (self.new ≡ with_module self.old (module_id self.old name.now).0
+            (option_map (with_output port (option_map (wire_id self.old) wire.now)) (module_at self.old (module_id self.old name.now).0))) }
+        ensures err { OnErr result (self.new ≡ self.old) }
     {
         let id = self.module_id(name);
         let driven = self.driven_id(wire);
         let port = port as usize;
-        self.modules.change(id.0, NewOutput { port, wire: driven });
+        self.modules.change(id.0, NewOutput { port, wire: driven })
     }
 
-    fn set_input_delay(&mut self, name: &Name, port: u64, delay: u64)
+    fn set_input_delay(&mut self, name: &Name, port: u64, delay: u64) -> Result<(), AllocError>
         requires { input_delay_refusal self.old name.now port delay ≡ None }
-        ensures { self.new ≡ with_module self.old (module_id self.old name.now).0
-            (option_map (with_input_delay port delay) (module_at self.old (module_id self.old name.now).0)) }
+        ensures ok { OnOk result (self.new ≡ with_module self.old (module_id self.old name.now).0
+            (option_map (with_input_delay port delay) (module_at self.old (module_id self.old name.now).0))) }
+        ensures err { OnErr result (self.new ≡ self.old) }
     {
         let id = self.module_id(name);
         let (port, delay) = (port as usize, delay as u32);
-        self.modules.change(id.0, NewInputDelay { port, delay });
+        self.modules.change(id.0, NewInputDelay { port, delay })
     }
 
-    fn set_delay(&mut self, name: &Name, port: u64, delay: u64)
+    fn set_delay(&mut self, name: &Name, port: u64, delay: u64) -> Result<(), AllocError>
         requires { delay_refusal self.old name.now port delay ≡ None }
-        ensures { self.new ≡ with_module self.old (module_id self.old name.now).0
-            (option_map (with_delay port delay) (module_at self.old (module_id self.old name.now).0)) }
+        ensures ok { OnOk result (self.new ≡ with_module self.old (module_id self.old name.now).0
+            (option_map (with_delay port delay) (module_at self.old (module_id self.old name.now).0))) }
+        ensures err { OnErr result (self.new ≡ self.old) }
     {
         let id = self.module_id(name);
         let (port, delay) = (port as usize, delay as u32);
-        self.modules.change(id.0, NewDelay { port, delay });
+        self.modules.change(id.0, NewDelay { port, delay })
     }
 
     fn set_stimulus(&mut self, name: &Name, changes: &Changes) -> Result<(), AllocError>
@@ -265,16 +273,16 @@ impl Netlist {
     {
         let stimulus = changes.to_stimulus(self.wires.allocator())?;
         let id = self.id_of(name);
-        self.wires.change(id.0, NewStimulus { stimulus });
-        Ok(())
+        self.wires.change(id.0, NewStimulus { stimulus })
     }
 
-    fn clear_stimulus(&mut self, name: &Name)
+    fn clear_stimulus(&mut self, name: &Name) -> Result<(), AllocError>
         requires { clearing_refusal self.old name.now ≡ None }
-        ensures { self.new ≡ with_wire self.old (wire_id self.old name.now).0
-            (option_map without_stimulus (wire_at self.old (wire_id self.old name.now).0)) }
+        ensures ok { OnOk result (self.new ≡ with_wire self.old (wire_id self.old name.now).0
+            (option_map without_stimulus (wire_at self.old (wire_id self.old name.now).0))) }
+        ensures err { OnErr result (self.new ≡ self.old) }
     {
         let id = self.id_of(name);
-        self.wires.change(id.0, NoStimulus);
+        self.wires.change(id.0, NoStimulus)
     }
 }

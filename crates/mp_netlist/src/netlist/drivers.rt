@@ -1,31 +1,39 @@
 //! What drives a wire of a netlist.
-ghost use Rattle.std.specs.Prelude.{◌≡◌, ◌<◌, ◌^◌, All, length};
-ghost use Rattle.mp_netlist.specs.declared.driver.Driver.TheVariants.{Nothing};
-ghost use Rattle.mp_netlist.specs.Drivers.{port_from, driver_from, is_free_for};
-ghost use Rattle.mp_netlist.specs.DriverSearch.{HasFewPorts};
+ghost use Rattle.std.specs.Prelude.{◌≡◌};
+ghost use Rattle.mp_netlist.specs.Drivers.{is_free_for};
 
 use crate::driver::Driver;
 use crate::netlist::Netlist;
-use mp_records::{ModuleId, ModuleRecord, Output, WireId};
+use mp_records::{ModuleId, WireId};
 
 impl Netlist {
-    ghost use Rattle.std.specs.Prelude.{◌≡◌, is_some};
-    ghost use Rattle.mp_netlist.specs.Circuit.{stimulus_at};
+    ghost use Rattle.std.specs.Prelude.{◌≡◌, ℕ, true, is_some, IfSome};
+    ghost use Rattle.mp_records.specs.NamedWires.{module_names};
+    ghost use Rattle.mp_netlist.specs.Around.{is_in};
+    ghost use Rattle.mp_netlist.specs.Slots.{stands_and};
+    ghost use Rattle.mp_netlist.specs.Circuit.{module_at, stimulus_at};
     ghost use Rattle.mp_netlist.specs.Drivers.{driver};
 
     /// What drives the wire of this number: nothing if there is none.
     pub fn driver_of(&self, wire: WireId) -> Driver
         ensures { result ≡ driver self.now wire.0 }
     {
-        let modules = self.modules.as_slice();
+        let modules = &self.modules;
         if self.has_stimulus(wire) {
             // No port drives such a wire, and texts may set one wire many times.
             return Driver::Stimulus;
         }
-        if !self.modules.may_drive(wire) {
-            return Driver::Nothing;
+        match modules.port_at(wire) {
+            Some((id, port)) => Driver::Port(id, port),
+            None => Driver::Nothing,
         }
-        driver_among(modules, wire)
+    }
+
+    /// The modules that are at a wire, and others that were; `None` where that isn't known, as in a netlist that isn't a copy.
+    pub fn around(&self, wire: WireId) -> Option<&[u32]>
+        ensures { IfSome result (λ row. (m : ℕ) → stands_and (module_names wire.0) (module_at self.now m) ≡ true → is_in m row.now ≡ true) }
+    {
+        self.modules.around(wire)
     }
 
     /// Whether the wire of this number exists and has a stimulus.
@@ -48,35 +56,4 @@ pub(crate) fn is_free_for(id: ModuleId, port: u64, driver: Driver) -> bool
         Driver::Stimulus => false,
         Driver::Port(other, output) => other.0 == id.0 && u64::from(output) == port,
     }
-}
-
-/// The module and the port that drive the wire, or nothing.
-fn driver_among(modules: &[Option<ModuleRecord>], wire: WireId) -> Driver
-    requires few { length modules.now < 2 ^ 32 }
-    requires forms { All HasFewPorts modules.now }
-    ensures { result ≡ driver_from 0 modules.now wire.0 Nothing }
-{
-    for (m, slot) in modules.iter().enumerate() {
-        if let Some(found) = slot {
-            if let Some(port) = port_among(found.outputs.as_slice(), wire) {
-                return Driver::Port(ModuleId(m as u32), port);
-            }
-        }
-    }
-    Driver::Nothing
-}
-
-/// The port that has the wire as its output.
-fn port_among(ports: &[Output], wire: WireId) -> Option<u32>
-    requires { length ports.now < 2 ^ 32 }
-    ensures { result ≡ port_from 0 ports.now wire.0 }
-{
-    for (p, port) in ports.iter().enumerate() {
-        if let Some(named) = port.wire {
-            if named.0 == wire.0 {
-                return Some(p as u32);
-            }
-        }
-    }
-    None
 }

@@ -88,9 +88,12 @@ impl Netlist {
 
     /// A wire that the last module drives, if that module exists and drives one. The wires of a new module are often near it.
     fn last_driven(&self) -> WireId {
-        match self.modules.as_slice() {
-            [.., Some(last)] => first_driven(last.outputs.as_slice()),
-            _ => WireId(0),
+        match self
+            .modules
+            .get((self.modules.len() as u32).wrapping_sub(1))
+        {
+            Some(last) => first_driven(last.outputs.as_slice()),
+            None => WireId(0),
         }
     }
 

@@ -1,6 +1,7 @@
 //! The readers of a wire.
-ghost use Rattle.std.specs.Prelude.{◌≡◌, ◌<◌, ◌^◌, ◌++◌, All, OnOk, length};
-ghost use Rattle.std.specs.List.{enumerate_from, flat_map};
+ghost use Rattle.std.specs.Prelude.{◌≡◌, ◌<◌, ◌^◌, ◌++◌, OnOk, length};
+ghost use Rattle.std.specs.List.{enumerate_from};
+ghost use Rattle.std.specs.Option.{option_copied};
 ghost use Rattle.mp_netlist.specs.Readers.{ports_at, readers_in};
 ghost use Rattle.mp_netlist.specs.DriverSearch.{HasFewInputs};
 
@@ -18,27 +19,27 @@ impl Netlist {
         ensures { IfOk result (λ found. found.items ≡ readers self.now wire.0) }
     {
         let mut found = Vec::new(self.modules.allocator());
-        push_readers(&mut found, self.modules.as_slice(), wire)?;
+        for m in 0..self.module_slots() {
+            push_module(&mut found, ModuleId(m), self.module(ModuleId(m)), wire)?;
+        }
         Ok(found)
     }
 }
 
-/// Adds the input ports of the modules that read the wire.
-fn push_readers(
+/// Adds the input ports of a module, if there is one, that read the wire.
+fn push_module(
     found: &mut Vec<(ModuleId, u32)>,
-    modules: &[Option<ModuleRecord>],
+    id: ModuleId,
+    standing: Option<&ModuleRecord>,
     wire: WireId,
 ) -> Result<(), AllocError>
-    requires few { length modules.now < 2 ^ 32 }
-    requires forms { All HasFewInputs modules.now }
-    ensures { OnOk result (found.new.items ≡ found.old.items ++ flat_map (readers_in wire.0) (enumerate_from 0 modules.now)) }
+    requires { HasFewInputs (option_copied standing) }
+    ensures { OnOk result (found.new.items ≡ found.old.items ++ readers_in wire.0 (id.0, option_copied standing.entry)) }
 {
-    for (m, slot) in modules.iter().enumerate() {
-        if let Some(part) = slot {
-            push_ports(found, ModuleId(m as u32), part.inputs.as_slice(), wire)?;
-        }
+    match standing {
+        Some(part) => push_ports(found, id, part.inputs.as_slice(), wire),
+        None => Ok(()),
     }
-    Ok(())
 }
 
 /// Adds the input ports of a module that read the wire.

@@ -37,7 +37,7 @@ fn remove(netlist: &mut Netlist, id: ModuleId) -> Result<(), AllocError>
     let removal = Edit::Single(SingleEdit::RemoveModule { module });
     match netlist.apply(&removal) {
         Ok(()) => Ok(()),
-        // A module that exists can be removed, and no removal takes memory.
-        Err(_) => unreachable!(),
+        // A module that exists can be removed, if there is memory for it.
+        Err(_) => Err(AllocError),
     }
 }

@@ -1,14 +1,23 @@
 -- What is marked as reached.
-use Rattle.std.proofs.Common.{◌≡◌, ℕ, ◌+◌, ◌<◌, ◌≤◌, Bool, true, false, List, Some, None, length, slice_set, refl, ap, sym, subst, ◌∙◌, arith, inl, inr}
-use Rattle.std.proofs.lemmas.Bool.{cases_lt, cases_eq}
+use Rattle.std.proofs.Common.{◌≡◌, ◌⊎◌, ◌==◌, ℕ, ◌+◌, ◌<◌, ◌≤◌, Bool, true, false, List, Some, None, length, slice_index_or, slice_set, take, refl, ap, sym, subst, ◌∙◌, arith, inl, inr}
+use Rattle.std.specs.Prelude.{Any, IsSome}
+use Rattle.std.specs.List.{list_any}
+use Rattle.std.proofs.lemmas.Bool.{cases_lt, cases_eq, or_cases, or_left, eq-eqb, eqb-true}
+use Rattle.std.proofs.lemmas.List.Folds.{list_any-from_Any, list_any_more}
 use Rattle.std.proofs.lemmas.List.{get_or_past, get_or-set_same, get_or-set_other, length-set}
+use Rattle.mp_records.specs.NamedWires.{is_wire, module_names}
+use Rattle.mp_records.specs.declared.ports.Input.{Input}
+use Rattle.mp_records.specs.declared.ports.Output.{Output}
+use Rattle.mp_netlist.specs.Slots.{stands_and}
 use Rattle.mp_netlist.specs.Circuit.{Circuit, IsCircuit, Drives, module_at}
+use Rattle.mp_model.proofs.SlotLemmas.{some_within}
 use Rattle.mp_partition.specs.runs.Marks.{is_marked}
 use Rattle.mp_depend.specs.work.Revisions.{IsRevision}
 use Rattle.mp_near.specs.reach.Marks.{AreGrown}
 use Rattle.mp_partition.specs.regions.Readers.{Reads}
 use Rattle.mp_near.specs.region.Picks.{AreWiresOf}
-use Rattle.mp_near.specs.reach.Reach.{IsClosedBetween, IsSetSame, IsReach, IsWholeReach, ReadsNone}
+use Rattle.mp_near.specs.reach.Reach.{AreReadersMarked, IsClosedBetween, IsSetSame, IsReach, IsWholeReach, ReadsNone}
+use Rattle.mp_netlist.specs.Around.{is_in}
 use Rattle.mp_near.proofs.lemmas.reach.MarkLemmas.{grown_none, grown_more}
 use Rattle.mp_near.proofs.lemmas.reach.StandLemmas.{driven_low, marked_within}
 
@@ -126,29 +135,74 @@ reach_more old new modules wires half next i low one two before after reach = re
     here_marked : (m : ℕ) → m ≡ i → is_marked (slice_set modules i true) m ≡ true
     here_marked m here = ap (λ k. is_marked (slice_set modules i true) k) here ∙ get_or-set_same modules i true false low
 
--- the next module is marked, or reads no marked wire
-pub between_next : (n : Circuit) (modules wires : List Bool) (from i : ℕ) → (is_marked modules i ≡ false → ReadsNone n wires i) → IsClosedBetween n modules wires from i → IsClosedBetween n modules wires from (i + 1)
-between_next n modules wires from i none are m at low not = elim (cases_eq m i) as (λ _. ReadsNone n wires m) [
-  | inl here ↦ subst (ReadsNone n wires) (sym here) (none (ap (λ k. is_marked modules k) (sym here) ∙ not))
-  | inr other ↦ are m at (omega arith) not
+-- the next wire isn't marked, or has marked readers alone
+pub between_next : (n : Circuit) (modules wires : List Bool) (from i : ℕ) → (is_marked wires i ≡ true → AreReadersMarked n modules i) → IsClosedBetween n modules wires from i → IsClosedBetween n modules wires from (i + 1)
+between_next n modules wires from i one are w at low is = elim (cases_eq w i) as (λ _. AreReadersMarked n modules w) [
+  | inl here ↦ subst (AreReadersMarked n modules) (sym here) (one (ap (λ k. is_marked wires k) (sym here) ∙ is))
+  | inr other ↦ are w at (omega arith) is
 ]
 
--- of the modules below a number, and of those from there on
-pub whole_between : (old new : Circuit) (modules wires : List Bool) (middle end : ℕ) → length new.modules ≤ end → IsReach old new modules wires → IsClosedBetween new modules wires 0 middle → IsClosedBetween new modules wires middle end →
+-- of the wires below a number, and of those from there on
+pub whole_between : (old new : Circuit) (modules wires : List Bool) (middle end : ℕ) → length new.wires ≤ end → IsReach old new modules wires → IsClosedBetween new modules wires 0 middle → IsClosedBetween new modules wires middle end →
     IsWholeReach old new modules wires
 whole_between old new modules wires middle end all reach below above = record {
   reach = reach;
-  closed = λ m not w reads. elim (cases_lt m end) as (λ _. is_marked wires w ≡ false) [
-    | inl low ↦ elim (cases_lt m middle) as (λ _. is_marked wires w ≡ false) [
-      | inl here ↦ below m (omega arith) here not w reads
-      | inr past ↦ above m past low not w reads
-    ]
-    | inr past ↦
-        let none : module_at new m ≡ None = get_or_past new.modules m None (omega arith) in
-        let there : module_at new m ≡ Some reads.part = reads.stands in
-        absurd (let no : ⊥ = cc in no)
-  ];
+  closed = λ m not w reads. by m not w reads (is_marked wires w) refl;
 }
+  where
+    marked : (w : ℕ) → is_marked wires w ≡ true → AreReadersMarked new modules w
+    marked w is =
+        let low = marked_within wires w is in
+        let size = reach.wire_count in
+        elim (cases_lt w middle) as (λ _. AreReadersMarked new modules w) [
+          | inl here ↦ below w (omega arith) here is
+          | inr past ↦ above w past (omega (arith, low, size, all)) is
+        ]
+
+    by : (m : ℕ) → is_marked modules m ≡ false → (w : ℕ) → Reads new m w → (b : Bool) → is_marked wires w ≡ b → is_marked wires w ≡ false
+    by m not w reads true is = let yes = marked w is m reads in absurd (let no : ⊥ = cc in no)
+    by m not w reads false is = is
+
+-- a module that reads a wire is at it
+pub reader_at : (n : Circuit) (m w : ℕ) → Reads n m w → stands_and (module_names w) (module_at n m) ≡ true
+reader_at n m w reads = ap (stands_and (module_names w)) reads.stands ∙ or_left (list_any (λ (i : Input). i.wire.0 == w) reads.part.inputs) (list_any (λ (o : Output). is_wire o.wire w) reads.part.outputs) here
+  where
+    at : Any (λ (i : Input). (i.wire.0 == w) ≡ true) reads.part.inputs
+    at = (reads.input.0, reads.port, reads.input.1, reads.input.2, eq-eqb reads.port.wire.0 w reads.wire)
+
+    here : list_any (λ (i : Input). i.wire.0 == w) reads.part.inputs ≡ true
+    here = list_any-from_Any (λ (i : Input). i.wire.0 == w) reads.part.inputs at
+
+-- of the modules so far, those that read the wire are marked
+abbrev pub AreMarkedIn : Circuit → List Bool → ℕ → List ℕ → Type 0
+AreMarkedIn n modules w row = (m : ℕ) → is_in m row ≡ true → Reads n m w → is_marked modules m ≡ true
+
+-- of one more
+pub marked_more : (n : Circuit) (before after : List Bool) (w : ℕ) (row : List ℕ) (i d : ℕ) → i < length row → AreGrown before after → (Reads n (slice_index_or row i d) w → is_marked after (slice_index_or row i d) ≡ true) →
+    AreMarkedIn n before w (take i row) → AreMarkedIn n after w (take (i + 1) row)
+marked_more n before after w row i d within grown one are m is reads =
+    by (or_cases (is_in m (take i row)) (slice_index_or row i d == m) (sym (list_any_more (λ k. k == m) row i d within) ∙ is))
+  where
+    by : (is_in m (take i row) ≡ true) ⊎ ((slice_index_or row i d == m) ≡ true) → is_marked after m ≡ true
+    by (inl had) = grown.kept m (are m had reads)
+    by (inr same) =
+        let this : slice_index_or row i d ≡ m = eqb-true (slice_index_or row i d) m same in
+        subst (λ k. is_marked after k ≡ true) this (one (subst (λ k. Reads n k w) (sym this) reads))
+
+-- a module that isn't heard of reads no marked wire, or is marked
+pub unheard : (old new : Circuit) (modules wires : List Bool) (m w : ℕ) → IsReach old new modules wires → is_marked wires w ≡ true → (m < length modules → is_marked modules m ≡ false → ReadsNone new wires m) → Reads new m w → is_marked modules m ≡ true
+unheard old new modules wires m w reach is none reads = by (is_marked modules m) refl
+  where
+    stands : IsSome (module_at new m)
+    stands = subst IsSome (sym reads.stands) refl
+
+    by : (b : Bool) → is_marked modules m ≡ b → is_marked modules m ≡ true
+    by true e = e
+    by false e =
+        let low = some_within new.modules m stands in
+        let size = reach.module_count in
+        let not = none (omega (arith, low, size)) e w reads in
+        absurd (let no : ⊥ = cc in no)
 
 -- the wires of marked modules are marked beside those that were
 pub wires_are : (old new : Circuit) (modules wires all : List Bool) (count : ℕ) → length modules ≤ count → AreGrown wires all → MarkedBelow (Reads old) modules count all → MarkedBelow (Reads new) modules count all →

@@ -1,16 +1,15 @@
 -- Netlists from which the modules of other parts are removed, one after the other.
 use Rattle.std.proofs.Common.{◌≡◌, ℕ, ◌+◌, ◌<◌, ◌≤◌, true, List, Option, None, Some, Ok, length, get_or, refl, sym, ap, subst, ◌∙◌, arith, inl, inr, true≢false}
-use Rattle.std.specs.Prelude.{unwrap_or, IsTrue}
+use Rattle.std.specs.Prelude.{unwrap_or}
 use Rattle.std.proofs.lemmas.Bool.{cases_lt, cases_eq}
 use Rattle.std.proofs.lemmas.List.{get_or_past, get_or-set_same, get_or-set_other, length-set}
 use Rattle.mp_records.specs.declared.module_record.ModuleRecord.{ModuleRecord}
 use Rattle.mp_records.specs.declared.edit.Edit.TheVariants.{Single}
 use Rattle.mp_records.specs.declared.single_edit.SingleEdit.TheVariants.{RemoveModule}
 use Rattle.mp_records.specs.declared.edit_error.EditError.{EditError}
-use Rattle.mp_records.specs.declared.edit_error.EditError.TheVariants.{OutOfMemory}
 use Rattle.mp_netlist.specs.Slots.{has_name, number_named}
 use Rattle.mp_netlist.specs.Circuit.{Circuit, IsCircuit, module_at, module_named}
-use Rattle.mp_netlist.specs.Edits.{RefusedBy, after, refusal, edited, takes_memory, unless, with_module}
+use Rattle.mp_netlist.specs.Edits.{after, refusal, edited, unless, with_module}
 use Rattle.mp_netlist.proofs.TableLemmas.{search_from_lookup, equal_name, same_name}
 use Rattle.mp_model.proofs.SlotLemmas.{slot_within}
 use Rattle.mp_partition.specs.regions.Regions.{partition_of}
@@ -87,19 +86,6 @@ removed n next m r ok at made = by (refusal n (RemoveModule r.name)) made
     by : (refused : Option EditError) → unless refused (edited n (RemoveModule r.name)) ≡ Ok next → IsWithout n m next
     by None is = let same : edited n (RemoveModule r.name) ≡ next = cc in subst (IsWithout n m) same here
     by (Some error) is = cc
-
--- the removal of a module that stands isn't refused
-pub removal_is_made : (n : Circuit) (m : ℕ) (r : ModuleRecord) (name : List ℕ) (error : EditError) → IsCircuit n → module_at n m ≡ Some r → name ≡ r.name
-    → RefusedBy (Single (RemoveModule name)) (after n (Single (RemoveModule name))) error → (error ≡ OutOfMemory → IsTrue (takes_memory (Single (RemoveModule name)))) → ⊥
-unfolding refusal
-removal_is_made n m r name error ok at same refused memory = by refused
-  where
-    none : refusal n (RemoveModule name) ≡ None
-    none = let found : module_named n name ≡ Some m = ap (module_named n) same ∙ number_of n ok m r at in rw found refl
-
-    by : RefusedBy (Single (RemoveModule name)) (after n (Single (RemoveModule name))) error → ⊥
-    by (inl judged) = let made = ap (λ o. unless o (edited n (RemoveModule name))) none in cc
-    by (inr (wants, made)) = true≢false (sym (memory wants))
 
 -- of the modules below a number those of other parts are removed
 pub record IsPartTo (n : Circuit) (homes : List ℕ) (k m : ℕ) (found : Circuit) : Type 0 where

@@ -4,4 +4,4 @@ use Rattle.mp_partition.specs.runs.Runs.{IsRun}
 use Rattle.mp_session.proofs.opening_version.first_run.Goals as goal
 
 pub returns : goal.returns
-returns g c = IfOk-weaker c.share.result _ _ (λ run same. subst (IsRun c.args.netlist.now) (sym same) c.in_ok-run.ensures) c.share.ensures
+returns g c = IfOk-weaker c.share-shared.result _ _ (λ run same. subst (IsRun c.args.netlist.now) (sym same) c.in_ok-run.ensures) c.share-shared.ensures

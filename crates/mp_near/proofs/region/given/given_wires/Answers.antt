@@ -1,13 +1,14 @@
-use Rattle.std.proofs.Common.{Bool, List, length, subst}
-use Rattle.std.proofs.lemmas.Result.{IfOk-weaker}
-use Rattle.mp_near.specs.region.Given.{AreMarksAt}
-use Rattle.mp_near.proofs.lemmas.region.GivenLemmas.{are_given}
+use Rattle.std.proofs.Common.{◌≡◌, length, subst, arith}
+use Rattle.mp_near.proofs.lemmas.region.GivenLemmas.{AreNoted, noted_more, are_given}
 use Rattle.mp_near.proofs.region.given.given_wires.Goals as goal
+
+pub loop-wire-preserved : goal.loop-wire-preserved
+loop-wire-preserved c =
+    rw c.in_ok-push.ensures.items
+    (noted_more c.args.new.now c.args.modules.now c.args.wires.now c.loop-wire.wire-index c.loop-wire.given.items c.is_given.result 0 c.loop-wire-test.true c.is_given.ensures c.loop-wire.invariant)
 
 pub returns : goal.returns
 returns c =
-    let new = c.args.new.now in
-    let wires = c.args.wires.now in
-    let outside = c.in_ok-outside.outside.items in
-    IfOk-weaker c.marks_at-given.result _ _ (λ given is. are_given new c.horizon-horizon.ensures.form c.args.modules.now outside wires given.items c.requires c.in_ok-outside.ensures
-    (subst (λ (marks : List Bool). AreMarksAt marks wires (length wires) given.items) c.as_slice.ensures.value is)) c.marks_at-given.ensures
+    let all : c.loop-wire.wire-index ≡ length c.args.wires.now = omega arith in
+    are_given c.args.new.now c.args.modules.now c.args.wires.now c.loop-wire.given.items
+    (subst (λ count. AreNoted c.args.new.now c.args.modules.now c.args.wires.now count c.loop-wire.given.items) all c.loop-wire.invariant)

@@ -3,6 +3,7 @@ use Rattle.mp_records.specs.declared.ids.WireId.{WireId}
 use Rattle.mp_netlist.specs.Circuit.{Circuit, IsCircuit, wire_at}
 use Rattle.mp_netlist.specs.Edits.{wire_id, with_wire, without_stimulus, clearing_refusal}
 use Rattle.mp_netlist.specs.Records.{circuit_of}
+use Rattle.mp_netlist.proofs.EitherLemmas.{in_either}
 use Rattle.mp_netlist.proofs.EditLemmas.{IsCircuit-cleared}
 use Rattle.mp_netlist.proofs.netlist.Netlist.clear_stimulus.Goals as goal
 
@@ -14,4 +15,7 @@ invariant_of-self c =
     let same = subst (λ (m : Circuit). c.id_of-id.result ≡ wire_id m name) (sym c.self.view_is) c.id_of-id.ensures in
     let id = ap (λ (w : WireId). w.0) same in
     let fits = subst (λ i. IsCircuit (with_wire n i (option_map without_stimulus (wire_at n i)))) (sym id) (IsCircuit-cleared n c.self.invariant.circuit name none) in
-    record { circuit = subst (λ slots. IsCircuit (record n { wires = slots })) (sym c.change.ensures) fits }
+    record {
+      circuit = in_either c.change.result (λ is. subst (λ slots. IsCircuit (record n { wires = slots })) (sym is) fits) (λ is. subst (λ slots. IsCircuit (record n { wires = slots })) (sym is) c.self.invariant.circuit)
+          c.change.ensures.ok c.change.ensures.err;
+    }

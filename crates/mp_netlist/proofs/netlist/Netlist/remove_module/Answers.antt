@@ -3,6 +3,7 @@ use Rattle.mp_records.specs.declared.ids.ModuleId.{ModuleId}
 use Rattle.mp_netlist.specs.Circuit.{Circuit, IsCircuit}
 use Rattle.mp_netlist.specs.Edits.{module_id, with_module, module_removal_refusal}
 use Rattle.mp_netlist.specs.Records.{circuit_of}
+use Rattle.mp_netlist.proofs.EitherLemmas.{in_either}
 use Rattle.mp_netlist.proofs.EditLemmas.{going_module, IsCircuit-without_module}
 use Rattle.mp_netlist.proofs.netlist.Netlist.remove_module.Goals as goal
 
@@ -15,4 +16,7 @@ invariant_of-self c =
     let id = ap (λ (i : ModuleId). i.0) same in
     let going = going_module n name none in
     let fits = subst (λ i. IsCircuit (with_module n i None)) (sym id) (IsCircuit-without_module n c.self.invariant.circuit name going) in
-    record { circuit = subst (λ slots. IsCircuit (record n { modules = slots })) (sym c.remove.ensures) fits }
+    record {
+      circuit = in_either c.remove.result (λ is. subst (λ slots. IsCircuit (record n { modules = slots })) (sym is) fits) (λ is. subst (λ slots. IsCircuit (record n { modules = slots })) (sym is) c.self.invariant.circuit)
+          c.remove.ensures.ok c.remove.ensures.err;
+    }

@@ -3,6 +3,7 @@ use Rattle.mp_records.specs.declared.ids.WireId.{WireId}
 use Rattle.mp_netlist.specs.Circuit.{Circuit, IsCircuit}
 use Rattle.mp_netlist.specs.Edits.{wire_id, with_wire, wire_removal_refusal}
 use Rattle.mp_netlist.specs.Records.{circuit_of}
+use Rattle.mp_netlist.proofs.EitherLemmas.{in_either}
 use Rattle.mp_netlist.proofs.EditLemmas.{free_wire, IsCircuit-without_wire}
 use Rattle.mp_netlist.proofs.netlist.Netlist.remove_wire.Goals as goal
 
@@ -15,4 +16,7 @@ invariant_of-self c =
     let id = ap (λ (w : WireId). w.0) same in
     let free = free_wire n name none in
     let fits = subst (λ i. IsCircuit (with_wire n i None)) (sym id) (IsCircuit-without_wire n c.self.invariant.circuit name none) in
-    record { circuit = subst (λ slots. IsCircuit (record n { wires = slots })) (sym c.remove.ensures) fits }
+    record {
+      circuit = in_either c.remove.result (λ is. subst (λ slots. IsCircuit (record n { wires = slots })) (sym is) fits) (λ is. subst (λ slots. IsCircuit (record n { wires = slots })) (sym is) c.self.invariant.circuit)
+          c.remove.ensures.ok c.remove.ensures.err;
+    }

@@ -4,6 +4,7 @@ use Rattle.mp_records.specs.PortChanges.{with_output}
 use Rattle.mp_netlist.specs.Circuit.{Circuit, IsCircuit, module_at}
 use Rattle.mp_netlist.specs.Edits.{module_id, wire_id, with_module, output_refusal}
 use Rattle.mp_netlist.specs.Records.{circuit_of}
+use Rattle.mp_netlist.proofs.EitherLemmas.{in_either}
 use Rattle.mp_netlist.proofs.EditLemmas.{IsCircuit-redirected}
 use Rattle.mp_netlist.proofs.netlist.Netlist.rewire_output.Goals as goal
 
@@ -18,4 +19,7 @@ invariant_of-self c =
     let kept = subst (λ i. IsCircuit (with_module n i (option_map (with_output c.args.port (option_map (wire_id n) c.args.wire.now)) (module_at n i)))) (sym id)
     (IsCircuit-redirected n c.self.invariant.circuit name c.args.port c.args.wire.now none) in
     let fits = subst (λ w. IsCircuit (with_module n c.module_id-id.result.0 (option_map (with_output c.args.port w) (module_at n c.module_id-id.result.0)))) (sym wire) kept in
-    record { circuit = subst (λ slots. IsCircuit (record n { modules = slots })) (sym c.change.ensures) fits }
+    record {
+      circuit = in_either c.change.result (λ is. subst (λ slots. IsCircuit (record n { modules = slots })) (sym is) fits) (λ is. subst (λ slots. IsCircuit (record n { modules = slots })) (sym is) c.self.invariant.circuit)
+          c.change.ensures.ok c.change.ensures.err;
+    }

@@ -4,6 +4,7 @@ use Rattle.mp_records.specs.PortChanges.{with_input_delay}
 use Rattle.mp_netlist.specs.Circuit.{Circuit, IsCircuit, module_at}
 use Rattle.mp_netlist.specs.Edits.{module_id, with_module, input_delay_refusal}
 use Rattle.mp_netlist.specs.Records.{circuit_of}
+use Rattle.mp_netlist.proofs.EitherLemmas.{in_either}
 use Rattle.mp_netlist.proofs.EditLemmas.{IsCircuit-input_delayed}
 use Rattle.mp_netlist.proofs.netlist.Netlist.set_input_delay.Goals as goal
 
@@ -16,4 +17,7 @@ invariant_of-self c =
     let id = ap (λ (m : ModuleId). m.0) same in
     let fits = subst (λ i. IsCircuit (with_module n i (option_map (with_input_delay c.args.port c.args.delay) (module_at n i)))) (sym id)
     (IsCircuit-input_delayed n c.self.invariant.circuit name c.args.port c.args.delay none) in
-    record { circuit = subst (λ slots. IsCircuit (record n { modules = slots })) (sym c.change.ensures) fits }
+    record {
+      circuit = in_either c.change.result (λ is. subst (λ slots. IsCircuit (record n { modules = slots })) (sym is) fits) (λ is. subst (λ slots. IsCircuit (record n { modules = slots })) (sym is) c.self.invariant.circuit)
+          c.change.ensures.ok c.change.ensures.err;
+    }

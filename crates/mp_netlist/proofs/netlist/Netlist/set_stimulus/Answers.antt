@@ -3,6 +3,7 @@ use Rattle.mp_records.specs.declared.ids.WireId.{WireId}
 use Rattle.mp_netlist.specs.Circuit.{Circuit, IsCircuit, wire_at}
 use Rattle.mp_netlist.specs.Edits.{wire_id, with_wire, with_stimulus, stimulus_refusal}
 use Rattle.mp_netlist.specs.Records.{circuit_of}
+use Rattle.mp_netlist.proofs.EitherLemmas.{in_either}
 use Rattle.mp_netlist.proofs.EditLemmas.{stimulus_early, IsCircuit-stimulated}
 use Rattle.mp_netlist.proofs.netlist.Netlist.set_stimulus.Goals as goal
 
@@ -20,4 +21,7 @@ invariant_of-self c =
     let id = ap (λ (w : WireId). w.0) same in
     let kept = subst (λ i. IsCircuit (with_wire n i (option_map (with_stimulus changes) (wire_at n i)))) (sym id) (IsCircuit-stimulated n c.self.invariant.circuit c.args.name.now changes none) in
     let fits = subst (λ s. IsCircuit (with_wire n c.id_of-id.result.0 (option_map (with_stimulus s) (wire_at n c.id_of-id.result.0)))) (sym c.in_ok-stimulus.ensures) kept in
-    record { circuit = subst (λ slots. IsCircuit (record n { wires = slots })) (sym c.change.ensures) fits }
+    record {
+      circuit = in_either c.change.result (λ is. subst (λ slots. IsCircuit (record n { wires = slots })) (sym is) fits) (λ is. subst (λ slots. IsCircuit (record n { wires = slots })) (sym is) c.self.invariant.circuit)
+          c.change.ensures.ok c.change.ensures.err;
+    }

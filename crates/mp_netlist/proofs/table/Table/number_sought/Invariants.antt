@@ -4,4 +4,4 @@ use Rattle.mp_netlist.proofs.table.Table.number_sought.Given as goal
 
 -- no thing before has the name
 abbrev pub invariant-loop-number : goal.invariant-loop-number
-invariant-loop-number g l = (k : ℕ) → k < l.number → has_name g.R.Named.name_of l.text (get_or l.slots k None) ≡ false
+invariant-loop-number g l = (k : ℕ) → k < l.number → has_name g.R.Named.name_of l.text (get_or l.self-inside.slots k None) ≡ false

@@ -1,5 +1,6 @@
-use Rattle.std.proofs.Common.{◌∙◌, arith}
-use Rattle.mp_near.proofs.lemmas.reach.MarkLemmas.{grown_set}
+use Rattle.std.proofs.Common.{◌∙◌, true, false, arith}
+use Rattle.std.proofs.lemmas.List.{get_or-set_same}
+use Rattle.mp_near.proofs.lemmas.reach.MarkLemmas.{grown_set, grown_more}
 use Rattle.mp_near.proofs.lemmas.reach.ReachLemmas.{driven_marked, reach_more}
 use Rattle.mp_near.proofs.reach.reached.Reached.add.Goals as goal
 
@@ -19,3 +20,9 @@ returns-clause-reach c =
 
 pub returns-clause-grown : goal.returns-clause-grown
 returns-clause-grown c = grown_set c.args.self.now.modules.items c.args.id.0 c.requires.low
+
+pub returns-clause-wires : goal.returns-clause-wires
+returns-clause-wires c = grown_more c.args.self.now.wires.items c.mark_outputs.new.marks.items c.mark_outputs-2.new.marks.items c.mark_outputs.ensures.grown c.mark_outputs-2.ensures.grown
+
+pub returns-clause-marked : goal.returns-clause-marked
+returns-clause-marked c = get_or-set_same c.args.self.now.modules.items c.args.id.0 true false c.requires.low

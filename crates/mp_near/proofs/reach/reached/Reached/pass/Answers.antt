@@ -1,10 +1,8 @@
-use Rattle.std.proofs.Common.{refl, arith}
-use Rattle.mp_near.proofs.lemmas.reach.ReachLemmas.{between_next}
+use Rattle.std.proofs.Common.{refl, ◌∙◌, arith}
 use Rattle.mp_near.proofs.reach.reached.Reached.pass.Goals as goal
-use Rattle.mp_near.proofs.reach.reached.Reached.pass.Goals.{then-hears+else-passed-eq0, else-hears}
 
-pub loop-m-init : goal.loop-m-init
-loop-m-init c = record {
+pub loop-w-init : goal.loop-w-init
+loop-w-init c = record {
   reach = c.requires.reach;
   few = omega arith;
   low = omega arith;
@@ -13,39 +11,26 @@ loop-m-init c = record {
   none = λ all. (refl, refl);
 }
 
-pub loop-m-preserved : goal.loop-m-preserved
-loop-m-preserved c =
-    let new = c.args.new.now in
-    let modules = c.loop-m.self.modules.items in
-    let wires = c.loop-m.self.wires.items in
-    let is = c.loop-m.invariant in
-    let test = c.loop-m-test.true in
-    elim c.if-hears.branch [
-      | then-hears+else-passed-eq0 w ↦
-          let few = is.few in
-          let some = w.if-passed-eq0.false in
-          rw (w.self-is, w.passed-is) (record {
-            reach = w.add.ensures.reach;
-            few = omega (arith, few);
-            low = omega arith;
-            end = omega (arith, test);
-            closed = λ k at low. absurd (omega (arith, at, low));
-            none = λ all. absurd (let no : ⊥ = omega (arith, few, some, all) in no);
-          })
-      | else-hears w ↦
-          let low = is.low in
-          rw (w.self-is, w.passed-is) (record {
-            reach = is.reach;
-            few = is.few;
-            low = omega (arith, low);
-            end = omega (arith, test);
-            closed = between_next new modules wires c.loop-m.passed.last c.loop-m.m (c.hears.ensures w.if-hears.false) is.closed;
-            none = is.none;
-          })
-    ]
+pub loop-w-preserved : goal.loop-w-preserved
+loop-w-preserved c =
+    let is = c.loop-w.invariant in
+    let few = is.few in
+    let test = c.loop-w-test.true in
+    let fewer = c.in-Some.ensures.fewer in
+    record {
+      reach = c.step.ensures.reach;
+      few = omega (arith, few, fewer);
+      low = c.in-Some.ensures.last;
+      end = omega (arith, test);
+      closed = c.in-Some.ensures.closed is.closed;
+      none = λ all.
+          let same = c.in-Some.ensures.same (omega (arith, few, fewer, all)) in
+          let before = is.none (omega (arith, few, fewer, all)) in
+          (same.0 ∙ before.0, same.1 ∙ before.1);
+    }
 
 pub returns-clause-last : goal.returns-clause-last
-returns-clause-last c = let low = c.loop-m.invariant.low in let end = c.loop-m.invariant.end in omega (arith, low, end)
+returns-clause-last c = let low = c.loop-w.invariant.low in let end = c.loop-w.invariant.end in omega (arith, low, end)
 
 pub returns-clause-closed : goal.returns-clause-closed
-returns-clause-closed c = λ k at low not. let over = c.loop-m-test.false in c.loop-m.invariant.closed k at (omega (arith, over, low)) not
+returns-clause-closed c = λ k at low is. let over = c.loop-w-test.false in c.loop-w.invariant.closed k at (omega (arith, over, low)) is

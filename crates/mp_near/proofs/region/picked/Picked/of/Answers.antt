@@ -5,9 +5,6 @@ use Rattle.mp_near.specs.declared.region.picked.Picked.{Picked}
 use Rattle.mp_near.proofs.lemmas.region.PickLemmas.{Known, are_picks}
 use Rattle.mp_near.proofs.region.picked.Picked.of.Goals as goal
 
-pub given_wires-requires : goal.given_wires-requires
-given_wires-requires c = subst (λ (ms : List Bool). length ms ≡ length c.args.change.now.new.now.modules) (sym c.as_slice-3.ensures.value) c.requires.reach.reach.module_count
-
 pub returns : goal.returns
 returns c =
     let old = c.args.change.now.old.now in

@@ -1,0 +1,9 @@
+use Rattle.std.proofs.Common.{◌≡◌, drop}
+use Rattle.std.specs.List.{list_any}
+use Rattle.mp_records.specs.NamedWires.{module_names}
+use Rattle.mp_netlist.specs.Slots.{stands_and}
+use Rattle.mp_netlist.proofs.module_table.ModuleTable.any_names.Given as goal
+
+-- what is left decides
+abbrev pub invariant-loop-m : goal.invariant-loop-m
+invariant-loop-m l = list_any (stands_and (module_names l.wire.0)) (drop l.m l.self) ≡ list_any (stands_and (module_names l.wire.0)) l.self
