@@ -5,7 +5,13 @@ use Rattle.mp_streams.specs.declared.failed.Failed.{Failed}
 use Rattle.mp_streams.proofs.FlushLemmas.{flushed, unflushed}
 use Rattle.mp_check.specs.CheckLines.{check_text}
 use Rattle.mp_commands.specs.command_runs.CheckRuns.{ChecksInput, ChecksNetlist, StopsInput, StopsNetlist}
-use Rattle.mp_commands.specs.command_runs.Clauses.{StaysShutWith, opening_with}
+use Rattle.mp_commands.specs.command_runs.Clauses.{StaysShutWith, counted_reads, opening_with}
+
+-- a check that stopped didn't stop for a fault of the source
+pub unread : {S : Type 0} (n : Circuit) (a b : Outgoing S) (fault : RunFault) → StopsNetlist a b n fault → (faults : ℕ) → faults ≡ counted_reads {T = Bool} (Err fault) faults
+unread n a b WriteFailed stopped faults = refl
+unread n a b OutOfMemory stopped faults = refl
+unread n a b fault stopped faults = absurd stopped
 
 module _ {S : Type 0} (left : Option (List ℕ)) (valid : Bool) where
   -- an input that doesn't open

@@ -1,5 +1,6 @@
+use Rattle.std.proofs.Common.{◌∙◌}
 use Rattle.mp_commands.proofs.lemmas.command_runs.Names.{err_from_is_err_and}
-use Rattle.mp_commands.proofs.lemmas.command_runs.CheckLemmas.{checked_input, shut_input, stopped_input, unflushed_input}
+use Rattle.mp_commands.proofs.lemmas.command_runs.CheckLemmas.{checked_input, shut_input, stopped_input, unflushed_input, unread}
 use Rattle.mp_commands.proofs.command_runs.check_run.run_check.Goals as goal
 
 pub returns-in_err-netlist-clause-stopped : goal.returns-in_err-netlist-clause-stopped
@@ -14,6 +15,12 @@ returns-in_err-is_wrong-clause-stopped g c =
     let p = err_from_is_err_and r.result r.ensures.1 in
     let opens = rw c.crew.ensures at c.in_ok-netlist.ensures.opened in
     rw (p.1, p.2) (stopped_input _ _ c.in_ok-netlist.netlist opens _ _ _ c.in_err-is_wrong.ensures.stopped)
+
+pub returns-in_err-is_wrong-clause-read_faults : goal.returns-in_err-is_wrong-clause-read_faults
+returns-in_err-is_wrong-clause-read_faults g c =
+    let r = c.from_residual-in_err-is_wrong in
+    let p = err_from_is_err_and r.result r.ensures.1 in
+    rw (p.1, p.2) (c.in_ok-netlist.ensures.read_faults ∙ unread c.in_ok-netlist.netlist _ _ _ c.in_err-is_wrong.ensures.stopped _)
 
 pub returns-in_err-flush-clause-stopped : goal.returns-in_err-flush-clause-stopped
 returns-in_err-flush-clause-stopped g c =
