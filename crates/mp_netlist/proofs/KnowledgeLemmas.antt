@@ -11,8 +11,8 @@ use Rattle.mp_records.specs.declared.module_record.ModuleRecord.{ModuleRecord}
 use Rattle.mp_records.specs.declared.ports.Input.{Input}
 use Rattle.mp_records.specs.declared.ports.Output.{Output}
 use Rattle.mp_records.specs.NamedWires.{is_wire, module_names}
-use Rattle.mp_netlist.specs.declared.known.Known.{Known}
-use Rattle.mp_netlist.specs.declared.known.Known.TheVariants.{At}
+use Rattle.mp_netlist.specs.declared.wire_knowledge.WireKnowledge.{WireKnowledge}
+use Rattle.mp_netlist.specs.declared.wire_knowledge.WireKnowledge.TheVariants.{At}
 use Rattle.mp_netlist.specs.Slots.{has_name, stands_and}
 use Rattle.mp_netlist.specs.Tables.{KeepsNames}
 use Rattle.mp_netlist.specs.Drivers.{port_from, port_of}
@@ -21,7 +21,7 @@ use Rattle.mp_netlist.specs.Knowledge.{Knows, AreKnown}
 use Rattle.mp_netlist.proofs.TableLemmas.{PushedAt, pushed_at, equal_name}
 
 -- a module goes last that is known
-pub AreKnown-push : (known : Known) (slots : List (Option ModuleRecord)) (r : ModuleRecord) → AreKnown known slots → Knows known (length slots) r → AreKnown known (slots ++ Some r ∷ [])
+pub AreKnown-push : (known : WireKnowledge) (slots : List (Option ModuleRecord)) (r : ModuleRecord) → AreKnown known slots → Knows known (length slots) r → AreKnown known (slots ++ Some r ∷ [])
 AreKnown-push known slots r are new m s at = by (pushed_at slots (Some r) m)
   where
     by : PushedAt slots (Some r) m → Knows known m s
@@ -33,7 +33,7 @@ AreKnown-push known slots r are new m s at = by (pushed_at slots (Some r) m)
     by (inr (inr none)) = let other = sym none.1 ∙ at in cc
 
 -- something is put into a slot that is known, or nothing
-pub AreKnown-set : (known : Known) (slots : List (Option ModuleRecord)) (i : ℕ) (slot : Option ModuleRecord) → AreKnown known slots
+pub AreKnown-set : (known : WireKnowledge) (slots : List (Option ModuleRecord)) (i : ℕ) (slot : Option ModuleRecord) → AreKnown known slots
     → ((r : ModuleRecord) → slot ≡ Some r → Knows known i r) → AreKnown known (set slots i slot)
 AreKnown-set known slots i slot are new m s at = by (cases_eq m i) (cases_lt i (length slots))
   where
@@ -136,7 +136,7 @@ row_decides test none slots row noted = both_same _ _ (any_of (λ m. test (get_o
     back k is = any_in (λ m. test (get_or slots m None)) row k (noted k is) is
 
 -- a known module whose record passes a test is among those that are known to
-pub known_row : (known : Known) (slots : List (Option ModuleRecord)) (test : ModuleRecord → Bool) (row : List ℕ) → AreKnown known slots
+pub known_row : (known : WireKnowledge) (slots : List (Option ModuleRecord)) (test : ModuleRecord → Bool) (row : List ℕ) → AreKnown known slots
     → ((m : ℕ) (r : ModuleRecord) → Knows known m r → test r ≡ true → is_in m row ≡ true)
     → (m : ℕ) → stands_and test (get_or slots m None) ≡ true → is_in m row ≡ true
 known_row known slots test row are noted m is = by (get_or slots m None) refl is
@@ -146,7 +146,7 @@ known_row known slots test row are noted m is = by (get_or slots m None) refl is
     by (Some r) at passes = noted m r (are m r at) passes
 
 -- so it is of each row that may be had
-pub known_rows : (known : Known) (slots : List (Option ModuleRecord)) (test : ModuleRecord → Bool) → AreKnown known slots → (found : Option (Bor (List ℕ)))
+pub known_rows : (known : WireKnowledge) (slots : List (Option ModuleRecord)) (test : ModuleRecord → Bool) → AreKnown known slots → (found : Option (Bor (List ℕ)))
     → IfSome found (λ row. (m : ℕ) (r : ModuleRecord) → Knows known m r → test r ≡ true → is_in m row.now ≡ true)
     → IfSome found (λ row. (m : ℕ) → stands_and test (get_or slots m None) ≡ true → is_in m row.now ≡ true)
 known_rows known slots test are None noted = tt
@@ -186,7 +186,7 @@ unmarked_undriven w v r none (inl same) = subst (λ u. port_from 0 r.outputs u �
 unmarked_undriven w v r none (inr undriven) = undriven
 
 -- a wire that no known module of a row drives, and no other may drive, has no driver
-pub row_drives_none : (known : Known) (slots : List (Option ModuleRecord)) (w : ℕ) (row : List ℕ) → AreKnown known slots
+pub row_drives_none : (known : WireKnowledge) (slots : List (Option ModuleRecord)) (w : ℕ) (row : List ℕ) → AreKnown known slots
     → ((m : ℕ) (r : ModuleRecord) → Knows known m r → is_in m row ≡ false → port_from 0 r.outputs w ≡ None)
     → ((m : ℕ) → is_in m row ≡ true → port_of (get_or slots m None) w ≡ None)
     → (m : ℕ) → port_of (get_or slots m None) w ≡ None

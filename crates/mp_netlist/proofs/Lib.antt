@@ -1,6 +1,5 @@
 pub mod LimitLemmas
 pub mod IndexLemmas
-pub mod EitherLemmas
 pub mod TableLemmas
 pub mod DriverLemmas
 pub mod DrivenLemmas

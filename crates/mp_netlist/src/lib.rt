@@ -6,15 +6,15 @@ mod checkpoint;
 mod driver;
 mod format;
 mod index;
-mod known;
 pub mod laws;
-mod least;
+mod least_delay;
 mod module_table;
 mod netlist;
 mod new_error;
 mod record_changes;
 mod slots;
 mod table;
+mod wire_knowledge;
 
 pub use checkpoint::checkpoint_units;
 pub use driver::Driver;

@@ -6,9 +6,9 @@ ghost use Rattle.mp_netlist.specs.Slots.{slot_at};
 ghost use Rattle.mp_netlist.specs.Least.{IsAtMost, IsChanged, least_among, least_at};
 
 use crate::around::Around;
-use crate::known::Known;
-use crate::least::{Least, goes_up, least_in, lesser_of};
+use crate::least_delay::{LeastDelay, goes_up, least_in, lesser_of};
 use crate::table::{Change, Table};
+use crate::wire_knowledge::WireKnowledge;
 use mp_records::{ModuleRecord, Name, WireId};
 use std::alloc::{AllocError, Global};
 use std::marker::Model;
@@ -18,8 +18,8 @@ use std::marker::Model;
 #[derive(Drop)]
 pub struct ModuleTable {
     table: Table<ModuleRecord>,
-    known: Known,
-    least: Least,
+    known: WireKnowledge,
+    least: LeastDelay,
 }
 
 impl Model for ModuleTable {
@@ -42,7 +42,7 @@ impl ModuleTable {
     ghost use Rattle.mp_records.specs.NamedWires.{module_names};
     ghost use Rattle.mp_netlist.specs.Least.{least_among};
     ghost use Rattle.mp_netlist.specs.Knowledge.{AreKnown};
-    ghost use Rattle.mp_netlist.specs.declared.known.Known.TheVariants.{At};
+    ghost use Rattle.mp_netlist.specs.declared.wire_knowledge.WireKnowledge.TheVariants.{At};
     ghost use Rattle.mp_netlist.specs.Slots.{slot_at, number_named, stands_and};
     ghost use Rattle.mp_netlist.specs.Tables.{KeepsNames};
 
@@ -56,8 +56,8 @@ impl ModuleTable {
         };
         ModuleTable {
             table: Table::with_room(alloc, room),
-            known: Known::Driven(driven),
-            least: Least::none(),
+            known: WireKnowledge::Driven(driven),
+            least: LeastDelay::none(),
         }
     }
 
@@ -159,12 +159,12 @@ impl ModuleTable {
         ensures { IfOk result (λ copy. copy ≡ self.now) }
     {
         let around = match &self.known {
-            Known::Driven(driven) => self.found_around(driven.len())?,
-            Known::At(around) => around.copy()?,
+            WireKnowledge::Driven(driven) => self.found_around(driven.len())?,
+            WireKnowledge::At(around) => around.copy()?,
         };
         Ok(ModuleTable {
             table: self.table.copy()?,
-            known: Known::At(around),
+            known: WireKnowledge::At(around),
             least: self.least,
         })
     }
@@ -198,11 +198,11 @@ impl ModuleTable {
 /// The least delay after a change of a module whose least delay was one and is another.
 fn least_after(
     table: &Table<ModuleRecord>,
-    least: Least,
+    least: LeastDelay,
     number: u32,
     before: Option<u32>,
     after: Option<u32>,
-) -> Least
+) -> LeastDelay
     requires { IsChanged least.delay before after (least_among table.now) }
     ensures { result.delay ≡ least_among table.now }
 {
@@ -214,12 +214,12 @@ fn least_after(
 }
 
 /// The least delay, by a look at modules up to one that has the least that there can be: from this number on, and then from the first.
-fn least_near(table: &Table<ModuleRecord>, bound: Option<u32>, number: u32) -> Least
+fn least_near(table: &Table<ModuleRecord>, bound: Option<u32>, number: u32) -> LeastDelay
     requires { IsAtMost bound (least_among table.now) }
     ensures { result.delay ≡ least_among table.now }
 {
     match next_with(table, bound, number) {
-        Some(module) => Least {
+        Some(module) => LeastDelay {
             delay: bound,
             module,
         },
@@ -240,11 +240,11 @@ fn next_with(table: &Table<ModuleRecord>, delay: Option<u32>, number: u32) -> Op
 }
 
 /// The least delay, by a look at modules up to one that has the least that there can be.
-fn least_from(table: &Table<ModuleRecord>, bound: Option<u32>) -> Least
+fn least_from(table: &Table<ModuleRecord>, bound: Option<u32>) -> LeastDelay
     requires { IsAtMost bound (least_among table.now) }
     ensures { result.delay ≡ least_among table.now }
 {
-    let mut least = Least::none();
+    let mut least = LeastDelay::none();
     for m in 0..table.len() {
         let found = lesser_of(least.delay, least_at(table, m as u32));
         least = least.or_that(found, m as u32);

@@ -44,7 +44,8 @@ pub trait Change<R: Named>: Drop {
     ghost keeps_name: { (change : Self) (thing : R) → R.name_of (changed change thing) ≡ R.name_of thing };
 }
 
-/// Things by number, from 0 in the order of adding, and by name. The number of a removed thing may stay in the index, since its slot stays empty.
+/// Things by number, from 0 in the order of adding, and by name. The index may hold a name that no thing has: that of a removed thing stays there, and
+/// so does that of a thing for which memory was lacking once its name was noted.
 #[derive(Drop)]
 pub struct Table<R: Named> {
     slots: Slots<R>,

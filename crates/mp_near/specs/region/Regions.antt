@@ -21,7 +21,7 @@ pub record IsLike (n s : Circuit) (pick : Picking) (picked : Picked) (levels : �
   pub modules : length s.modules ≤ length picked.modules.numbers.items
 
 -- the later netlist has no fewer slots
-pub record HasGrown (was now : Circuit) : Type 0 where
+pub record IsNoSmaller (was now : Circuit) : Type 0 where
   pub wires : length was.wires ≤ length now.wires
   pub modules : length was.modules ≤ length now.modules
 
@@ -31,7 +31,7 @@ pub record IsSmall (old new : Circuit) (small : Small) : Type 0 where
   pub region : AreRegion old new small.was small.now (picking new small.picked)
   pub was : IsCircuit small.was
   pub now : IsCircuit small.now
-  pub grown : HasGrown small.was small.now
+  pub grown : IsNoSmaller small.was small.now
   pub wires : length small.was.wires ≤ length small.picked.wires.numbers.items
   pub modules : length small.was.modules ≤ length small.picked.modules.numbers.items
 

@@ -3,7 +3,7 @@ ghost use Rattle.std.specs.Prelude.{◌≡◌, true, Ok, IfOk, IfSome};
 ghost use Rattle.mp_netlist.specs.Edits.{after};
 ghost use Rattle.mp_near.specs.Changes.{IsChange};
 ghost use Rattle.mp_near.specs.region.Picks.{ArePicks};
-ghost use Rattle.mp_near.specs.region.Regions.{HasGrown, IsSmall};
+ghost use Rattle.mp_near.specs.region.Regions.{IsNoSmaller, IsSmall};
 
 use crate::reach::find_reached;
 use crate::region::building::{is_made, small_before};
@@ -99,7 +99,7 @@ fn is_small(change: &Revision<'_>, small: &Small) -> bool
 
 /// Whether the later netlist has no fewer slots.
 fn has_grown(was: &Netlist, now: &Netlist) -> bool
-    ensures { result ≡ true → HasGrown was.now now.now }
+    ensures { result ≡ true → IsNoSmaller was.now now.now }
 {
     was.wire_slots() <= now.wire_slots() && was.module_slots() <= now.module_slots()
 }

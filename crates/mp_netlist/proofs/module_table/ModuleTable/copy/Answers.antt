@@ -1,5 +1,5 @@
 use Rattle.std.proofs.Common.{ap, sym, subst, ◌∙◌}
-use Rattle.mp_netlist.specs.declared.known.Known.TheVariants.{At}
+use Rattle.mp_netlist.specs.declared.wire_knowledge.WireKnowledge.TheVariants.{At}
 use Rattle.mp_netlist.specs.Knowledge.{AreKnown}
 use Rattle.mp_netlist.specs.Least.{least_among}
 use Rattle.mp_netlist.proofs.module_table.ModuleTable.copy.Goals as goal

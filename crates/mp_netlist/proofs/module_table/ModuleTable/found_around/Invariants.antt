@@ -1,6 +1,6 @@
 use Rattle.std.proofs.Common.{◌≡◌, ℕ, ◌<◌, Some}
 use Rattle.mp_records.specs.declared.module_record.ModuleRecord.{ModuleRecord}
-use Rattle.mp_netlist.specs.declared.known.Known.TheVariants.{At}
+use Rattle.mp_netlist.specs.declared.wire_knowledge.WireKnowledge.TheVariants.{At}
 use Rattle.mp_netlist.specs.Slots.{slot_at}
 use Rattle.mp_netlist.specs.Knowledge.{Knows}
 use Rattle.mp_netlist.proofs.module_table.ModuleTable.found_around.Given as goal

@@ -7,32 +7,32 @@ use mp_records::Output;
 
 /// The least delay of modules, if there is one, and a module that has it.
 #[derive(Clone, Copy, Drop)]
-pub(crate) struct Least {
+pub(crate) struct LeastDelay {
     pub(crate) delay: Option<u32>,
     pub(crate) module: u32,
 }
 
-impl Least {
+impl LeastDelay {
     ghost use Rattle.std.specs.Prelude.{◌≡◌, None};
 
     /// No delay.
-    pub(crate) fn none() -> Least
+    pub(crate) fn none() -> LeastDelay
         ensures { result.delay ≡ None }
     {
-        Least {
+        LeastDelay {
             delay: None,
             module: 0,
         }
     }
 
     /// The delay, which this module has if it is another.
-    pub(crate) fn or_that(self, delay: Option<u32>, module: u32) -> Least
+    pub(crate) fn or_that(self, delay: Option<u32>, module: u32) -> LeastDelay
         ensures { result.delay ≡ delay }
     {
         if delay == self.delay {
             self
         } else {
-            Least { delay, module }
+            LeastDelay { delay, module }
         }
     }
 }

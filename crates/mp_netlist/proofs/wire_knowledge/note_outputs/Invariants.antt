@@ -1,7 +1,7 @@
 use Rattle.std.proofs.Common.{◌≡◌, ℕ, false, drop}
 use Rattle.mp_netlist.specs.Drivers.{port_from}
 use Rattle.mp_netlist.specs.DrivenWires.{may_be_driven}
-use Rattle.mp_netlist.proofs.known.note_outputs.Given as goal
+use Rattle.mp_netlist.proofs.wire_knowledge.note_outputs.Given as goal
 
 -- what isn't marked was not marked before, and is not among those so far
 abbrev pub invariant-loop-p : goal.invariant-loop-p

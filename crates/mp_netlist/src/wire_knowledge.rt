@@ -10,14 +10,14 @@ use std::alloc::{AllocError, Global};
 
 /// What is known of the wires that modules are at.
 #[derive(Drop)]
-pub enum Known {
+pub enum WireKnowledge {
     /// A mark for each wire that a module drives, and for others. An unmarked wire has no driver.
     Driven(Vec<bool>),
     /// The modules at each wire, and others.
     At(Around),
 }
 
-impl Known {
+impl WireKnowledge {
     ghost use Rattle.std.specs.Prelude.{◌≡◌, ◌<◌, ◌^◌, ◌⊎◌, ℕ, true, false, None, IsTrue, IfSome, OnOk, length};
     ghost use Rattle.mp_records.specs.declared.module_record.ModuleRecord.{ModuleRecord as Record};
     ghost use Rattle.mp_records.specs.NamedWires.{module_names};
@@ -28,8 +28,8 @@ impl Known {
     /// How many wires there are.
     pub fn wires(&self) -> usize {
         match self {
-            Known::Driven(driven) => driven.len(),
-            Known::At(around) => around.wires(),
+            WireKnowledge::Driven(driven) => driven.len(),
+            WireKnowledge::At(around) => around.wires(),
         }
     }
 
@@ -38,8 +38,8 @@ impl Known {
         ensures { IfSome result (λ row. (m : ℕ) (r : Record) → Knows self.now m r → module_names wire.0 r ≡ true → is_in m row.now ≡ true) }
     {
         match self {
-            Known::Driven(_) => None,
-            Known::At(around) => around.at(wire),
+            WireKnowledge::Driven(_) => None,
+            WireKnowledge::At(around) => around.at(wire),
         }
     }
 
@@ -48,14 +48,14 @@ impl Known {
         ensures { IfSome result (λ row. (m : ℕ) (r : Record) → Knows self.now m r → is_in m row.now ≡ false → port_from 0 r.outputs wire.0 ≡ None) }
     {
         match self {
-            Known::Driven(driven) => {
+            WireKnowledge::Driven(driven) => {
                 if may_be_driven(driven.as_slice(), wire) {
                     None
                 } else {
                     Some(nobody())
                 }
             }
-            Known::At(around) => around.at(wire),
+            WireKnowledge::At(around) => around.at(wire),
         }
     }
 
@@ -64,8 +64,8 @@ impl Known {
         ensures { (m : ℕ) (r : Record) → module_names wire.0 r ≡ false → Knows self.old m r → Knows self.new m r }
     {
         match self {
-            Known::Driven(driven) => add_mark(driven, wire),
-            Known::At(around) => add_row(around, wire),
+            WireKnowledge::Driven(driven) => add_mark(driven, wire),
+            WireKnowledge::At(around) => add_row(around, wire),
         }
     }
 
@@ -75,11 +75,11 @@ impl Known {
         ensures noted { OnOk result (Knows self.new number added.now) }
     {
         match self {
-            Known::Driven(driven) => {
+            WireKnowledge::Driven(driven) => {
                 note_outputs(driven, added.outputs.as_slice());
                 Ok(())
             }
-            Known::At(around) => around.note(number, added),
+            WireKnowledge::At(around) => around.note(number, added),
         }
     }
 }

@@ -2,7 +2,7 @@ use Rattle.std.proofs.Common.{◌≡◌, None, ◌⊎◌, inl, inr, subst}
 use Rattle.mp_netlist.specs.Drivers.{port_from}
 use Rattle.mp_netlist.specs.Knowledge.{Knows}
 use Rattle.mp_netlist.proofs.KnowledgeLemmas.{unmarked_undriven}
-use Rattle.mp_netlist.proofs.known.Known.add_wire.Goals as goal
+use Rattle.mp_netlist.proofs.wire_knowledge.WireKnowledge.add_wire.Goals as goal
 
 pub returns-in-Driven : goal.returns-in-Driven
 returns-in-Driven c m r none knows w unmarked =

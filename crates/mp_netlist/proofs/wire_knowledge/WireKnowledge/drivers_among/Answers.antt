@@ -4,7 +4,7 @@ use Rattle.mp_netlist.specs.Around.{is_in}
 use Rattle.mp_netlist.specs.Drivers.{port_from}
 use Rattle.mp_netlist.specs.Knowledge.{Knows}
 use Rattle.mp_netlist.proofs.KnowledgeLemmas.{got_drivers}
-use Rattle.mp_netlist.proofs.known.Known.drivers_among.Goals as goal
+use Rattle.mp_netlist.proofs.wire_knowledge.WireKnowledge.drivers_among.Goals as goal
 
 pub returns-in-At : goal.returns-in-At
 returns-in-At c =
