@@ -18,7 +18,10 @@ pub(crate) fn part_netlist(
     let mut found = netlist.copy()?;
     for m in 0..netlist.module_slots() {
         if partition_of(homes, m) != part {
-            remove(&mut found, ModuleId(m))?;
+            let Ok(()) = remove(&mut found, ModuleId(m)) else {
+                drop(found);
+                return Err(AllocError);
+            };
         }
     }
     Ok(found)
@@ -35,7 +38,9 @@ fn remove(netlist: &mut Netlist, id: ModuleId) -> Result<(), AllocError>
     };
     let module = found.name.clone()?;
     let removal = Edit::Single(SingleEdit::RemoveModule { module });
-    match netlist.apply(&removal) {
+    let removed = netlist.apply(&removal);
+    drop(removal);
+    match removed {
         Ok(()) => Ok(()),
         // A module that exists can be removed, if there is memory for it.
         Err(_) => Err(AllocError),
