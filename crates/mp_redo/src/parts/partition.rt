@@ -43,16 +43,40 @@ pub(crate) fn choose_partition(
         return Ok(None);
     }
     let reached = first_reached(alloc, old, new)?;
+    let chosen = choose_division(alloc, new, crew, reached.as_slice());
+    drop(reached);
+    let Some(division) = chosen? else {
+        return Ok(None);
+    };
+    checked(alloc, old, new, division)
+}
+
+/// The division of a netlist for a crew, if the modules that are reached at once are many, and spread over its parts.
+fn choose_division(
+    alloc: Global,
+    new: &Netlist,
+    crew: &Crew,
+    reached: &[ModuleId],
+) -> Result<Option<Division>, AllocError>
+    ensures { IfOk result (λ found. IfSome found (λ division. IsDivision new.now division.homes.items division.wires.items division.heard.items division.parts)) }
+{
     if !are_many(reached.len(), new, crew) {
         return Ok(None);
     }
     let Some(division) = divide(alloc, new, crew.count(), crew.least())? else {
         return Ok(None);
     };
-    if !are_spread(alloc, reached.as_slice(), &division)? {
-        return Ok(None);
+    match are_spread(alloc, reached, &division) {
+        Ok(true) => Ok(Some(division)),
+        Ok(false) => {
+            drop(division);
+            Ok(None)
+        }
+        Err(error) => {
+            drop(division);
+            Err(error)
+        }
     }
-    checked(alloc, old, new, division)
 }
 
 /// Whether this number of modules, reached at once, is worth a division: at least two for each worker, and enough that their units up to the horizon
@@ -78,14 +102,21 @@ fn checked(
     let _old_horizon = old.horizon();
     let _new_horizon = new.horizon();
     if !hears_nothing(&division) {
+        drop(division);
         return Ok(None);
     }
     let homes = division.homes.as_slice();
     if !have_delay(new, homes, division.parts, new.least_delay()) {
+        drop(division);
         return Ok(None);
     }
-    let old_drivers = drivers_of(alloc, old)?;
+    let Ok(old_drivers) = drivers_of(alloc, old) else {
+        drop(division);
+        return Err(AllocError);
+    };
     if !are_unconnected(old, old_drivers.as_slice(), homes) {
+        drop(division);
+        drop(old_drivers);
         return Ok(None);
     }
     Ok(Some(Partition {

@@ -83,14 +83,23 @@ pub(crate) fn are_spread(
 ) -> Result<bool, AllocError> {
     let mut counts = vec![in alloc; 0usize; division.parts as usize]?;
     for id in reached {
-        let home = partition_of(division.homes.as_slice(), id.0);
-        if let Some(count) = counts.get_mut(home as usize) {
-            *count = count.saturating_add(1);
-        }
+        count_at(&mut counts, partition_of(division.homes.as_slice(), id.0));
     }
+    let most = most_of(counts.as_slice());
+    Ok(most.saturating_mul(4) <= reached.len().saturating_mul(3))
+}
+
+/// Counts one more at a part, if there is one with this number.
+fn count_at(counts: &mut Vec<usize>, home: u32) {
+    if let Some(count) = counts.get_mut(home as usize) {
+        *count = count.saturating_add(1);
+    }
+}
+
+fn most_of(counts: &[usize]) -> usize {
     let mut most = 0usize;
-    for count in counts.as_slice() {
+    for count in counts {
         most = most.max(*count);
     }
-    Ok(most.saturating_mul(4) <= reached.len().saturating_mul(3))
+    most
 }
