@@ -77,7 +77,9 @@ impl<'a> ChangedPart<'a> {
             crew: &crew,
             gate,
         };
-        let (run, work_spans) = redo(&context, old, &before, new)?;
+        let redone = redo(&context, old, &before, new);
+        drop(before);
+        let (run, work_spans) = redone?;
         Ok(Redone { run, work_spans })
     }
 }

@@ -68,7 +68,10 @@ fn redo_parts<R: Threads + Wait + Sync, G: Gate + Sync>(
     let alloc = context.alloc;
     let parts = redo_together(context.rt, alloc, change, context.gate)?;
     let run = whole_run(alloc, &change, parts.as_slice())?;
-    let work_spans = all_work_spans(alloc, &change, parts.as_slice())?;
+    let Ok(work_spans) = all_work_spans(alloc, &change, parts.as_slice()) else {
+        drop(run);
+        return Err(AllocError);
+    };
     Ok((run, Work::of_change(change.old, change.new, work_spans)))
 }
 

@@ -10,19 +10,19 @@ use Rattle.mp_redo.specs.parts.Changes.{homes_in, new_part, old_part}
 use Rattle.mp_redo.proofs.lemmas.parts.AllowedLemmas.{part_allowed}
 use Rattle.mp_redo.proofs.parts.changed_part.ChangedPart.redo_between.Goals as goal
 
-pub redo-requires-clause-revision : goal.redo-requires-clause-revision
-redo-requires-clause-revision g c = λ asked lives.
+pub redo-redone-requires-clause-revision : goal.redo-redone-requires-clause-revision
+redo-redone-requires-clause-revision g c = λ asked lives.
     let change = c.args.self.change in
     let k = c.args.self.number in
     subst (λ (n : Circuit). IsRevision n c.args.new.now) (sym c.requires.old) (subst (λ (n : Circuit). IsRevision (old_part change k) n) (sym c.requires.new)
     (parts_are_revisions change.old.now change.new.now c.requires.change.revision (homes_in change) k))
 
-pub redo-requires-clause-run : goal.redo-requires-clause-run
-redo-requires-clause-run g c = λ asked lives.
+pub redo-redone-requires-clause-run : goal.redo-redone-requires-clause-run
+redo-redone-requires-clause-run g c = λ asked lives.
     subst (λ (n : Circuit). IsRun n c.in_ok-before.before) (sym c.requires.old) c.in_ok-before.ensures
 
-pub redo-requires-clause-allowed : goal.redo-requires-clause-allowed
-redo-requires-clause-allowed g c = λ asked lives.
+pub redo-redone-requires-clause-allowed : goal.redo-redone-requires-clause-allowed
+redo-redone-requires-clause-allowed g c = λ asked lives.
     let change = c.args.self.change in
     let k = c.args.self.number in
     let may = g.G.Gate.may c.args.gate.now in
