@@ -64,9 +64,13 @@ impl Rerun {
         } = remains_of(self);
         let Ok(ends) = all_ends(alloc, change, &simulation, active.as_slice()) else {
             drop(simulation);
+            drop(recorder);
             return Err(AllocError);
         };
-        let waves = all_waves(alloc, change, simulation, sources.as_slice(), end)?;
+        let Ok(waves) = all_waves(alloc, change, simulation, sources.as_slice(), end) else {
+            drop(recorder);
+            return Err(AllocError);
+        };
         let Finished { kept, work_spans } = recorder.finish(alloc, change.run, change.new)?;
         let run = Run::new(change.new.horizon(), Waves::new(waves), ends, kept);
         Ok((run, work_spans))
@@ -208,9 +212,13 @@ fn wave_in(
     ensures { IfOk result (λ wave. option_map arc_value wave ≡ slot_wave change.now.new.now wire.0 (wire_at change.now.new.now wire.0)) }
 {
     let Some(found) = change.new.wire(wire) else {
+        drop(toggles);
+        drop(built);
         return Ok(None);
     };
     if from == 0 {
+        drop(toggles);
+        drop(built);
         return change.run.waves().shared(wire);
     }
     match shown_wave(found, toggles, built) {

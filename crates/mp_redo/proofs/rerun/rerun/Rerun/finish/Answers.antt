@@ -92,4 +92,4 @@ pub returns-clause-run : goal.returns-clause-run
 returns-clause-run c =
     let new = c.args.change.now.new.now in
     subst (IsRun new) (sym c.new-run.ensures)
-    (run_made new _ c.horizon.ensures.value (subst (AreSlots (length new.wires) (λ w. slot_wave new w (wire_at new w))) (sym c.new.ensures) c.in_ok-waves.ensures) c.in-Ok.ensures c.in_ok-kept.ensures.kept)
+    (run_made new _ c.horizon.ensures.value (subst (AreSlots (length new.wires) (λ w. slot_wave new w (wire_at new w))) (sym c.new.ensures) c.in-Ok-all_waves.ensures) c.in-Ok.ensures c.in_ok-kept.ensures.kept)
