@@ -46,8 +46,15 @@ pub(crate) fn last_wave(
     let piece = last_piece(alloc, change, id, found, first, now)?;
     let mut wave = WaveBuilder::new(alloc, old_level(change.run, output, horizon - 1));
     let ports = piece.outputs.ports();
-    hold_later(&mut wave, ports[port].as_slice(), output.delay)?;
-    Ok(wave.finish())
+    let held = hold_later(&mut wave, ports[port].as_slice(), output.delay);
+    drop(piece);
+    match held {
+        Ok(()) => Ok(wave.finish()),
+        Err(error) => {
+            drop(wave);
+            Err(error)
+        }
+    }
 }
 
 /// What a module did in the old run from one time up to another.

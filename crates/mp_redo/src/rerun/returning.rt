@@ -152,8 +152,9 @@ impl Rerun {
             wave: &wave,
         };
         let until = now + 1 + output.delay;
-        put_old_changes(&mut self.simulation, last, from - 1, until, now)?;
-        Ok(())
+        let put = put_old_changes(&mut self.simulation, last, from - 1, until, now);
+        drop(wave);
+        put
     }
 
     /// After the unit of a time, the tail of a wire, which ends before another time, goes back into the wheels.

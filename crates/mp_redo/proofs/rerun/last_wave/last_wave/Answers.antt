@@ -32,8 +32,8 @@ bounds-ports-port c =
     let port = c.requires.port in
     subst (λ (xs : List (List (ℕ × ℕ))). c.args.port < length xs) (sym c.ports-ports.ensures) (omega (arith, count, port))
 
-pub hold_later-requires : goal.hold_later-requires
-hold_later-requires c =
+pub hold_later-held-requires : goal.hold_later-held-requires
+hold_later-held-requires c =
     let old = c.args.change.now.old.now in
     let is = c.requires.change in
     let id = c.args.id.0 in
@@ -62,8 +62,8 @@ hold_later-requires c =
     (times_later old is.old_form id p c.args.now first r piece c.requires.kept.before some (omega (arith, most, below, short)) c.in_ok-piece.ensures (omega (arith, count, port)) (omega (arith, begins, late, end, same))
     (omega (arith, begins, late, end, long)))))
 
-pub returns-clause-levels : goal.returns-clause-levels
-returns-clause-levels c = λ w u drives from upto.
+pub returns-in-Ok-clause-levels : goal.returns-in-Ok-clause-levels
+returns-in-Ok-clause-levels c = λ w u drives from upto.
     let old = c.args.change.now.old.now in
     let new = c.args.change.now.new.now in
     let is = c.requires.change in
@@ -96,7 +96,7 @@ returns-clause-levels c = λ w u drives from upto.
     c.old_level.ensures w wire ∙ ap (level_of (old_wave c.args.change.now.run.now w)) last
     ∙ old_level old is.old_form c.args.change.now.run.now is.run w (old.horizon - 1) (output_stands old is.old_form id p w was) (omega (arith, same, below)) in
     let made : c.finish.result ≡ (held_all (unchanged c.old_level.result) (put_off (delay_of r p) (slice_index_or piece.outputs p []))).wave =
-    c.finish.ensures.value ∙ ap (λ (b : Building). b.wave) c.in_ok-hold_later.ensures
+    c.finish.ensures.value ∙ ap (λ (b : Building). b.wave) c.in-Ok.ensures
     ∙ ap (λ (b : Building). (held_all b (put_off (slice_index_or c.as_slice-outputs.result.now p (record { wire = None; delay = 0 })).delay c.as_slice.result.now)).wave) c.new-wave.ensures
     ∙ ap (λ (xs : List (ℕ × ℕ)). (held_all (unchanged c.old_level.result) (put_off (slice_index_or c.as_slice-outputs.result.now p (record { wire = None; delay = 0 })).delay xs)).wave) changes
     ∙ ap (λ d. (held_all (unchanged c.old_level.result) (put_off d (slice_index_or piece.outputs p []))).wave) (sym late) in

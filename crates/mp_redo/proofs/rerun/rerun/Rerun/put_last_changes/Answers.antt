@@ -1,5 +1,6 @@
 use Rattle.std.proofs.Common.{rules, ◌<◌, None, length, slice_index_or, sym, arith}
 use Rattle.std.proofs.lemmas.List.{get_or_default}
+use Rattle.std.proofs.lemmas.Result.{on_ok_weaker}
 use Rattle.mp_records.specs.declared.ports.Output.{Output}
 use Rattle.mp_netlist.proofs.LimitLemmas.{horizon_within}
 use Rattle.mp_redo.proofs.lemmas.rerun.LastLemmas.{output_delay, port_within, port_inside, here_wire, here_delay, found_delay, kind_within, put_span}
@@ -56,8 +57,8 @@ overflow_add-until-2 c =
     let below = c.requires.below in
     omega (arith, short, late, most, below)
 
-pub put_old_changes-requires-clause-within : goal.put_old_changes-requires-clause-within
-put_old_changes-requires-clause-within c =
+pub put_old_changes-put-requires-clause-within : goal.put_old_changes-put-requires-clause-within
+put_old_changes-put-requires-clause-within c =
     let old = c.args.change.now.old.now in
     let new = c.args.change.now.new.now in
     let ok = c.requires.change.form in
@@ -74,7 +75,7 @@ put_old_changes-requires-clause-within c =
     omega (arith, late, fits)
 
 pub returns : goal.returns
-returns c = λ part wire can.
+returns c = on_ok_weaker c.put_old_changes-put.result (λ put part wire can.
     let old = c.args.change.now.old.now in
     let new = c.args.change.now.new.now in
     let ok = c.requires.change.form in
@@ -86,4 +87,4 @@ returns c = λ part wire can.
     let inside = port_inside old new ok c.args.now c.args.id.0 c.args.port c.args.from c.in-Some.found.now c.args.self.now items same at part wire can in
     let is = get_or_default items c.args.port none here inside in
     put_span old new ok c.args.now c.args.id.0 c.args.port c.args.from c.in-Some.found.now c.args.self.now items same at part wire can here is c.in-Some-wire.wire c.in-Some-wire.is c.index.result.now c.index.ensures
-    c.in_ok-wave.wave c.in_ok-wave.ensures.form c.in_ok-wave.ensures.levels c.requires.last c.requires.below c.put_old_changes.new.simulation c.in_ok-put_old_changes.ensures
+    c.in_ok-wave.wave c.in_ok-wave.ensures.form c.in_ok-wave.ensures.levels c.requires.last c.requires.below c.put_old_changes-put.new.simulation put) c.put_old_changes-put.ensures
