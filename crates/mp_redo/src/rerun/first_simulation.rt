@@ -1,10 +1,11 @@
 //! The simulation with which a re-evaluation begins.
-ghost use Rattle.std.specs.Prelude.{◌≡◌, ℕ, IfOk};
+ghost use Rattle.std.specs.Prelude.{◌≡◌, ℕ, Bool, true, IfOk};
 ghost use Rattle.mp_kernel.specs.automata.Codes.{bit};
+ghost use Rattle.mp_netlist.specs.Circuit.{IsCircuit};
 ghost use Rattle.mp_netlist.specs.Drivers.{driver};
 ghost use Rattle.mp_partition.specs.runs.Marks.{is_marked};
 ghost use Rattle.mp_partition.specs.regions.Regions.{partition_of};
-ghost use Rattle.mp_active.specs.excerpt.Excerpts.{is_followed};
+ghost use Rattle.mp_active.specs.excerpt.Excerpts.{excerpt, is_followed};
 ghost use Rattle.mp_redo.specs.rerun.Starting.{IsFirst};
 
 use mp_depend::drivers_of;
@@ -37,11 +38,23 @@ pub(crate) fn first_simulation(
     let homes = homes_of(alloc, active)?;
     let heard = heard_wires(alloc, new, active)?;
     let part = Region::new(new, homes.as_slice(), ACTIVE, heard.as_slice());
+    let first = simulation_of(alloc, new, &part);
+    drop(homes);
+    drop(heard);
+    first
+}
+
+/// The simulation at time 0 of the part of a netlist in which some modules are active. It has the numbers of all.
+fn simulation_of(alloc: Global, new: &Netlist, part: &Region<'_>) -> Result<First, AllocError>
+    requires form { IsCircuit new.now }
+    requires part { (active : ℕ → Bool) × part.now ≡ excerpt new.now active (λ _. true) }
+    ensures { IfOk result (λ first. (active : ℕ → Bool) → part.now ≡ excerpt new.now active (λ _. true) → IsFirst new.now active first) }
+{
     let whole = Region::whole(new);
     let outputs = all_outputs(alloc, &whole)?;
     let table = TransitionTable::new(alloc)?;
     let layout = Layout::of(alloc, &whole)?;
-    let simulation = layout.begin(alloc, &part, outputs, table)?;
+    let simulation = layout.begin(alloc, part, outputs, table)?;
     Ok(First {
         simulation,
         wired: layout.wired,
