@@ -19,26 +19,46 @@ use std::alloc::{AllocError, Global};
 impl Rerun {
     ghost use Rattle.std.specs.Prelude.{IfOk};
     ghost use Rattle.mp_redo.specs.rerun.Reruns.{IsChange};
-    ghost use Rattle.mp_redo.specs.rerun.Windows.{IsBegun};
+    ghost use Rattle.mp_redo.specs.rerun.Starting.{IsFirstRun};
+    ghost use Rattle.mp_redo.specs.rerun.Windows.{AreTouched, IsBegun};
 
     /// The re-evaluation of a change after time 0: touched modules are active, and all others sleep.
     pub(crate) fn begin(alloc: Global, change: &Change<'_>) -> Result<Rerun, AllocError>
         requires { IsChange change.now }
         ensures { IfOk result (IsBegun change.now.old.now change.now.new.now change.now.run.now) }
     {
-        reads_are_listed();
-        let new = change.new;
         let touches = touched_marks(alloc, change)?;
-        let recorder = RerunRecorder::first(alloc, new, touches.as_slice())?;
         let first = first_run(alloc, change, touches.as_slice())?;
+        Rerun::begin_with(alloc, change, touches, first)
+    }
+
+    /// The re-evaluation with this first run, in which the touched modules are active, which are marked.
+    fn begin_with(
+        alloc: Global,
+        change: &Change<'_>,
+        touches: Vec<bool>,
+        first: FirstRun,
+    ) -> Result<Rerun, AllocError>
+        requires change { IsChange change.now }
+        requires touched { AreTouched change.now.old.now change.now.new.now touches.items }
+        requires first { IsFirstRun change.now.old.now change.now.new.now change.now.run.now touches.items first }
+        ensures { IfOk result (IsBegun change.now.old.now change.now.new.now change.now.run.now) }
+    {
+        reads_are_listed();
         let sources = first.comparison.sources.as_slice();
-        let Ok(stimuli) = changed_stimuli(alloc, new, sources) else {
+        let Ok(stimuli) = changed_stimuli(alloc, change.new, sources) else {
             drop(first);
             return Err(AllocError);
         };
         let places = first.simulation.modules.places.as_slice();
         let Ok(activity) = first_activity(alloc, touches, places) else {
             drop(first);
+            return Err(AllocError);
+        };
+        let Ok(recorder) = RerunRecorder::first(alloc, change.new, activity.active.as_slice())
+        else {
+            drop(first);
+            drop(activity);
             return Err(AllocError);
         };
         let FirstRun {
@@ -61,7 +81,7 @@ impl Rerun {
                 bits: Vec::new(alloc),
                 levels: Vec::new(alloc),
             },
-            window_end: window_end(change.least, new.horizon(), 0),
+            window_end: window_end(change.least, change.new.horizon(), 0),
             look_at: 0,
         })
     }
