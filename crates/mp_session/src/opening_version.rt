@@ -40,6 +40,11 @@ pub(crate) fn opening_version(
     requires { IsRun netlist.now run.now }
     ensures { IfOk result (λ version. arc_value version ≡ opening netlist.now) }
 {
-    let version = Version::opening(alloc, netlist.copy()?, run.waves().share(alloc)?)?;
+    let copy = netlist.copy()?;
+    let Ok(waves) = run.waves().share(alloc) else {
+        drop(copy);
+        return Err(AllocError);
+    };
+    let version = Version::opening(alloc, copy, waves)?;
     Ok(Arc::new(alloc, version)?)
 }

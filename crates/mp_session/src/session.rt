@@ -73,7 +73,10 @@ impl<G: Gate> Session<G> {
         ensures { IfOk result (λ session. session ≡ opened netlist.now) }
     {
         let run = first_run(rt, alloc, netlist, &crew, &gate)?;
-        let version = opening_version(alloc, netlist, &run)?;
+        let Ok(version) = opening_version(alloc, netlist, &run) else {
+            drop(run);
+            return Err(AllocError);
+        };
         Ok(Session {
             alloc,
             crew,
@@ -197,7 +200,10 @@ impl<G: Gate> Session<G> {
                 Err(error) => error,
             },
             Edit::Batch(_) => match self.version.now().after(edit) {
-                Ok(_) => EditError::HistoryFull,
+                Ok(next) => {
+                    drop(next);
+                    EditError::HistoryFull
+                }
                 Err(error) => error,
             },
         }
@@ -218,7 +224,11 @@ impl<G: Gate> Session<G> {
         ensures edit { IfOk result (λ prepared. prepared.edit ≡ edit.now) }
         ensures next { OnOk result (present (one_more self.now.story edit.now) ≡ next) }
     {
-        self.prepared(rt, edit.copy()?, next)
+        let Ok(copy) = edit.copy() else {
+            drop(next);
+            return Err(AllocError);
+        };
+        self.prepared(rt, copy, next)
     }
 
     /// The edit with the version of the netlist after it.

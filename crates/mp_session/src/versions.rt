@@ -35,9 +35,13 @@ pub(crate) fn versions_of(
     ensures story { IfOk result (λ all. arc_value all.2 ≡ one_more (arc_value version.now) edit) }
     ensures now { IfOk result (λ all. present (arc_value all.2) ≡ next) }
 {
-    let Ok(edit) = Arc::new(alloc, edit) else {
-        drop(next);
-        return Err(AllocError);
+    let edit = match Arc::new(alloc, edit) {
+        Ok(edit) => edit,
+        Err(refused) => {
+            drop(refused);
+            drop(next);
+            return Err(AllocError);
+        }
     };
     let Ok(next) = next_version(alloc, version, &edit, next, run) else {
         drop(edit);
