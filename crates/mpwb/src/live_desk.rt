@@ -2,7 +2,7 @@
 ghost use Rattle.std.specs.Prelude.{◌≡◌, ◌<◌, ◌≤◌, IfSome, []};
 
 use crate::desk_files::{DeskFiles, PathNotice};
-use mp_commands::{Options, RunFault, SeatScribe, read_opening, serve_live};
+use mp_commands::{LiveOutcome, Options, RunFault, SeatScribe, read_opening, serve_live};
 use mp_netlist::Netlist;
 use mp_phase::{Crew, OpenGate};
 use mp_seats::{Journal, Journaled, Pipes, Places, ReplayFault, make_again};
@@ -28,6 +28,15 @@ const VIEWER_SEATS: u32 = 24;
 /// The session of a live desk, whose accepted edits are appended to a file.
 type KeptSession<'a> = Journaled<Session<OpenGate>, WriteSink<File>, PathNotice<'a>>;
 
+/// The netlist with which a live desk opens, who evaluates there, and how many seats there are for designers and viewers.
+#[derive(Clone, Copy)]
+struct Opening<'a> {
+    netlist: &'a Netlist,
+    crew: Crew,
+    designers: u32,
+    viewers: u32,
+}
+
 /// The folder of a live desk, and who evaluates there.
 #[derive(Clone, Copy)]
 struct LiveDesk<'a> {
@@ -49,24 +58,60 @@ pub(crate) fn run_live_desk<R: Runtime + Threads + Wait + Sync + AllocGlobal, S:
     designers: u32,
 ) -> Result<u8, RunFault> {
     let (netlist, crew) = read_opening(rt.alloc(), source, crew_of(options, designers))?;
-    let places = Places::new(rt.alloc(), designers, options.viewers)?;
+    let opening = Opening {
+        netlist: &netlist,
+        crew,
+        designers,
+        viewers: options.viewers,
+    };
+    let status = open_folder(files, rt, folder, opening);
+    drop(netlist);
+    status
+}
+
+/// Serves a desk at the pipes of a folder.
+fn open_folder<R: Runtime + Threads + Wait + Sync + AllocGlobal>(
+    files: &HostRuntime,
+    rt: &R,
+    folder: &str,
+    opening: Opening<'_>,
+) -> Result<u8, RunFault> {
+    let places = Places::new(rt.alloc(), opening.designers, opening.viewers)?;
     let pipes = Pipes::new(files, folder, &places)?;
+    let status = serve_pipes(files, rt, folder, &pipes, opening);
+    drop(pipes);
+    status
+}
+
+/// Serves a desk at these pipes, if none is missing and they can be linked.
+fn serve_pipes<R: Runtime + Threads + Wait + Sync + AllocGlobal>(
+    files: &HostRuntime,
+    rt: &R,
+    folder: &str,
+    pipes: &Pipes<'_>,
+    opening: Opening<'_>,
+) -> Result<u8, RunFault> {
     let paths = DeskFiles::new(rt.alloc(), folder)?;
     let desk = LiveDesk {
         files,
-        pipes: &pipes,
+        pipes,
         paths: &paths,
-        crew,
+        crew: opening.crew,
     };
-    if let Some(path) = pipes.missing() {
-        return Ok(cant_open(rt, path));
+    let missing = pipes.missing();
+    let unlinked = if missing.is_some() {
+        missing
+    } else {
+        pipes.link()
+    };
+    match unlinked {
+        Some(path) => Ok(cant_open(rt, path)),
+        None => {
+            let status = open_desk(rt, &desk, opening.netlist);
+            pipes.unlink();
+            status
+        }
     }
-    if let Some(path) = pipes.link() {
-        return Ok(cant_open(rt, path));
-    }
-    let status = open_desk(rt, &desk, &netlist);
-    pipes.unlink();
-    status
 }
 
 /// Tells that a file can't be opened, and returns the status of such a run.
@@ -81,22 +126,59 @@ fn open_desk<R: Runtime + Threads + Wait + Sync + AllocGlobal>(
     desk: &LiveDesk<'_>,
     netlist: &Netlist,
 ) -> Result<u8, RunFault> {
+    match made_again(rt, desk, netlist)? {
+        Some(session) => open_journal(rt, desk, session),
+        None => Ok(CANT_OPEN),
+    }
+}
+
+/// The session of a netlist in which the edits of the journal are made again. None, once it is reported why, if they can't be read or made.
+fn made_again<R: Runtime + Threads + Wait + Sync + AllocGlobal>(
+    rt: &R,
+    desk: &LiveDesk<'_>,
+    netlist: &Netlist,
+) -> Result<Option<Session<OpenGate>>, RunFault> {
     let path = desk.paths.edits.as_str();
     let edits = match desk.paths.read_edits(desk.files, rt.alloc()) {
         Ok(edits) => edits,
         Err(TakeError::OutOfMemory) => return Err(RunFault::OutOfMemory),
-        Err(TakeError::Failed) => return Ok(cant_open(rt, path)),
+        Err(TakeError::Failed) => {
+            let _ = cant_open(rt, path);
+            return Ok(None);
+        }
     };
     let mut session = Session::open(rt, rt.alloc(), netlist, desk.crew, OpenGate)?;
     match make_again(rt, rt.alloc(), &mut session, edits.as_slice()) {
-        Ok(()) => {}
-        Err(ReplayFault::OutOfMemory) => return Err(RunFault::OutOfMemory),
+        Ok(()) => Ok(Some(session)),
         Err(fault) => {
-            let _ = eprintln!(rt; "mpwb: {path}: {fault}");
-            return Ok(CANT_OPEN);
+            drop(session);
+            not_made(rt, path, &fault)
         }
     }
+}
+
+/// Reports why edits of a journal can't be made again, unless memory ran out, which is the fault of the run.
+fn not_made<R: Eprint>(
+    rt: &R,
+    path: &str,
+    fault: &ReplayFault,
+) -> Result<Option<Session<OpenGate>>, RunFault> {
+    if let ReplayFault::OutOfMemory = fault {
+        return Err(RunFault::OutOfMemory);
+    }
+    let _ = eprintln!(rt; "mpwb: {path}: {fault}");
+    Ok(None)
+}
+
+/// Opens the journal, tells how many edits of it are made again, and serves the desk with it.
+fn open_journal<R: Runtime + Threads + Wait + Sync + AllocGlobal>(
+    rt: &R,
+    desk: &LiveDesk<'_>,
+    session: Session<OpenGate>,
+) -> Result<u8, RunFault> {
+    let path = desk.paths.edits.as_str();
     let Some(file) = desk.paths.open_edits(desk.files) else {
+        drop(session);
         return Ok(cant_open(rt, path));
     };
     let number = session.version().number();
@@ -117,10 +199,27 @@ fn keep_desk<R: Runtime + Threads + Wait + Sync + AllocGlobal>(
         files: desk.files,
         path: desk.paths.edits.as_str(),
     };
-    let journal = Journal::new(rt.alloc(), WriteSink::new(file), notice)?;
-    let session = Journaled::new(session, journal);
-    let mut lines = LineReader::new(rt.alloc(), ReadSource::new(rt.reader()))?;
-    let mut out = Out::new(rt.alloc(), WriteSink::new(io::writer(rt)))?;
+    let Ok(journal) = Journal::new(rt.alloc(), WriteSink::new(file), notice) else {
+        drop(session);
+        return Err(RunFault::OutOfMemory);
+    };
+    serve_typed(rt, desk, Journaled::new(session, journal))
+}
+
+/// Serves those who come to the pipes and answers the lines of standard input meanwhile.
+fn serve_typed<R: Runtime + Threads + Wait + Sync + AllocGlobal>(
+    rt: &R,
+    desk: &LiveDesk<'_>,
+    session: KeptSession<'_>,
+) -> Result<u8, RunFault> {
+    let Ok(mut lines) = LineReader::new(rt.alloc(), ReadSource::new(rt.reader())) else {
+        drop(session);
+        return Err(RunFault::OutOfMemory);
+    };
+    let Ok(mut out) = Out::new(rt.alloc(), WriteSink::new(io::writer(rt))) else {
+        drop(session);
+        return Err(RunFault::OutOfMemory);
+    };
     serve_lines(rt, desk, session, &mut lines, &mut out)
 }
 
@@ -138,10 +237,12 @@ fn serve_lines<R: Eprint + Threads + Wait + Sync + AllocGlobal, I: Source, T: Si
         alloc: rt.alloc(),
         crew: desk.crew,
     };
-    let live = serve_live(rt, desk.pipes, session, scribe, lines, out)?;
-    let is_written = is_netlist_written(rt, desk, live.session.version().now());
-    live.ended?;
-    if is_written && live.session.journal().is_whole() {
+    let LiveOutcome { session, ended } = serve_live(rt, desk.pipes, session, scribe, lines, out)?;
+    let is_written = is_netlist_written(rt, desk, session.version().now());
+    let is_whole = session.journal().is_whole();
+    drop(session);
+    ended?;
+    if is_written && is_whole {
         Ok(0)
     } else {
         Ok(CANT_OPEN)

@@ -25,14 +25,38 @@ pub(crate) fn run_on<R: Print + Threads + Wait + Sync + AllocGlobal, S: Source>(
     request: &Request<'_>,
     options: &Options,
 ) -> Result<u8, RunFault> {
-    let names = names_of(rt.alloc(), request.wires())?;
     let mut out = Out::new(rt.alloc(), WriteSink::new(io::writer(rt)))?;
-    if let Command::Check = &request.command {
-        let is_wrong = run_check(rt, rt.alloc(), source, &mut out, options)?;
-        return Ok(if is_wrong { WRONG } else { 0 });
+    match &request.command {
+        Command::Check => check_on(rt, source, &mut out, options),
+        _ => write_on(rt, source, &mut out, request, options),
     }
-    let names = names.as_slice();
-    run_named(rt, source, &mut out, &request.command, names, options)?;
+}
+
+/// Checks the netlist of the source, and returns the status with which the program ends.
+fn check_on<R: Threads + Wait + Sync + AllocGlobal, S: Source, T: Sink>(
+    rt: &R,
+    source: &mut S,
+    out: &mut Out<T>,
+    options: &Options,
+) -> Result<u8, RunFault>
+    requires { out.old.held ≡ [] }
+{
+    let is_wrong = run_check(rt, rt.alloc(), source, out, options)?;
+    Ok(if is_wrong { WRONG } else { 0 })
+}
+
+/// Runs a command other than `check` on the source, and returns the status with which the program ends.
+fn write_on<R: Threads + Wait + Sync + AllocGlobal, S: Source, T: Sink>(
+    rt: &R,
+    source: &mut S,
+    out: &mut Out<T>,
+    request: &Request<'_>,
+    options: &Options,
+) -> Result<u8, RunFault>
+    requires { out.old.held ≡ [] }
+{
+    let names = names_of(rt.alloc(), request.wires())?;
+    run_named(rt, source, out, &request.command, names.as_slice(), options)?;
     Ok(0)
 }
 
