@@ -36,15 +36,19 @@ abbrev pub wire_line : Circuit → DiagramLayout → WireId → List ℕ
 wire_line n layout wire = slot_row n layout wire.0 (wire_at n wire.0)
 
 -- the times, the wires, the places with findings, and the report's lines of these findings
-abbrev pub rows : Circuit → DiagramLayout → List WireId → List Finding → List ℕ
-rows n layout wires found =
+abbrev pub rows : Circuit → DiagramLayout → List WireId → List Place → List Finding → List ℕ
+rows n layout wires places found =
     ruler layout
     ++ (flat_map (wire_line n layout) wires
-    ++ (flat_map (λ place. place_row n layout place found) (place_rows found)
+    ++ (flat_map (λ place. place_row n layout place found) places
     ++ finding_lines n found))
+
+-- the diagram of some wires, given what is found in the range
+unfoldable pub diagram_given : Circuit → Columns → Charset → Numerals → List WireId → List Finding → List ℕ
+diagram_given n columns charset numerals wires found =
+    let places = place_rows found in
+    rows n (record { columns = columns; charset = charset; numerals = numerals; margin = margin n wires places }) wires places found
 
 -- the diagram of some wires, with what the report finds in the range
 unfoldable pub diagram : Circuit → Columns → Charset → Numerals → List WireId → List ℕ
-diagram n columns charset numerals wires =
-    let found = within columns (findings n) in
-    rows n (record { columns = columns; charset = charset; numerals = numerals; margin = margin n wires (place_rows found) }) wires found
+diagram n columns charset numerals wires = diagram_given n columns charset numerals wires (within columns (findings n))

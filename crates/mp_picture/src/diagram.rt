@@ -5,7 +5,7 @@ ghost use Rattle.mp_streams.specs.WriteErrors.{Writes};
 ghost use Rattle.mp_model.specs.Waves.{AreWavesOf};
 ghost use Rattle.mp_model.specs.Findings.{findings};
 ghost use Rattle.mp_model.specs.declared.finding.Finding.{Finding as Found};
-ghost use Rattle.mp_picture.specs.Diagrams.{diagram, wire_line};
+ghost use Rattle.mp_picture.specs.Diagrams.{diagram, diagram_given, rows, wire_line};
 ghost use Rattle.mp_picture.specs.Found.{is_within, place_row};
 ghost use Rattle.mp_picture.specs.Rows.{ruler};
 
@@ -38,33 +38,61 @@ pub fn put_diagram<S: Sink>(
     requires within { picture.now.columns.to ≤ picture.now.netlist.now.horizon }
     ensures { Writes result out.old out.new (diagram picture.now.netlist.now picture.now.columns charset picture.now.numerals picture.now.wires.now) }
 {
-    let columns = picture.columns;
-    let found = found_within(alloc, picture.findings, columns)?;
-    let places = rows_of(alloc, found.as_slice())?;
-    let margin = margin_of(picture.netlist, picture.wires, places.as_slice());
+    let found = found_within(alloc, picture.findings, picture.columns)?;
+    let put = put_given_found(alloc, out, picture, charset, found.as_slice());
+    drop(found);
+    put
+}
+
+/// Writes the timing diagram of a picture, given what is found in its range. Every row is made in the same room.
+fn put_given_found<S: Sink>(
+    alloc: Global,
+    out: &mut Out<S>,
+    picture: &Picture,
+    charset: Charset,
+    found: &[Finding],
+) -> Result<(), WriteError>
+    requires waves { AreWavesOf picture.now.netlist.now picture.now.waves.now }
+    requires within { picture.now.columns.to ≤ picture.now.netlist.now.horizon }
+    requires found { All (λ (f : Found). IsTrue (is_within picture.now.columns f)) found.now }
+    ensures { Writes result out.old out.new (diagram_given picture.now.netlist.now picture.now.columns charset picture.now.numerals picture.now.wires.now found.now) }
+{
+    let places = rows_of(alloc, found)?;
     let layout = DiagramLayout {
-        columns,
+        columns: picture.columns,
         charset,
         numerals: picture.numerals,
-        margin,
+        margin: margin_of(picture.netlist, picture.wires, places.as_slice()),
     };
     let mut row = Vec::new(alloc);
-    put_ruler(out, &mut row, layout)?;
-    put_wires(out, &mut row, picture, layout)?;
-    let netlist = picture.netlist;
-    put_places(
-        out,
-        &mut row,
-        netlist,
-        layout,
-        places.as_slice(),
-        found.as_slice(),
-    )?;
-    put_report(out, netlist, found.as_slice())?;
+    let put = put_rows(out, &mut row, picture, layout, places.as_slice(), found);
+    drop(row);
+    drop(places);
+    put
+}
+
+/// Writes the times, the rows of the wires and of these places, and the report's lines of the findings.
+fn put_rows<S: Sink>(
+    out: &mut Out<S>,
+    row: &mut Vec<u8>,
+    picture: &Picture,
+    layout: DiagramLayout,
+    places: &[Place],
+    found: &[Finding],
+) -> Result<(), WriteError>
+    requires waves { AreWavesOf picture.now.netlist.now picture.now.waves.now }
+    requires within { layout.columns.to ≤ picture.now.netlist.now.horizon }
+    requires found { All (λ (f : Found). IsTrue (is_within layout.columns f)) found.now }
+    ensures { Writes result out.old out.new (rows picture.now.netlist.now layout picture.now.wires.now places.now found.now) }
+{
+    put_ruler(out, row, layout)?;
+    put_wires(out, row, picture, layout)?;
+    put_places(out, row, picture.netlist, layout, places, found)?;
+    put_report(out, picture.netlist, found)?;
     Ok(())
 }
 
-/// Writes the line of times. Every row is made in the same room.
+/// Writes the line of times.
 fn put_ruler<S: Sink>(
     out: &mut Out<S>,
     row: &mut Vec<u8>,
