@@ -1,7 +1,7 @@
 //! What the report finds in a picture.
-ghost use Rattle.std.specs.Prelude.{◌≡◌, ◌++◌, OnOk, IfOk, All, IsTrue};
+ghost use Rattle.std.specs.Prelude.{◌≡◌, ◌++◌, not, OnOk, IfOk, All, IsTrue};
 ghost use Rattle.mp_model.specs.declared.finding.Finding.{Finding as Found};
-ghost use Rattle.std.specs.List.{list_any};
+ghost use Rattle.std.specs.List.{filter, list_any};
 ghost use Rattle.mp_picture.specs.Found.{is_within, is_place, is_module, within, places_of, place_rows, marks, trimmed, place_name, place_row};
 
 use crate::columns::Columns;
@@ -49,9 +49,21 @@ fn is_within(columns: Columns, finding: Finding) -> bool
 pub fn rows_of(alloc: Global, found: &[Finding]) -> Result<Vec<Place>, AllocError>
     ensures { IfOk result (λ places. places.items ≡ place_rows found.now) }
 {
-    let list = places_of(alloc, found)?;
-    let places = list.as_slice();
+    let places = places_of(alloc, found)?;
     let mut rows = Vec::new(alloc);
+    let pushed = push_rows(&mut rows, places.as_slice());
+    drop(places);
+    let Ok(()) = pushed else {
+        drop(rows);
+        return Err(AllocError);
+    };
+    Ok(rows)
+}
+
+/// Appends the modules and then the bundles of some places.
+fn push_rows(rows: &mut Vec<Place>, places: &[Place]) -> Result<(), AllocError>
+    ensures { OnOk result (rows.new.items ≡ rows.old.items ++ (filter is_module places.now ++ filter (λ place. not (is_module place)) places.now)) }
+{
     'modules: for &place in places {
         if is_module(place) {
             rows.push(place)?;
@@ -62,7 +74,7 @@ pub fn rows_of(alloc: Global, found: &[Finding]) -> Result<Vec<Place>, AllocErro
             rows.push(place)?;
         }
     }
-    Ok(rows)
+    Ok(())
 }
 
 /// The places of the findings, each once, in the order of their first.
