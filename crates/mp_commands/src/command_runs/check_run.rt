@@ -36,9 +36,10 @@ pub fn run_check<R: Threads + Wait + Sync, S: Source, T: Sink>(
     ensures read_faults { S.fault_count source.new ≡ counted_reads result (S.fault_count source.old) }
 {
     let (netlist, crew) = read_opening(alloc, source, options.crew())?;
-    let is_wrong = check_netlist(rt, alloc, out, &netlist, crew, options.progress)?;
+    let checked = check_netlist(rt, alloc, out, &netlist, crew, options.progress);
     // the run is over: all memory goes back to the system at once
     forget(netlist);
+    let is_wrong = checked?;
     out.flush()?;
     Ok(is_wrong)
 }
@@ -61,9 +62,25 @@ fn check_netlist<R: Threads + Wait + Sync, T: Sink>(
         waves: &waves,
         crew,
     };
-    let found = check(rt, alloc, netlist, &waves, of.threads())?;
-    let is_wrong = found.is_wrong();
-    put_check(out, netlist, &waves, &found)?;
+    let checked = check_waves(rt, alloc, out, &of);
     forget(waves);
+    checked
+}
+
+/// Writes the check of a netlist with its waves, and returns whether anything is wrong.
+fn check_waves<R: Threads + Sync, T: Sink>(
+    rt: &R,
+    alloc: Global,
+    out: &mut Out<T>,
+    of: &Evaluated<'_>,
+) -> Result<bool, RunFault>
+    ensures checked { IfOk result (ChecksNetlist out.old out.new of.now.netlist.now) }
+    ensures stopped { IfErr result (StopsNetlist out.old out.new of.now.netlist.now) }
+{
+    let found = check(rt, alloc, of.netlist, of.waves, of.threads())?;
+    let is_wrong = found.is_wrong();
+    let put = put_check(out, of.netlist, of.waves, &found);
+    drop(found);
+    put?;
     Ok(is_wrong)
 }

@@ -40,7 +40,10 @@ pub fn opened<C: Drop>(
     let netlist = read_lines(alloc, text)?;
     match crew {
         Some(crew) => Ok((netlist, crew)),
-        None => Err(RunFault::BadCount),
+        None => {
+            drop(netlist);
+            Err(RunFault::BadCount)
+        }
     }
 }
 

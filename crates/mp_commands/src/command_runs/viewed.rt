@@ -56,14 +56,10 @@ impl<'a> InputCommand for Viewed<'a> {
     ) -> Result<(), RunFault> {
         let (netlist, (view, crew)) = opened_input(alloc, input, self.crewed(options))?;
         let progress = options.progress;
-        match answer_of(rt, alloc, out, &netlist, view, Finders { crew, progress }) {
-            Ok(()) => {
-                // the run is over: all memory goes back to the system at once
-                forget(netlist);
-                Ok(())
-            }
-            Err(fault) => Err(fault),
-        }
+        let answered = answer_of(rt, alloc, out, &netlist, view, Finders { crew, progress });
+        // the run is over: all memory goes back to the system at once
+        forget(netlist);
+        answered
     }
 }
 

@@ -1,4 +1,3 @@
-use Rattle.mp_commands.proofs.lemmas.command_runs.Names.{Ok, Err}
 use Rattle.mp_commands.proofs.lemmas.command_runs.RunLemmas.{refused}
 use Rattle.mp_commands.proofs.lemmas.command_runs.ViewLemmas.{viewed_refused, viewed_ran}
 use Rattle.mp_commands.proofs.command_runs.viewed.ViewedInputCommand.answer.Goals as goal
@@ -8,14 +7,9 @@ returns-in_err-netlist g c =
     let refuses = viewed_refused c.args.self.now.view _ c.in_err-netlist.field-0.0 (rw c.crewed.ensures.both at c.in_err-netlist.ensures.refused) in
     refused _ _ _ _ c.from_residual.result c.in_err-netlist.field-0.0 c.from_residual.ensures.1 refuses
 
-pub returns-in-Ok : goal.returns-in-Ok
-returns-in-Ok g c =
+pub returns : goal.returns
+returns g c =
     let read = rw c.crewed.ensures.both at c.in_ok-netlist.ensures.netlist in
     let is_view = rw c.in_ok-netlist.ensures.crew at c.crewed.ensures.view in
-    viewed_ran c.args.self.now.view _ c.in_ok-netlist.view.now c.in_ok-netlist.netlist (Ok tt) c.args.out.now c.answer_of.new.out is_view read c.in-Ok.ensures
-
-pub returns-in-Err : goal.returns-in-Err
-returns-in-Err g c =
-    let read = rw c.crewed.ensures.both at c.in_ok-netlist.ensures.netlist in
-    let is_view = rw c.in_ok-netlist.ensures.crew at c.crewed.ensures.view in
-    viewed_ran c.args.self.now.view _ c.in_ok-netlist.view.now c.in_ok-netlist.netlist (Err c.in-Err.fault) c.args.out.now c.answer_of.new.out is_view read c.in-Err.ensures
+    viewed_ran c.args.self.now.view _ c.in_ok-netlist.view.now c.in_ok-netlist.netlist c.answer_of-answered.result c.args.out.now c.answer_of-answered.new.out is_view read
+    c.answer_of-answered.ensures
