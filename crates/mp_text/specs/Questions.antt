@@ -18,26 +18,31 @@ chain_question wire time steps = do
   k ← steps
   Ok (questions.Why wire t k)
 
--- the first word of a question
-abbrev pub question_word : List ℕ → Option QuestionWord
-question_word word =
-    if bytes_eq word (codes "wave") then Some Wave
-    else (if bytes_eq word (codes "waves") then Some Waves
+-- the first word of a question that has no words behind it
+abbrev pub lone_word : List ℕ → Option QuestionWord
+lone_word word =
+    if bytes_eq word (codes "waves") then Some Waves
     else (if bytes_eq word (codes "text") then Some Text
     else (if bytes_eq word (codes "report") then Some Report
     else (if bytes_eq word (codes "check") then Some Check
     else (if bytes_eq word (codes "dump") then Some Dump
     else (if bytes_eq word (codes "work") then Some Work
+    else (if bytes_eq word (codes "graph") then Some Graph
+    else (if bytes_eq word (codes "verilog") then Some Verilog
+    else (if bytes_eq word (codes "version") then Some Version
+    else None))))))))
+
+-- the first word of a question
+abbrev pub question_word : List ℕ → Option QuestionWord
+question_word word =
+    if bytes_eq word (codes "wave") then Some Wave
     else (if bytes_eq word (codes "show") then Some Show
     else (if bytes_eq word (codes "why") then Some Why
     else (if bytes_eq word (codes "path") then Some Path
     else (if bytes_eq word (codes "waits") then Some Waits
     else (if bytes_eq word (codes "measure") then Some Measure
-    else (if bytes_eq word (codes "graph") then Some Graph
-    else (if bytes_eq word (codes "verilog") then Some Verilog
-    else (if bytes_eq word (codes "version") then Some Version
     else (if bytes_eq word (codes "edits") then Some Edits
-    else None)))))))))))))))
+    else lone_word word))))))
 
 -- the question of that word and the words behind it
 abbrev pub stated_question : QuestionWord → List (List ℕ) → Result Question LineError
