@@ -10,6 +10,13 @@ abbrev pub stated_number : List (List ℕ) → Result ℕ LineError
 stated_number (word ∷ []) = number_word word
 stated_number _ = Err WordCount
 
+-- the edit that adds the module of this name and kind and of these numbers, with the ports that the words state
+abbrev pub ports_edit : List ℕ → Kind → List ℕ → List (List ℕ) → List (List ℕ) → Result SingleEdit LineError
+ports_edit name kind params inputs outputs = do
+  reads ← each_word input_word inputs
+  drives ← each_word output_word outputs
+  Ok (AddModule (record { name = name; kind = kind; params = params; inputs = reads; outputs = drives }))
+
 -- the edit of the parts of the words behind `module`, where there is an input and an output
 abbrev pub parts_edit : List ℕ → List ℕ → List (List ℕ) → List (List ℕ) → List (List ℕ) → Result SingleEdit LineError
 parts_edit name kind params inputs outputs =
@@ -17,9 +24,7 @@ parts_edit name kind params inputs outputs =
     else (do
       k ← kind_word kind
       numbers ← each_word number_word params
-      reads ← each_word input_word inputs
-      drives ← each_word output_word outputs
-      Ok (AddModule (record { name = name; kind = k; params = numbers; inputs = reads; outputs = drives })))
+      ports_edit name k numbers inputs outputs)
 
 -- a word of one byte alone
 abbrev pub is_mark : ℕ → List ℕ → Bool

@@ -1,7 +1,7 @@
 //! The edits of statements.
 ghost use Rattle.std.specs.Prelude.{◌≡◌, ◌<◌, ◌∷◌, []};
 ghost use Rattle.mp_text.specs.declared.edit_word.EditWord.TheVariants.{Wire, Module, Stimulus, Bundle};
-ghost use Rattle.mp_text.specs.Clauses.{IsAscii, IfOk, IfSome, length, position, before_first, after_first, OutOfMemory, Gives, texts, AreAscii, stated_edit, parts_edit, module_edit, is_mark, AddModule};
+ghost use Rattle.mp_text.specs.Clauses.{IsAscii, IfOk, IfSome, length, position, before_first, after_first, OutOfMemory, Gives, texts, AreAscii, stated_edit, parts_edit, ports_edit, module_edit, is_mark, AddModule};
 
 use crate::edit_word::EditWord;
 use crate::lexing::{LineError, each_word, name_of, number_word};
@@ -155,12 +155,32 @@ fn module_of(
     if ins.is_empty() || outs.is_empty() {
         return Err(LineError::WordCount);
     }
+    let kind = Kind::from_word(kind).ok_or(LineError::UnknownStatement)?;
+    let params = Params::new(each_word(alloc, params)?);
+    module_with_ports(alloc, name, kind, params, ins, outs)
+}
+
+/// The module of this name and kind and of these numbers, with the ports that the words state.
+#[tactic(auto, using(crate::proofs::GivenLemmas::wanting_given))]
+fn module_with_ports(
+    alloc: Global,
+    name: &[u8],
+    kind: Kind,
+    params: Params,
+    ins: &[&[u8]],
+    outs: &[&[u8]],
+) -> Result<NewModule, LineError>
+    requires name { IsAscii name.now }
+    requires inputs { AreAscii ins.now }
+    requires outputs { AreAscii outs.now }
+    ensures { Gives OutOfMemory AddModule result (ports_edit name.now kind params (texts ins.now) (texts outs.now)) }
+{
     Ok(NewModule {
-        kind: Kind::from_word(kind).ok_or(LineError::UnknownStatement)?,
-        params: Params::new(each_word(alloc, params)?),
         inputs: InputNames::new(each_word(alloc, ins)?),
         outputs: OutputNames::new(each_word(alloc, outs)?),
         name: name_of(alloc, name)?,
+        kind,
+        params,
     })
 }
 
