@@ -56,7 +56,10 @@ pub fn read_lines(alloc: Global, text: &[u8]) -> Result<Netlist, TextError>
         number += 1;
         match line(alloc, &mut state, &mut words, front, room) {
             Ok(()) => rest = others,
-            Err(code) => return Err(TextError { line: number, code }),
+            Err(code) => {
+                drop(state);
+                return Err(TextError { line: number, code });
+            }
         }
     }
     state.finished(number)

@@ -12,6 +12,7 @@ use crate::text_format::TextFormat;
 use crate::text_state::TextState;
 use mp_netlist::{Edit, EditError, Netlist, NewError};
 use std::alloc::Global;
+use std::mem;
 
 /// Applies a line to the state of the text so far. `words` is reused from line to line. The state is lent and not passed by value, since its owner
 /// would have to drop it at each place that reports a fault. A netlist that begins here has room for `room` wires and as many modules, if there is
@@ -86,7 +87,8 @@ fn start(alloc: Global, state: &mut TextState, words: &[&[u8]], room: usize) -> 
 fn set_state(state: &mut TextState, next: TextState)
     ensures { state.new ≡ next }
 {
-    *state = next;
+    // The state before is dropped by a call, for the same reason as what is read in `change`.
+    drop(mem::replace(state, next));
 }
 
 /// The empty netlist of a horizon that a text of this format may state.
