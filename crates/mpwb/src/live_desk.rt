@@ -78,37 +78,33 @@ fn open_folder<R: Runtime + Threads + Wait + Sync + AllocGlobal>(
 ) -> Result<u8, RunFault> {
     let places = Places::new(rt.alloc(), opening.designers, opening.viewers)?;
     let pipes = Pipes::new(files, folder, &places)?;
-    let status = serve_pipes(files, rt, folder, &pipes, opening);
-    drop(pipes);
-    status
-}
-
-/// Serves a desk at these pipes, if none is missing and they can be linked.
-fn serve_pipes<R: Runtime + Threads + Wait + Sync + AllocGlobal>(
-    files: &HostRuntime,
-    rt: &R,
-    folder: &str,
-    pipes: &Pipes<'_>,
-    opening: Opening<'_>,
-) -> Result<u8, RunFault> {
     let paths = DeskFiles::new(rt.alloc(), folder)?;
     let desk = LiveDesk {
         files,
-        pipes,
+        pipes: &pipes,
         paths: &paths,
         crew: opening.crew,
     };
-    let missing = pipes.missing();
+    serve_pipes(rt, &desk, opening.netlist)
+}
+
+/// Serves a desk at its pipes, if none is missing and they can be linked.
+fn serve_pipes<R: Runtime + Threads + Wait + Sync + AllocGlobal>(
+    rt: &R,
+    desk: &LiveDesk<'_>,
+    netlist: &Netlist,
+) -> Result<u8, RunFault> {
+    let missing = desk.pipes.missing();
     let unlinked = if missing.is_some() {
         missing
     } else {
-        pipes.link()
+        desk.pipes.link()
     };
     match unlinked {
         Some(path) => Ok(cant_open(rt, path)),
         None => {
-            let status = open_desk(rt, &desk, opening.netlist);
-            pipes.unlink();
+            let status = open_desk(rt, desk, netlist);
+            desk.pipes.unlink();
             status
         }
     }
