@@ -3,7 +3,7 @@ use Rattle.std.proofs.Common.{◌-◌, sym, ◌∙◌, arith}
 use Rattle.mp_model.specs.Waves.{level, wave}
 use Rattle.mp_wave.proofs.ChangesLemmas.{levels_of_wave, form_of_wave}
 use Rattle.mp_model.proofs.InputLemmas.{input_is}
-use Rattle.mp_response.proofs.LateLemmas.{late_level_of}
+use Rattle.mp_model.proofs.lemmas.response.LateLemmas.{late_level_of}
 use Rattle.mp_laws.specs.DelayedInputs.{ReadsLaterWave}
 
 pub reads_later_wave : ReadsLaterWave

@@ -21,7 +21,7 @@ use Rattle.mp_model.specs.Evaluations.{IsReached, delay_in}
 use Rattle.mp_model.specs.Waves.{level, state}
 use Rattle.mp_model.proofs.BehaviourLemmas.{satisfies}
 use Rattle.mp_model.proofs.EvaluationLemmas.{port_level_is}
-use Rattle.mp_response.specs.Span.{state_after, next_state}
+use Rattle.mp_model.specs.response.Span.{state_after, next_state}
 use Rattle.mp_partition.specs.runs.Checkpoints.{state_before}
 use Rattle.mp_laws.specs.Windows.{Answer, World, IsWindow, Move, state_in_window, answer_of, answered_by, memory_in, output_in, next_level, next_window, after_move, after_moves, IsAllowed, AreAllowed, first_level_of, start_of, first_window, AnyOrder}
 use Rattle.mp_laws.specs.Windows.Move.{AnswerOf, NextTo}

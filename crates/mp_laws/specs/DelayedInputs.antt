@@ -5,7 +5,7 @@ use Rattle.mp_records.specs.declared.ports.Input.{Input}
 use Rattle.mp_netlist.specs.Circuit.{Circuit, IsCircuit}
 use Rattle.mp_model.specs.Levels.{input_by}
 use Rattle.mp_model.specs.Waves.{level, wave}
-use Rattle.mp_response.specs.Pieces.{later_by}
+use Rattle.mp_model.specs.response.Pieces.{later_by}
 
 -- a wave that comes later by a delay has the level of so much before, and until the delay is over the level of time 0
 abbrev pub ComesLater : Type 0

@@ -12,7 +12,7 @@ use Rattle.mp_netlist.specs.Delays.{least_delay}
 use Rattle.mp_model.specs.Levels.{built, initial_of, inputs_by, stimulus_level}
 use Rattle.mp_model.specs.Evaluations.{delay_in}
 use Rattle.mp_model.specs.Waves.{level}
-use Rattle.mp_response.specs.Span.{state_after}
+use Rattle.mp_model.specs.response.Span.{state_after}
 use Rattle.mp_partition.specs.runs.Checkpoints.{state_before}
 
 -- what a module does in a window: its state at the end, and the levels of its outputs before their delays at each time

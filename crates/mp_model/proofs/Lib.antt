@@ -1,3 +1,4 @@
+pub mod lemmas
 pub mod HistoryLemmas
 pub mod BehaviourLemmas
 pub mod SlotLemmas

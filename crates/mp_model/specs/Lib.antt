@@ -10,3 +10,4 @@ pub mod Evaluations
 pub mod Examples
 pub mod Findings
 pub mod FindingLaws
+pub mod response

@@ -2,7 +2,7 @@
 ghost use Rattle.std.specs.Prelude.{◌≡◌};
 
 use crate::wave_list::shared;
-use mp_pieces::Kept;
+use mp_records::Kept;
 use mp_wave::Wave;
 use std::alloc::{AllocError, Global};
 use std::marker::Model;

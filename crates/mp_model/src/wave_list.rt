@@ -3,11 +3,11 @@ ghost use Rattle.std.specs.Prelude.{◌≡◌, None, map, option_map, IfOk};
 ghost use Rattle.std.specs.Option.{option_copied};
 ghost use Rattle.std.specs.Arc.{arc_value};
 ghost use Rattle.mp_netlist.specs.Slots.{slot_at};
-ghost use Rattle.mp_pieces.specs.Replaced.{AreApart, AreReplaced};
+ghost use Rattle.mp_records.specs.lists.Replaced.{AreApart, AreReplaced};
 ghost use Rattle.mp_model.specs.WaveLists.{listed_waves};
 
 use crate::shared_wave::SharedWave;
-use mp_pieces::Pieces;
+use mp_records::Pieces;
 use mp_wave::Wave;
 use std::alloc::{AllocError, Global};
 use std::sync::Arc;

@@ -30,7 +30,7 @@ impl Waves {
     ghost use Rattle.std.specs.Option.{option_copied};
     ghost use Rattle.std.specs.Arc.{arc_value};
     ghost use Rattle.mp_netlist.specs.Slots.{slot_at};
-    ghost use Rattle.mp_pieces.specs.Replaced.{AreApart, AreReplaced};
+    ghost use Rattle.mp_records.specs.lists.Replaced.{AreApart, AreReplaced};
 
     /// The waves by wire number, `None` if there is no wire.
     pub fn new(list: Vec<Option<Arc<Wave, Global>>>) -> Waves

@@ -2,8 +2,7 @@
 ghost use Rattle.std.specs.Prelude.{◌≡◌, true};
 ghost use Rattle.mp_netlist.specs.Around.{is_in};
 
-use mp_pieces::{Pieces, Row, push_to_row};
-use mp_records::{Input, ModuleRecord, Output, WireId};
+use mp_records::{Input, ModuleRecord, Output, Pieces, Row, WireId, push_to_row};
 use std::alloc::{AllocError, Global};
 use std::marker::Model;
 

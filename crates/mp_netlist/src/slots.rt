@@ -4,7 +4,7 @@ ghost use Rattle.std.specs.Option.{option_copied};
 ghost use Rattle.mp_netlist.specs.Slots.{slot_at, thing_in};
 
 use crate::table::Named;
-use mp_pieces::{Kept, Pieces};
+use mp_records::{Kept, Pieces};
 use std::alloc::{AllocError, Global};
 use std::marker::Model;
 

@@ -6,3 +6,4 @@ pub mod Inputs
 pub mod Outputs
 pub mod NamedWires
 pub mod PortChanges
+pub mod lists

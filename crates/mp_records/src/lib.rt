@@ -1,4 +1,4 @@
-//! Wires, modules, bundles and edits as data.
+//! Wires, modules, bundles and edits as data, and the lists that netlists and waves are kept in (`lists`).
 #![tactic(auto)]
 
 mod batch;
@@ -8,6 +8,7 @@ mod changes;
 mod edit;
 mod edit_error;
 mod ids;
+pub mod lists;
 mod module_record;
 mod name;
 mod new_bundle;
@@ -26,6 +27,7 @@ pub use changes::Changes;
 pub use edit::Edit;
 pub use edit_error::EditError;
 pub use ids::{BundleId, ModuleId, WireId};
+pub use lists::{Kept, Pieces, Row, push_to_row};
 pub use module_record::ModuleRecord;
 pub use name::Name;
 pub use new_bundle::NewBundle;

@@ -2,10 +2,10 @@
 use Rattle.mp_report.proofs.Names.{◌≡◌, ◌-◌, ◌<◌, ◌≤◌, ℕ, List, [], Some, None, flat_map, suc, ap, ◌∙◌, arith, range_with_len, nat_tests, FindingCode, Memory, no_findings, Circuit, IsCircuit, module_at, built, inputs_by, level, state, module_place, start, found, any_part_of, IsSpan, findings_of, found_at, codes_at, found_over, ModuleRecord}
 use Rattle.mp_model.proofs.BehaviourLemmas.{satisfies}
 use Rattle.mp_model.proofs.BuiltLemmas.{width_of_module}
-use Rattle.mp_response.specs.Delays.{state_before}
-use Rattle.mp_response.specs.declared.piece.Piece.{Piece}
-use Rattle.mp_response.proofs.DelayLemmas.{finds_by_states}
-use Rattle.mp_response.proofs.JoinLemmas.{inside_alone}
+use Rattle.mp_model.specs.response.Delays.{state_before}
+use Rattle.mp_model.specs.declared.response.piece.Piece.{Piece}
+use Rattle.mp_model.proofs.lemmas.response.DelayLemmas.{finds_by_states}
+use Rattle.mp_model.proofs.lemmas.response.JoinLemmas.{inside_alone}
 use Rattle.mp_report.proofs.TimeLemmas.{told_none, told_same_from}
 
 -- what is found over a span of all times

@@ -8,8 +8,8 @@ pub use Rattle.mp_report.specs.Bundles.{bundle_set}
 pub use Rattle.mp_report.specs.Lines.{finding_line, finding_lines}
 pub use Rattle.mp_report.specs.Names.{Ahead, AllZip, AreChanges, AreWavesOf, BundleRecord, Circuit, Finding, FindingCode, Input, IsCircuit, IsSpan, IsWaveform, Memory, MergeCollision, ModuleRecord, Place, Waveform, between, built, bundle_at, bundle_place, by_number, changes, changes_in, found_at, has_event, input_by, inputs_by, is_busy, is_found_at_bundle, is_requested_soon, last_time, later_by, level, level_from, level_of, levels_at, list_any, module_at, module_place, no_findings, piece_level, places, put_off, range_with_len, state, wave, wave_upto, wire_at}
 unfoldable pub use Rattle.mp_report.specs.Places.{found_over}
-unfoldable pub use Rattle.mp_response.specs.Span.{findings_of}
-pub use Rattle.mp_response.specs.declared.in_piece.InPiece.{InPiece}
+unfoldable pub use Rattle.mp_model.specs.response.Span.{findings_of}
+pub use Rattle.mp_model.specs.declared.response.in_piece.InPiece.{InPiece}
 pub use Rattle.mp_modules.specs.storage.AnyModules.{start}
 unfoldable pub use Rattle.mp_modules.specs.storage.AnyModules.{any_part_of, found}
 pub use Rattle.mp_wave.proofs.ChangesLemmas.{AreChanges-changes_after, form_of_wave, last_time-changes_after, level_from-changes_after, levels_of_wave}

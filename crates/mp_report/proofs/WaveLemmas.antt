@@ -3,7 +3,7 @@ use Rattle.mp_report.proofs.Names.{◌≡◌, ◌-◌, ◌<◌, form_of_wave, �
 use Rattle.mp_wave.proofs.PrefixLemmas.{cut_levels}
 use Rattle.mp_netlist.specs.Slots.{slot_at}
 use Rattle.mp_model.proofs.InputLemmas.{input_is}
-use Rattle.mp_response.proofs.LateLemmas.{late_level_of, IsWaveform-later_by}
+use Rattle.mp_model.proofs.lemmas.response.LateLemmas.{late_level_of, IsWaveform-later_by}
 
 -- the wave that is kept of a wire that stands
 pub wave_is : (n : Circuit) (w : ℕ) (found : List (Option Waveform)) (v : Waveform) → AreWavesOf n found → Some v ≡ slot_at found w → v ≡ wave n w

@@ -18,8 +18,8 @@ pub use Rattle.mp_netlist.specs.Circuit.{Circuit, IsBundle, IsCircuit, bundle_at
 pub use Rattle.mp_records.specs.declared.bundle_record.BundleRecord.{BundleRecord}
 pub use Rattle.mp_records.specs.declared.module_record.ModuleRecord.{ModuleRecord}
 pub use Rattle.mp_records.specs.declared.ports.Input.{Input}
-pub use Rattle.mp_response.specs.Pieces.{later_by, levels_at, piece_level, put_off}
-pub use Rattle.mp_response.specs.Span.{IsSpan, findings_of, found_at}
+pub use Rattle.mp_model.specs.response.Pieces.{later_by, levels_at, piece_level, put_off}
+pub use Rattle.mp_model.specs.response.Span.{IsSpan, findings_of, found_at}
 pub use Rattle.mp_wave.specs.WaveChanges.{changes_in}
 pub use Rattle.mp_wave.specs.Waveform.{AreChanges, IsWaveform, Waveform, between, changes_after, last_time, level_from, level_of, wave_upto}
 pub use Rattle.mp_report.specs.declared.ahead.Ahead.{Ahead}

@@ -5,10 +5,9 @@ ghost use Rattle.mp_report.specs.Bundles.{bundle_set};
 
 use crate::ahead::Ahead;
 use crate::watch::Watch;
-use mp_model::Waves;
+use mp_model::{Findings, Waves};
 use mp_modules::{FindingCode, FindingSet};
 use mp_netlist::{BundleId, BundleRecord, Netlist, WireId};
-use mp_response::Findings;
 use std::alloc::{AllocError, Global};
 
 /// What is found at a bundle, by time and then by the codes' numbers; nothing if it doesn't exist. Units in which none of its wires changes are

@@ -4,10 +4,9 @@ ghost use Rattle.mp_report.specs.Clauses.{ℕ, true, List, IsSome, IfOk, All, ma
 ghost use Rattle.mp_modules.specs.storage.AnyModules.{any_part_of, found};
 ghost use Rattle.mp_records.specs.declared.ports.Input.{Input as Port};
 
-use mp_model::{Waves, built};
+use mp_model::{Findings, InPiece, Waves, built, cut, cut_delayed, respond};
 use mp_modules::{EventModule, Kind};
 use mp_netlist::{Input, ModuleId, Netlist};
-use mp_response::{Findings, InPiece, cut, cut_delayed, respond};
 use mp_wave::Wave;
 use std::alloc::{AllocError, Global};
 

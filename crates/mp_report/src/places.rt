@@ -4,9 +4,8 @@ ghost use Rattle.mp_report.specs.Clauses.{IfOk, AreWavesOf, places, found_over};
 
 use crate::bundles::found_at_bundle;
 use crate::modules::found_at_module;
-use mp_model::{Place, Waves};
+use mp_model::{Findings, Place, Waves};
 use mp_netlist::{BundleId, ModuleId, Netlist};
-use mp_response::Findings;
 use std::alloc::{AllocError, Global};
 
 /// The modules by number, and then the bundles by number, removed ones among them.

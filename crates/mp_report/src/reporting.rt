@@ -3,9 +3,8 @@ ghost use Rattle.std.specs.Prelude.{◌≡◌, ◌++◌};
 ghost use Rattle.mp_report.specs.Clauses.{IfOk, OnOk, map, AllZip, flat_map, AreWavesOf, findings, found_over, found_by_place, finding_at};
 
 use crate::places::{found_at_place, places};
-use mp_model::{Finding, Place, Waves};
+use mp_model::{Finding, Findings, Place, Waves};
 use mp_netlist::Netlist;
-use mp_response::Findings;
 use rayon::prelude::*;
 use std::alloc::{AllocError, Global};
 use std::thread::Threads;

@@ -1,6 +1,6 @@
 -- A run with what the run of a part has of its wires and modules.
 use Rattle.std.specs.Prelude.{◌≡◌, ℕ, List, None}
-use Rattle.mp_pieces.specs.Replaced.{AreReplaced}
+use Rattle.mp_records.specs.lists.Replaced.{AreReplaced}
 use Rattle.mp_partition.specs.runs.Outcomes.{Outcome}
 
 -- wire k of the part stands for the wire of number wires[k], and module k for that of number modules[k]; all else is as before

@@ -33,7 +33,7 @@ impl Run {
     ghost use Rattle.std.specs.Option.{option_copied};
     ghost use Rattle.std.specs.Arc.{arc_value};
     ghost use Rattle.mp_netlist.specs.Slots.{slot_at};
-    ghost use Rattle.mp_pieces.specs.Replaced.{AreApart};
+    ghost use Rattle.mp_records.specs.lists.Replaced.{AreApart};
     ghost use Rattle.mp_partition.specs.runs.Outcomes.{Outcome, wave_of, end_of, checkpoint_of};
     ghost use Rattle.mp_partition.specs.runs.Replacing.{HasReplaced};
 

@@ -4,7 +4,7 @@ ghost use Rattle.std.specs.Arc.{arc_value};
 
 use crate::runs::checkpoints::Checkpoints;
 use mp_modules::Memory;
-use mp_pieces::Kept;
+use mp_records::Kept;
 use std::alloc::{AllocError, Global};
 use std::marker::Model;
 use std::sync::Arc;

@@ -2,14 +2,14 @@
 ghost use Rattle.std.specs.Prelude.{◌≡◌, None, map, option_map, IfOk};
 ghost use Rattle.std.specs.Option.{option_copied};
 ghost use Rattle.std.specs.Arc.{arc_value};
-ghost use Rattle.mp_pieces.specs.Replaced.{AreApart, AreReplaced};
+ghost use Rattle.mp_records.specs.lists.Replaced.{AreApart, AreReplaced};
 ghost use Rattle.mp_netlist.specs.Slots.{slot_at};
 ghost use Rattle.mp_partition.specs.runs.KeptStates.{ends_of, kept_of};
 
 use crate::runs::checkpoints::Checkpoints;
 use crate::runs::shared_states::{LastState, SharedCheckpoints, shared};
 use mp_modules::Memory;
-use mp_pieces::Pieces;
+use mp_records::Pieces;
 use std::alloc::{AllocError, Global};
 use std::sync::Arc;
 

@@ -2,8 +2,8 @@
 use Rattle.std.specs.Prelude.{◌≡◌, ℕ, List}
 use Rattle.mp_modules.specs.declared.memory.Memory.{Memory}
 use Rattle.mp_modules.specs.declared.storage.any_module.AnyModule.{AnyModule}
-use Rattle.mp_response.specs.declared.piece.Piece.{Piece}
-use Rattle.mp_response.specs.Span.{IsSpan}
+use Rattle.mp_model.specs.declared.response.piece.Piece.{Piece}
+use Rattle.mp_model.specs.response.Span.{IsSpan}
 
 -- from the state s before the time a, a module with the input levels x comes to another before the time b
 abbrev pub ComesTo : AnyModule → (ℕ → List ℕ) → Memory → ℕ → ℕ → Memory → Type 0

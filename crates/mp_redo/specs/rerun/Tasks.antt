@@ -5,7 +5,7 @@ use Rattle.mp_modules.specs.declared.memory.Memory.{Memory}
 use Rattle.mp_records.specs.declared.ids.ModuleId.{ModuleId}
 use Rattle.mp_records.specs.declared.module_record.ModuleRecord.{ModuleRecord}
 use Rattle.mp_netlist.specs.Circuit.{Circuit, module_at}
-use Rattle.mp_response.specs.Pieces.{levels_at}
+use Rattle.mp_model.specs.response.Pieces.{levels_at}
 use Rattle.mp_partition.specs.runs.Checkpoints.{state_before}
 use Rattle.mp_depend.specs.work.Revisions.{IsKept}
 use Rattle.mp_redo.specs.rerun.Joins.{ComesTo}

@@ -6,7 +6,7 @@ ghost use Rattle.mp_modules.specs.declared.memory.TheConstants.{MOST_INPUTS};
 use mp_modules::{AnyModule, MOST_INPUTS, Memory};
 use mp_netlist::ModuleId;
 use mp_phase::{Gate, Work};
-use mp_response::{InPiece, respond};
+use mp_model::{InPiece, respond};
 use std::alloc::{AllocError, Global};
 use std::sync::Wait;
 
@@ -26,7 +26,7 @@ pub(crate) struct Join {
 }
 
 impl Work for Join {
-    ghost use Rattle.mp_response.specs.Pieces.{levels_at};
+    ghost use Rattle.mp_model.specs.response.Pieces.{levels_at};
     ghost use Rattle.mp_redo.specs.rerun.Joins.{ComesTo, IsOnly};
 
     type Done = Memory;

@@ -5,18 +5,17 @@ ghost use Rattle.mp_records.specs.Outputs.{delay_of};
 ghost use Rattle.mp_netlist.specs.Circuit.{Drives};
 ghost use Rattle.mp_model.specs.Tracks.{AreTimesIn, held_all};
 ghost use Rattle.mp_model.specs.Waves.{level, state};
-ghost use Rattle.mp_response.specs.Delays.{IsSpanOf};
-ghost use Rattle.mp_response.specs.Pieces.{put_off};
+ghost use Rattle.mp_model.specs.response.Delays.{IsSpanOf};
+ghost use Rattle.mp_model.specs.response.Pieces.{put_off};
 ghost use Rattle.mp_depend.specs.work.Revisions.{IsKept};
 ghost use Rattle.mp_active.specs.compare.Comparing.{old_wave};
 ghost use Rattle.mp_redo.specs.rerun.Reruns.{IsChange};
 
 use crate::rerun::old_state::{old_pieces, old_state_before};
 use mp_active::Change;
-use mp_model::built;
+use mp_model::{Piece, built, respond};
 use mp_netlist::{ModuleId, ModuleRecord, Output};
 use mp_partition::Run;
-use mp_response::{Piece, respond};
 use mp_wave::{Wave, WaveBuilder};
 use std::alloc::{AllocError, Global};
 

@@ -5,7 +5,7 @@ ghost use Rattle.mp_modules.specs.declared.memory.TheConstants.{MOST_INPUTS};
 ghost use Rattle.mp_records.specs.declared.ports.Input.{Input as Port};
 ghost use Rattle.mp_partition.specs.runs.Checkpoints.{state_before};
 ghost use Rattle.mp_model.specs.Levels.{built};
-ghost use Rattle.mp_response.specs.Pieces.{levels_at, piece_level};
+ghost use Rattle.mp_model.specs.response.Pieces.{levels_at, piece_level};
 ghost use Rattle.mp_depend.specs.work.Revisions.{IsKept};
 ghost use Rattle.mp_active.specs.compare.Comparing.{old_wave};
 ghost use Rattle.mp_redo.specs.rerun.Reruns.{IsChange};
@@ -15,7 +15,7 @@ use mp_depend::{block_of, old_state};
 use mp_modules::{AnyModule, MOST_INPUTS, Memory};
 use mp_netlist::{Input, ModuleId, ModuleRecord};
 use mp_partition::Run;
-use mp_response::{Changes, InPiece, cut_delayed, respond};
+use mp_model::{Changes, InPiece, cut_delayed, respond};
 use mp_wave::Wave;
 use std::alloc::{AllocError, Global};
 

@@ -1,4 +1,4 @@
-use Rattle.mp_response.proofs.LateLemmas.{late_level_of}
+use Rattle.mp_model.proofs.lemmas.response.LateLemmas.{late_level_of}
 use Rattle.mp_laws.proofs.DelayedInputLemmas.{reads_later_wave}
 use Rattle.mp_laws.proofs.inputs.delayed_input.Goals as goal
 

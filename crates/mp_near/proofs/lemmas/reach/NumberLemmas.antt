@@ -2,7 +2,7 @@
 use Rattle.std.proofs.Common.{◌≡◌, ℕ, ◌+◌, ◌<◌, ◌≤◌, Bool, true, false, List, [], ◌∷◌, ◌++◌, ◌⊎◌, ◌==◌, length, slice_index_or, refl, ap, sym, ◌∙◌, arith, inl, inr}
 use Rattle.std.proofs.lemmas.Bool.{cases_lt, cases_eq, eq-eqb, ne_eqb}
 use Rattle.std.proofs.lemmas.List.{get_or_append_left, get_or_default, get_or_past, get_or_push, length_push}
-use Rattle.mp_pieces.specs.Replaced.{AreApart, IsElsewhere}
+use Rattle.mp_records.specs.lists.Replaced.{AreApart, IsElsewhere}
 use Rattle.mp_partition.specs.runs.Marks.{is_marked}
 use Rattle.mp_near.specs.reach.Numbers.{AreNumbered, number_at, place_at}
 

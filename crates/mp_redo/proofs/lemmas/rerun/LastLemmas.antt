@@ -22,12 +22,12 @@ use Rattle.mp_model.proofs.HeldLemmas.{AreTimesIn-longer, levels-all}
 use Rattle.mp_partition.specs.runs.Checkpoints.{state_before}
 use Rattle.mp_partition.specs.runs.Outcomes.{Outcome}
 use Rattle.mp_partition.specs.runs.Runs.{IsRun}
-use Rattle.mp_response.specs.declared.piece.Piece.{Piece}
-use Rattle.mp_response.specs.Delays as spans
-use Rattle.mp_response.specs.Pieces.{put_off}
-use Rattle.mp_response.specs.Span.{IsSpan, extended, output_changes, state_after}
-use Rattle.mp_response.proofs.DelayLemmas.{gives_levels}
-use Rattle.mp_response.proofs.JoinLemmas.{inside_alone}
+use Rattle.mp_model.specs.declared.response.piece.Piece.{Piece}
+use Rattle.mp_model.specs.response.Delays as spans
+use Rattle.mp_model.specs.response.Pieces.{put_off}
+use Rattle.mp_model.specs.response.Span.{IsSpan, extended, output_changes, state_after}
+use Rattle.mp_model.proofs.lemmas.response.DelayLemmas.{gives_levels}
+use Rattle.mp_model.proofs.lemmas.response.JoinLemmas.{inside_alone}
 use Rattle.mp_active.specs.compare.Comparing.{old_wave}
 use Rattle.std.proofs.lemmas.List.{get_or_default}
 use Rattle.std.proofs.lemmas.Option.{same_Some}

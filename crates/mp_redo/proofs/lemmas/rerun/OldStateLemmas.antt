@@ -24,11 +24,11 @@ use Rattle.mp_partition.specs.declared.runs.checkpoint.Checkpoint.{Checkpoint}
 use Rattle.mp_partition.specs.runs.Checkpoints.{kept_at, state_before, IsBorder}
 use Rattle.mp_partition.specs.runs.Outcomes.{Outcome}
 use Rattle.mp_partition.specs.runs.Runs.{IsRun, checkpoint}
-use Rattle.mp_response.specs.declared.piece.Piece.{Piece}
-use Rattle.mp_response.specs.Span.{IsSpan}
-use Rattle.mp_response.specs.Delays as spans
-use Rattle.mp_response.proofs.JoinLemmas.{inside_alone}
-use Rattle.mp_response.proofs.DelayLemmas.{ends_in_state}
+use Rattle.mp_model.specs.declared.response.piece.Piece.{Piece}
+use Rattle.mp_model.specs.response.Span.{IsSpan}
+use Rattle.mp_model.specs.response.Delays as spans
+use Rattle.mp_model.proofs.lemmas.response.JoinLemmas.{inside_alone}
+use Rattle.mp_model.proofs.lemmas.response.DelayLemmas.{ends_in_state}
 use Rattle.mp_depend.specs.recording.Overlays.{state_in}
 use Rattle.mp_depend.specs.work.Work.{block_of}
 use Rattle.mp_depend.proofs.lemmas.work.MultipleLemmas.{whole_rest}

@@ -1,4 +1,4 @@
-use Rattle.mp_pieces.proofs.ReplacingLemmas.{replaced_in}
+use Rattle.mp_records.proofs.lemmas.lists.ReplacingLemmas.{replaced_in}
 use Rattle.mp_model.proofs.wave_list.WaveList.replaced.Goals as goal
 
 pub returns : goal.returns

@@ -1,5 +1,5 @@
 use Rattle.std.proofs.Common.{List, ℕ, length, sym, subst}
-use Rattle.mp_pieces.specs.Replaced.{AreApart}
+use Rattle.mp_records.specs.lists.Replaced.{AreApart}
 use Rattle.mp_partition.specs.runs.Replacing.{HasReplaced}
 use Rattle.mp_redo.proofs.lemmas.parts.OkLemmas.{on_ok}
 use Rattle.mp_near.proofs.lemmas.reach.NumberLemmas.{numbers_apart}

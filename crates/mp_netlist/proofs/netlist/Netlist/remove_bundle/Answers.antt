@@ -3,7 +3,7 @@ use Rattle.mp_records.specs.declared.ids.BundleId.{BundleId}
 use Rattle.mp_netlist.specs.Circuit.{Circuit, IsCircuit}
 use Rattle.mp_netlist.specs.Edits.{bundle_id, with_bundle, bundle_removal_refusal}
 use Rattle.mp_netlist.specs.Records.{circuit_of}
-use Rattle.mp_pieces.proofs.CutLemmas.{in_either}
+use Rattle.mp_records.proofs.lemmas.lists.CutLemmas.{in_either}
 use Rattle.mp_netlist.proofs.NameLemmas.{bundle_within}
 use Rattle.mp_netlist.proofs.CircuitLemmas.{IsCircuit-remove_bundle}
 use Rattle.mp_netlist.proofs.EditLemmas.{going_bundle}

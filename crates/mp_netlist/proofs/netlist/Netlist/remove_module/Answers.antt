@@ -3,7 +3,7 @@ use Rattle.mp_records.specs.declared.ids.ModuleId.{ModuleId}
 use Rattle.mp_netlist.specs.Circuit.{Circuit, IsCircuit}
 use Rattle.mp_netlist.specs.Edits.{module_id, with_module, module_removal_refusal}
 use Rattle.mp_netlist.specs.Records.{circuit_of}
-use Rattle.mp_pieces.proofs.CutLemmas.{in_either}
+use Rattle.mp_records.proofs.lemmas.lists.CutLemmas.{in_either}
 use Rattle.mp_netlist.proofs.EditLemmas.{going_module, IsCircuit-without_module}
 use Rattle.mp_netlist.proofs.netlist.Netlist.remove_module.Goals as goal
 

@@ -3,7 +3,7 @@ use Rattle.mp_records.specs.declared.ids.WireId.{WireId}
 use Rattle.mp_netlist.specs.Circuit.{Circuit, IsCircuit}
 use Rattle.mp_netlist.specs.Edits.{wire_id, with_wire, wire_removal_refusal}
 use Rattle.mp_netlist.specs.Records.{circuit_of}
-use Rattle.mp_pieces.proofs.CutLemmas.{in_either}
+use Rattle.mp_records.proofs.lemmas.lists.CutLemmas.{in_either}
 use Rattle.mp_netlist.proofs.EditLemmas.{free_wire, IsCircuit-without_wire}
 use Rattle.mp_netlist.proofs.netlist.Netlist.remove_wire.Goals as goal
 

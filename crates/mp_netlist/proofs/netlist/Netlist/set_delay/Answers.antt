@@ -4,7 +4,7 @@ use Rattle.mp_records.specs.PortChanges.{with_delay}
 use Rattle.mp_netlist.specs.Circuit.{Circuit, IsCircuit, module_at}
 use Rattle.mp_netlist.specs.Edits.{module_id, with_module, delay_refusal}
 use Rattle.mp_netlist.specs.Records.{circuit_of}
-use Rattle.mp_pieces.proofs.CutLemmas.{in_either}
+use Rattle.mp_records.proofs.lemmas.lists.CutLemmas.{in_either}
 use Rattle.mp_netlist.proofs.EditLemmas.{IsCircuit-delayed}
 use Rattle.mp_netlist.proofs.netlist.Netlist.set_delay.Goals as goal
 

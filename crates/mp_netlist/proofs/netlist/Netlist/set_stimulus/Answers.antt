@@ -3,7 +3,7 @@ use Rattle.mp_records.specs.declared.ids.WireId.{WireId}
 use Rattle.mp_netlist.specs.Circuit.{Circuit, IsCircuit, wire_at}
 use Rattle.mp_netlist.specs.Edits.{wire_id, with_wire, with_stimulus, stimulus_refusal}
 use Rattle.mp_netlist.specs.Records.{circuit_of}
-use Rattle.mp_pieces.proofs.CutLemmas.{in_either}
+use Rattle.mp_records.proofs.lemmas.lists.CutLemmas.{in_either}
 use Rattle.mp_netlist.proofs.EditLemmas.{stimulus_early, IsCircuit-stimulated}
 use Rattle.mp_netlist.proofs.netlist.Netlist.set_stimulus.Goals as goal
 

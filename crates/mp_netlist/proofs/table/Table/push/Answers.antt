@@ -3,7 +3,7 @@ use Rattle.std.specs.Str.{bytes_eq}
 use Rattle.mp_netlist.specs.Indexes.{number_in}
 use Rattle.mp_netlist.specs.Slots.{number_named}
 use Rattle.mp_netlist.specs.Tables.{IsTable}
-use Rattle.mp_pieces.proofs.CutLemmas.{in_either}
+use Rattle.mp_records.proofs.lemmas.lists.CutLemmas.{in_either}
 use Rattle.mp_netlist.proofs.TableLemmas.{IsTable-noted, IsTable-push}
 use Rattle.mp_netlist.proofs.table.Table.push.Goals as goal
 

@@ -1,6 +1,6 @@
 use Rattle.std.proofs.Common.{◌≤◌, None, length, sym, rules}
 use Rattle.std.proofs.lemmas.List.{get_or_past}
-use Rattle.mp_pieces.proofs.CutLemmas.{past_from_none}
+use Rattle.mp_records.proofs.lemmas.lists.CutLemmas.{past_from_none}
 use Rattle.mp_partition.proofs.runs.states.end_in.Goals as goal
 
 pub returns-in-None : goal.returns-in-None

@@ -1,6 +1,6 @@
 use Rattle.std.proofs.Common.{◌≡◌, ◌-◌, ◌^◌, length}
 use Rattle.mp_model.specs.Tracks.{AreTimesIn, held_all}
-use Rattle.mp_response.specs.Pieces.{put_off}
+use Rattle.mp_model.specs.response.Pieces.{put_off}
 use Rattle.mp_redo.proofs.rerun.last_wave.hold_later.Given as goal
 
 -- what is left to be held leads where all does

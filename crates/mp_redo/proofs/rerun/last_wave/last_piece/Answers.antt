@@ -2,8 +2,8 @@ use Rattle.std.proofs.Common.{◌+◌, ◌-◌, List, map, ap, sym, ◌∙◌, a
 use Rattle.mp_wave.specs.Waveform.{level_of}
 use Rattle.mp_records.specs.declared.ports.Input.{Input}
 use Rattle.mp_model.proofs.BuiltLemmas.{width_of_module}
-use Rattle.mp_response.specs.declared.in_piece.InPiece.{InPiece}
-use Rattle.mp_response.specs.Pieces.{levels_at}
+use Rattle.mp_model.specs.declared.response.in_piece.InPiece.{InPiece}
+use Rattle.mp_model.specs.response.Pieces.{levels_at}
 use Rattle.mp_depend.proofs.lemmas.work.StayLemmas.{built_same}
 use Rattle.mp_active.specs.compare.Comparing.{old_wave}
 use Rattle.mp_redo.proofs.lemmas.rerun.LastLemmas.{answered_span}

@@ -9,7 +9,7 @@ use Rattle.mp_records.specs.Outputs.{output_in, output_at, delay_of}
 use Rattle.mp_netlist.proofs.LimitLemmas.{horizon_within}
 use Rattle.mp_model.specs.Tracks.{AreTimesIn, unchanged, held_all}
 use Rattle.mp_model.specs.Waves.{level}
-use Rattle.mp_response.specs.Pieces.{put_off}
+use Rattle.mp_model.specs.response.Pieces.{put_off}
 use Rattle.mp_active.specs.compare.Comparing.{old_wave}
 use Rattle.mp_active.proofs.lemmas.agreement.SourceLemmas.{drove, output_stands}
 use Rattle.mp_redo.proofs.lemmas.rerun.OldStateLemmas.{old_level}

@@ -2,9 +2,9 @@ use Rattle.std.proofs.Common.{◌≡◌, ◌-◌, sym, subst, ◌∙◌}
 use Rattle.std.proofs.lemmas.Result.{IfOk-weaker}
 use Rattle.mp_wave.specs.Waveform.{level_of}
 use Rattle.mp_wave.proofs.PrefixLemmas.{cut_levels}
-use Rattle.mp_response.specs.declared.in_piece.InPiece.{InPiece}
-use Rattle.mp_response.specs.Pieces.{later_by, piece_level}
-use Rattle.mp_response.proofs.LateLemmas.{late_level_of, IsWaveform-later_by}
+use Rattle.mp_model.specs.declared.response.in_piece.InPiece.{InPiece}
+use Rattle.mp_model.specs.response.Pieces.{later_by, piece_level}
+use Rattle.mp_model.proofs.lemmas.response.LateLemmas.{late_level_of, IsWaveform-later_by}
 use Rattle.mp_redo.proofs.rerun.old_state.cut_wave.Goals as goal
 
 pub returns : goal.returns

@@ -1,7 +1,7 @@
 use Rattle.std.proofs.Common.{◌≡◌, ℕ, ◌-◌, ◌<◌, ◌≤◌, length, take, map}
 use Rattle.mp_wave.specs.Waveform.{level_of}
 use Rattle.mp_records.specs.declared.ports.Input.{Input}
-use Rattle.mp_response.specs.Pieces.{levels_at}
+use Rattle.mp_model.specs.response.Pieces.{levels_at}
 use Rattle.mp_active.specs.compare.Comparing.{old_wave}
 use Rattle.mp_redo.proofs.rerun.old_state.old_pieces.Given as goal
 

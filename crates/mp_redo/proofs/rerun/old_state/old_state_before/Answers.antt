@@ -2,8 +2,8 @@ use Rattle.std.proofs.Common.{◌≡◌, ◌-◌, ◌<◌, List, map, ap, sym, �
 use Rattle.mp_wave.specs.Waveform.{level_of}
 use Rattle.mp_records.specs.declared.ports.Input.{Input}
 use Rattle.mp_partition.specs.runs.Checkpoints.{state_before}
-use Rattle.mp_response.specs.declared.in_piece.InPiece.{InPiece}
-use Rattle.mp_response.specs.Pieces.{levels_at}
+use Rattle.mp_model.specs.declared.response.in_piece.InPiece.{InPiece}
+use Rattle.mp_model.specs.response.Pieces.{levels_at}
 use Rattle.mp_depend.specs.work.Work.{block_of}
 use Rattle.mp_depend.proofs.lemmas.work.StayLemmas.{built_same}
 use Rattle.mp_active.specs.compare.Comparing.{old_wave}

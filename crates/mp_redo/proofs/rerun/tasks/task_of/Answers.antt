@@ -4,7 +4,7 @@ use Rattle.mp_records.specs.declared.ports.Input.{Input}
 use Rattle.mp_records.specs.declared.module_record.ModuleRecord.{ModuleRecord}
 use Rattle.mp_model.proofs.BuiltLemmas.{width_of_module}
 use Rattle.mp_partition.specs.runs.Checkpoints.{state_before}
-use Rattle.mp_response.specs.Pieces.{levels_at}
+use Rattle.mp_model.specs.response.Pieces.{levels_at}
 use Rattle.mp_depend.specs.work.Revisions.{IsKept}
 use Rattle.mp_depend.specs.work.Work.{block_of, IsEntry}
 use Rattle.mp_depend.proofs.lemmas.work.StayLemmas.{built_same}

@@ -1,4 +1,4 @@
-use Rattle.mp_pieces.proofs.ReplacingLemmas.{replaced_in}
+use Rattle.mp_records.proofs.lemmas.lists.ReplacingLemmas.{replaced_in}
 use Rattle.mp_partition.proofs.runs.states.States.kept_with.Goals as goal
 
 pub returns : goal.returns

@@ -1,6 +1,0 @@
-use Rattle.mp_pieces.proofs.ReplacingLemmas.{AreReplacedUpto}
-use Rattle.mp_pieces.proofs.pieces.Pieces.replace.Given as goal
-
--- those so far are replaced
-abbrev pub invariant-loop-k : goal.invariant-loop-k
-invariant-loop-k g l = AreReplacedUpto l.blank l.fn.self l.places l.entries l.k l.self
