@@ -1,5 +1,5 @@
 -- Ports that wait for each other, one after the other.
-use Rattle.std.proofs.Common.{◌≡◌, ◌≢◌, ℕ, ◌+◌, ◌^◌, ◌/◌, ◌%◌, ◌<◌, ◌≤◌, ◌==◌, true, false, cond, List, [], ◌∷◌, ◌++◌, All, length, get_or, map, filter, Option, Some, None, zero, suc, refl, ap, sym, subst, ◌∙◌, append-nil, append_assoc, inl, inr, arith}
+use Rattle.std.proofs.Common.{◌≡◌, ◌≢◌, ℕ, ◌+◌, ◌^◌, ◌/◌, ◌%◌, ◌<◌, ◌≤◌, ◌==◌, true, false, cond, List, [], ◌∷◌, ◌++◌, All, length, get_or, map, filter, Option, Some, None, zero, suc, refl, ap, sym, subst, ◌∙◌, append_assoc, inl, inr, arith}
 use Rattle.std.specs.List.{range_with_len}
 use Rattle.std.proofs.lemmas.Bool.{cases_lt, eq-eqb, ne_eqb}
 use Rattle.std.proofs.lemmas.List.{get_or_past, length-map}
@@ -15,13 +15,6 @@ use Rattle.mp_check.proofs.WaitingLemmas.{slots_few}
 -- ---- what they wait for, so far
 
 module _ (n : Circuit) (first : ℕ) (xs whole : List Wait) where
-  pub waits_none : (count : ℕ) (next : Option Wait) → 0 < count → next ≡ None → xs ++ waits_to n first count next ≡ whole → xs ≡ whole
-  waits_none zero next some is so = absurd (omega (arith, some))
-  waits_none (suc count) next some is so = sym (append-nil xs) ∙ ap (λ o. xs ++ waits_to n first (suc count) o) (sym is) ∙ so
-
-  pub waits_over : (count : ℕ) (next : Option Wait) → count ≡ 0 → xs ++ waits_to n first count next ≡ whole → xs ≡ whole
-  waits_over count next none so = sym (append-nil xs) ∙ ap (λ k. xs ++ waits_to n first k next) (sym none) ∙ so
-
   pub waits_last : (count : ℕ) (next : Option Wait) (w : Wait) → 0 < count → next ≡ Some w → w.next ≡ first → xs ++ waits_to n first count next ≡ whole → xs ++ w ∷ [] ≡ whole
   waits_last zero next w some is round so = absurd (omega (arith, some))
   waits_last (suc count) next w some is round so =

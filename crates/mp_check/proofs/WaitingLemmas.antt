@@ -1,7 +1,6 @@
 -- Ports by their numbers, and inputs that are all still.
 use Rattle.std.proofs.Common.{◌≡◌, ◌⊎◌, ℕ, ◌+◌, ◌<◌, ◌≤◌, ◌&&◌, Bool, true, false, List, [], ◌∷◌, length, get_or, take, Option, Some, None, is_some, zero, suc, refl, ap, sym, subst, ◌∙◌, inl, inr, arith}
 use Rattle.std.specs.List.{list_all}
-use Rattle.std.proofs.lemmas.List.{take_all}
 use Rattle.std.proofs.lemmas.List.Folds.{list_all_more}
 use Rattle.mp_modules.specs.declared.kind.Kind.{Kind}
 use Rattle.mp_modules.specs.declared.kind.Kind.TheVariants as kinds
@@ -78,6 +77,3 @@ not_all p (x ∷ xs) (suc i) d within is = ap (λ b. p x && b) (not_all p xs i d
     by : (b : Bool) → (b && false) ≡ false
     by true = refl
     by false = refl
-
-pub all_over : {X : Type 0} (p : X → Bool) (xs : List X) (i : ℕ) → length xs ≤ i → list_all p (take i xs) ≡ true → list_all p xs ≡ true
-all_over p xs i over so = ap (list_all p) (sym (take_all i xs over)) ∙ so

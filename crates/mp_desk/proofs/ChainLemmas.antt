@@ -1,6 +1,6 @@
 -- Logs of entries, each of whose stories has one edit more than the one before.
 use Rattle.std.proofs.Common.{◌≡◌, ℕ, ◌+◌, ◌≤◌, ◌<◌, ◌⊎◌, inl, inr, ⊎_elim, List, [], ◌∷◌, ◌++◌, map, length, refl, ap, sym, ◌∙◌, subst, arith, length-append, append_assoc}
-use Rattle.std.proofs.lemmas.List.{map-append, length-replicate}
+use Rattle.std.proofs.lemmas.List.{map-append}
 use mathlib.Core.List.{IsPrefix}
 use Rattle.mp_version.specs.Stories.{Story}
 use Rattle.mp_desk.specs.Extending.{Extends, Succeeds}
@@ -114,26 +114,7 @@ chain_added (x ∷ xs) y h may = chain_snoc x.version y xs h may
 pub some_added : (log : List HistoryEntry) (y : HistoryEntry) → 0 < length (log ++ y ∷ [])
 some_added log y = omega (arith, length-append log (y ∷ []))
 
--- the mark of a log that has begun
-pub mark_some : (log : List HistoryEntry) → 0 < length log → mark log ≡ length (latest log).edits + 1
-mark_some [] some = absurd (omega arith)
-mark_some (x ∷ xs) some = refl
-
-pub may_some : (log : List HistoryEntry) (y : Story) → 0 < length log → Succeeds y (latest log) → MayAdd log y
-may_some [] y some h = absurd (omega (arith, some))
-may_some (x ∷ xs) y some h = h
-
 -- ---- authors
-
-pub unsigned_length : (s : Story) → length (unsigned s) ≡ length s.edits
-unsigned_length s = length-replicate (length s.edits) 0
-
-pub authors_first : (y : HistoryEntry) → authors (y ∷ []) ≡ unsigned y.version
-authors_first y = append_nil (unsigned y.version)
-  where
-    append_nil : (xs : List ℕ) → xs ++ [] ≡ xs
-    append_nil [] = refl
-    append_nil (x ∷ xs) = ap (λ ys. x ∷ ys) (append_nil xs)
 
 pub authors_added : (log : List HistoryEntry) (y : HistoryEntry) → 0 < length log → authors (log ++ y ∷ []) ≡ authors log ++ y.author ∷ []
 authors_added [] y some = absurd (omega (arith, some))

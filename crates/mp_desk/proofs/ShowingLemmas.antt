@@ -1,5 +1,5 @@
 -- What a pass has seen, once it has entered a version as long as the published one.
-use Rattle.std.proofs.Common.{◌≡◌, List, [], ◌∷◌, fold, length, sym, subst, inr, Result, Ok, Err, true}
+use Rattle.std.proofs.Common.{◌≡◌, List, [], ◌∷◌, fold, length, sym, subst, Result, Ok, Err, true}
 use Rattle.std.specs.Prelude.{MatchResult, is_ok}
 use Rattle.logbook.specs.Pages.{Book}
 use Rattle.mp_version.specs.Stories.{Story}
@@ -9,12 +9,6 @@ use Rattle.mp_desk.specs.Chronicles.{Shown, Follows}
 use Rattle.mp_desk.specs.Knowing.{Known, Has, Covers}
 use Rattle.mp_desk.specs.Knowing.{KeepsRead, FollowsRead}
 use Rattle.mp_desk.proofs.KeepingLemmas.{covers_has, follows_self}
-
-pub keeps_self : (k : Known) → KeepsRead k k
-keeps_self k s h = h
-
-pub keeps_entered : (first known after : Known) (y : Shown) → KeepsRead first known → after ≡ y ∷ known → KeepsRead first after
-keeps_entered first known after y h e s at = subst (λ (xs : Known). Has xs s) (sym e) (inr (h s at))
 
 -- the book of what is entered is that of what was read before
 pub same_book : (y : Shown) (first known : Known) (s : Shown) → KeepsRead first known → Covers y known → Has first s → y.book ≡ s.book

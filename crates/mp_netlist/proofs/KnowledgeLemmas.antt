@@ -1,12 +1,11 @@
 -- What is known of the wires that modules are at, when one of them changes.
-use Rattle.std.proofs.Common.{◌≡◌, ℕ, ◌+◌, ◌<◌, ◌≤◌, suc, Bool, true, false, ◌==◌, ◌||◌, List, [], ◌∷◌, ◌++◌, length, get_or, take, cond, Bor, IfSome, Option, None, Some, ◌⊎◌, inl, inr, refl, sym, ap, subst, ◌∙◌, arith, true≢false}
-use Rattle.std.proofs.Math.ListN.{set, length-set}
-use Rattle.std.proofs.lemmas.List.Folds.{list_any-append, list_any_more, list_any_at}
+use Rattle.std.proofs.Common.{◌≡◌, ℕ, ◌+◌, ◌<◌, ◌≤◌, suc, Bool, true, false, ◌==◌, ◌||◌, List, [], ◌∷◌, length, get_or, take, cond, Bor, IfSome, Option, None, Some, ◌⊎◌, inl, inr, refl, sym, ap, subst, ◌∙◌, arith, true≢false}
+use Rattle.std.proofs.lemmas.List.Folds.{list_any_more, list_any_at}
 use Rattle.std.specs.List.{list_any, slice_get}
 use Rattle.std.specs.Option.{option_copied}
 use Rattle.std.proofs.lemmas.Option.{slice_get_within, get_or_from_slice_get}
-use Rattle.std.proofs.lemmas.Bool.{cases_lt, cases_eq, cases_Bool, or_cases, or_parts, or_left, or_right, eq-eqb, eqb-true}
-use Rattle.std.proofs.lemmas.List.{get_or_past, get_or-set_same, get_or-set_other, set_past}
+use Rattle.std.proofs.lemmas.Bool.{cases_lt, cases_Bool, or_cases, or_parts, or_left, or_right, eqb-true}
+use Rattle.std.proofs.lemmas.List.{get_or_past}
 use Rattle.mp_records.specs.declared.module_record.ModuleRecord.{ModuleRecord}
 use Rattle.mp_records.specs.declared.ports.Input.{Input}
 use Rattle.mp_records.specs.declared.ports.Output.{Output}
@@ -18,59 +17,7 @@ use Rattle.mp_netlist.specs.Tables.{KeepsNames}
 use Rattle.mp_netlist.specs.Drivers.{port_from, port_of}
 use Rattle.mp_netlist.specs.Around.{is_in, row_at, HasGrown}
 use Rattle.mp_netlist.specs.Knowledge.{Knows, AreKnown}
-use Rattle.mp_netlist.proofs.TableLemmas.{PushedAt, pushed_at, equal_name}
-
--- a module goes last that is known
-pub AreKnown-push : (known : WireKnowledge) (slots : List (Option ModuleRecord)) (r : ModuleRecord) → AreKnown known slots → Knows known (length slots) r → AreKnown known (slots ++ Some r ∷ [])
-AreKnown-push known slots r are new m s at = by (pushed_at slots (Some r) m)
-  where
-    by : PushedAt slots (Some r) m → Knows known m s
-    by (inl old) = are m s (sym old.1 ∙ at)
-    by (inr (inl last)) =
-        let same : Some r ≡ Some s = sym last.1 ∙ at in
-        let is : r ≡ s = cc in
-        subst (Knows known m) is (subst (λ k. Knows known k r) (sym last.0) new)
-    by (inr (inr none)) = let other = sym none.1 ∙ at in cc
-
--- something is put into a slot that is known, or nothing
-pub AreKnown-set : (known : WireKnowledge) (slots : List (Option ModuleRecord)) (i : ℕ) (slot : Option ModuleRecord) → AreKnown known slots
-    → ((r : ModuleRecord) → slot ≡ Some r → Knows known i r) → AreKnown known (set slots i slot)
-AreKnown-set known slots i slot are new m s at = by (cases_eq m i) (cases_lt i (length slots))
-  where
-    by : (m ≡ i) ⊎ (m ≡ i → ⊥) → (i < length slots) ⊎ (length slots ≤ i) → Knows known m s
-    by (inr other) within = are m s (sym (get_or-set_other slots i m slot None other) ∙ at)
-    by (inl same) (inl within) =
-        let here : slot ≡ Some s = sym (get_or-set_same slots i slot None within) ∙ ap (λ k. get_or (set slots i slot) k None) (sym same) ∙ at in
-        subst (λ k. Knows known k s) (sym same) (new s here)
-    by (inl same) (inr past) = are m s (ap (λ xs. get_or xs m None) (sym (set_past slots i slot past)) ∙ at)
-
-pub HasGrown-refl : (rows : List (List ℕ)) → HasGrown rows rows
-HasGrown-refl rows = record { places = refl; kept = λ w m is. is }
-
-pub HasGrown-trans : (old mid new : List (List ℕ)) → HasGrown old mid → HasGrown mid new → HasGrown old new
-HasGrown-trans old mid new one other = record {
-  places = other.places ∙ one.places;
-  kept = λ w m is. other.kept w m (one.kept w m is);
-}
-
-in_longer : (row more : List ℕ) (m : ℕ) → is_in m row ≡ true → is_in m (row ++ more) ≡ true
-in_longer row more m is = list_any-append (λ k. k == m) row more ∙ or_left (is_in m row) (is_in m more) is
-
-in_last : (row : List ℕ) (m : ℕ) → is_in m (row ++ m ∷ []) ≡ true
-in_last row m = list_any-append (λ k. k == m) row (m ∷ []) ∙ or_right (is_in m row) (is_in m (m ∷ [])) (or_left (m == m) false (eq-eqb m m refl))
-
--- a wire's modules are written over by them and another
-pub HasGrown-set : (rows : List (List ℕ)) (v : ℕ) (row : List ℕ) (m : ℕ) → v < length rows → row ≡ row_at rows v ++ m ∷ [] → HasGrown rows (set rows v row)
-HasGrown-set rows v row m within is = record { places = length-set rows v row; kept = λ w k had. by w k had (cases_eq w v) }
-  where
-    by : (w k : ℕ) → is_in k (row_at rows w) ≡ true → (w ≡ v) ⊎ (w ≡ v → ⊥) → is_in k (row_at (set rows v row) w) ≡ true
-    by w k had (inr other) = ap (is_in k) (get_or-set_other rows v w row [] other) ∙ had
-    by w k had (inl same) =
-        let here : row_at (set rows v row) w ≡ row_at rows v ++ m ∷ [] = ap (row_at (set rows v row)) same ∙ get_or-set_same rows v row [] within ∙ is in
-        ap (is_in k) here ∙ in_longer (row_at rows v) (m ∷ []) k (sym (ap (λ u. is_in k (row_at rows u)) same) ∙ had)
-
-pub noted-set : (rows : List (List ℕ)) (v : ℕ) (row : List ℕ) (m : ℕ) → v < length rows → row ≡ row_at rows v ++ m ∷ [] → is_in m (row_at (set rows v row) v) ≡ true
-noted-set rows v row m within is = ap (is_in m) (get_or-set_same rows v row [] within ∙ is) ∙ in_last (row_at rows v) m
+use Rattle.mp_netlist.proofs.TableLemmas.{equal_name}
 
 -- what is noted of the wires so far, and of one more, is noted of one more
 pub noted_more : {X : Type 0} (q : ℕ → X → Bool) (old mid new : List (List ℕ)) (m : ℕ) (xs : List X) (p : ℕ) (d : X) → p < length xs → HasGrown old mid → HasGrown mid new

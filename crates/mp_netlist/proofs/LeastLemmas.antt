@@ -1,13 +1,12 @@
 -- The least delay of modules, when one of them changes.
-use Rattle.std.proofs.Common.{◌≡◌, ℕ, zero, suc, ◌+◌, ◌<◌, ◌≤◌, List, [], ◌∷◌, ◌++◌, Option, None, Some, length, get_or, take, drop, min, fold, ◌⊎◌, inl, inr, refl, sym, ap, subst, ◌∙◌, arith}
+use Rattle.std.proofs.Common.{◌≡◌, ℕ, zero, suc, ◌+◌, ◌<◌, List, [], ◌∷◌, ◌++◌, Option, None, Some, length, get_or, take, drop, fold, ◌⊎◌, inl, inr, refl, sym, ap, subst, ◌∙◌, arith}
 use Rattle.std.specs.List.{flat_map}
 use Rattle.std.proofs.Math.ListN.{set}
-use Rattle.std.proofs.lemmas.Bool.{cases_lt}
 use Rattle.std.proofs.lemmas.List.{take-append-drop}
 use Rattle.std.proofs.lemmas.List.Sums.{fold-append}
 use Rattle.mp_records.specs.declared.module_record.ModuleRecord.{ModuleRecord}
-use Rattle.mp_netlist.specs.Delays.{delays_in, delays_of, lesser}
-use Rattle.mp_netlist.specs.Least.{least_among, least_at, lesser_of, IsAfter, GoesUp, IsAtMost, IsChanged}
+use Rattle.mp_netlist.specs.Delays.{delays_in, lesser}
+use Rattle.mp_netlist.specs.Least.{least_among, least_at, lesser_of, IsAtMost, IsChanged}
 
 none_lesser : (a : Option ℕ) → lesser_of None a ≡ a
 none_lesser None = refl
@@ -40,13 +39,6 @@ least_append (x ∷ xs) ys =
     least_cons x (xs ++ ys) ∙ ap (lesser_of (least_at x)) (least_append xs ys)
     ∙ sym (lesser_assoc (least_at x) (least_among xs) (least_among ys)) ∙ ap (λ l. lesser_of l (least_among ys)) (sym (least_cons x xs))
 
--- a module goes last
-pub least_push : (slots : List (Option ModuleRecord)) (r : ModuleRecord) → fold lesser (least_among slots) (delays_of r.outputs) ≡ least_among (slots ++ Some r ∷ [])
-least_push slots r =
-    fold_from (least_among slots) (delays_of r.outputs)
-    ∙ ap (lesser_of (least_among slots)) (sym (least_cons (Some r) []))
-    ∙ sym (least_append slots (Some r ∷ []))
-
 -- one more slot is looked at
 pub least_more : (slots : List (Option ModuleRecord)) (i : ℕ) → i < length slots → least_among (take (i + 1) slots) ≡ lesser_of (least_among (take i slots)) (least_at (get_or slots i None))
 least_more [] i within = absurd (omega arith)
@@ -78,46 +70,6 @@ least_set (slot ∷ slots) (suc i) s within =
     by : (suc i < suc (length slots)) ⊎ (s ≡ None) → (i < length slots) ⊎ (s ≡ None)
     by (inl h) = inl (omega arith)
     by (inr none) = inr none
-
-stays_with : (rest before after : Option ℕ) → (GoesUp (lesser_of rest before) before after → ⊥) → lesser_of (lesser_of rest before) after ≡ lesser_of rest after
-stays_with rest None after not = refl
-stays_with None (Some b) None not = absurd (not (refl, tt))
-stays_with None (Some b) (Some a) not = by (cases_lt b a)
-  where
-    by : (b < a) ⊎ (a ≤ b) → Some (min b a) ≡ Some a
-    by (inl up) = absurd (not (refl, up))
-    by (inr down) = ap Some (omega (arith, down))
-stays_with (Some r) (Some b) None not = by (cases_lt r b)
-  where
-    by : (r < b) ⊎ (b ≤ r) → Some (min r b) ≡ Some r
-    by (inl less) = ap Some (omega (arith, less))
-    by (inr most) = absurd (not (ap Some (omega (arith, most)), tt))
-stays_with (Some r) (Some b) (Some a) not = by (cases_lt r b) (cases_lt b a)
-  where
-    by : (r < b) ⊎ (b ≤ r) → (b < a) ⊎ (a ≤ b) → Some (min (min r b) a) ≡ Some (min r a)
-    by (inl less) other = ap Some (omega (arith, less))
-    by (inr most) (inl up) = absurd (not (ap Some (omega (arith, most)), omega (arith, most, up)))
-    by (inr most) (inr down) = ap Some (omega (arith, most, down))
-
--- where the least doesn't go up
-pub least_stays : (least before after now : Option ℕ) → IsChanged least before after now → (GoesUp least before after → ⊥) → lesser_of least after ≡ now
-least_stays least before after now changed not =
-    let with = stays_with changed.rest before after (λ up. not (subst (λ l. GoesUp l before after) (sym changed.was) up)) in
-    ap (λ l. lesser_of l after) changed.was ∙ with ∙ sym changed.is
-
-at_most_with : (rest before after : Option ℕ) → before ≡ lesser_of rest before → IsAfter before after → IsAtMost before (lesser_of rest after)
-at_most_with rest None after same up = absurd up
-at_most_with None (Some b) None same up = tt
-at_most_with None (Some b) (Some a) same up = omega (arith, up)
-at_most_with (Some r) (Some b) None same up = let least : b ≡ min r b = cc in omega (arith, least)
-at_most_with (Some r) (Some b) (Some a) same up = let least : b ≡ min r b = cc in omega (arith, least, up)
-
--- where it does, it was at most what it is
-pub least_goes_up : (least before after now : Option ℕ) → IsChanged least before after now → GoesUp least before after → IsAtMost least now
-least_goes_up least before after now changed up =
-    let same : before ≡ lesser_of changed.rest before = up.0 ∙ changed.was in
-    let most = at_most_with changed.rest before after same (subst (λ l. IsAfter l after) (sym up.0) up.1) in
-    subst (λ l. IsAtMost l now) up.0 (subst (IsAtMost before) (sym changed.is) most)
 
 no_less : (bound other : Option ℕ) → IsAtMost bound (lesser_of bound other) → bound ≡ lesser_of bound other
 no_less None other most = absurd most

@@ -1,6 +1,6 @@
 -- The look-up of a name among slots, and what each change of a slot does to the names and to their table.
-use Rattle.std.proofs.Common.{◌≡◌, ℕ, zero, suc, ◌+◌, ◌-◌, ◌^◌, ◌<◌, ◌≤◌, ◌↔◌, Bool, true, false, cond, List, [], ◌∷◌, ◌++◌, length, get_or, Option, None, Some, option_map, MatchOption, is_some, is_none, unwrap_or, ◌⊎◌, inl, inr, refl, sym, ap, subst, ◌∙◌, arith, true≢false, length-append}
-use Rattle.std.proofs.Math.ListN.{set, length-set}
+use Rattle.std.proofs.Common.{◌≡◌, ℕ, zero, suc, ◌+◌, ◌-◌, ◌^◌, ◌<◌, ◌≤◌, ◌↔◌, Bool, true, false, cond, List, [], ◌∷◌, ◌++◌, length, get_or, Option, None, Some, MatchOption, is_some, is_none, unwrap_or, ◌⊎◌, inl, inr, refl, sym, ap, subst, ◌∙◌, arith, true≢false, length-append}
+use Rattle.std.proofs.Math.ListN.{set}
 use Rattle.std.specs.List.{position_from, slice_get}
 use Rattle.std.specs.Str.{bytes_eq}
 use Rattle.std.specs.Option.{option_and_then}
@@ -185,13 +185,6 @@ module _ {R : Type 0} (name_of : R → List ℕ) where
       by None found = absurd (true≢false (sym is ∙ ap is_some found))
       by (Some k) found = named_at slots name k (get_or slots k None) found refl
 
-  -- a table with the same look-ups
-  pub IsTable-copy : (slots : List (Option R)) (look new : List ℕ → Option ℕ) → ((q : List ℕ) → new q ≡ look q) → IsTable name_of slots look → IsTable name_of slots new
-  IsTable-copy slots look new is table = record {
-    few = table.few;
-    finds = λ q number has. is q ∙ table.finds q number has;
-  }
-
   -- where a look-up finds nothing no thing has the name
   pub named_none : (slots : List (Option R)) (name : List ℕ) → is_none (number_named name_of slots name) ≡ true → (i : ℕ) → has_name name_of name (get_or slots i None) ≡ false
   unfolding number_named
@@ -231,20 +224,6 @@ module _ {R : Type 0} (name_of : R → List ℕ) where
     IsTable-push new room is = record {
       few = rw length-append (omega arith);
       finds = λ q number has. is q ∙ finds-push q number (bytes_eq name q) refl (pushed_at slots (Some thing) number) has;
-    }
-
-  -- a thing goes, or is written over by one of its name
-  module _ (slots : List (Option R)) (look : List ℕ → Option ℕ) (i : ℕ) (slot : Option R) (within : i < length slots)
-      (kept : (q : List ℕ) → has_name name_of q slot ≡ true → has_name name_of q (get_or slots i None) ≡ true) (table : IsTable name_of slots look) where
-    finds-rewrite : (q : List ℕ) (number : ℕ) → RewrittenAt slots i slot number → has_name name_of q (get_or (set slots i slot) number None) ≡ true → look q ≡ Some number
-    finds-rewrite q number (inl w) has =
-        table.finds q number (subst (λ k. has_name name_of q (get_or slots k None) ≡ true) (sym w.0) (kept q (sym (ap (has_name name_of q) w.1) ∙ has)))
-    finds-rewrite q number (inr w) has = table.finds q number (sym (ap (has_name name_of q) w.1) ∙ has)
-
-    pub IsTable-rewrite : IsTable name_of (set slots i slot) look
-    IsTable-rewrite = record {
-      few = rw length-set table.few;
-      finds = λ q number has. finds-rewrite q number (rewritten_at slots i slot within number) has;
     }
 
   -- each thing that stands has a name
@@ -324,9 +303,3 @@ module _ {R : Type 0} (name_of : R → List ℕ) where
         by (inl a) (inr b) = taken i r a (ap name_of (sym b.1) ∙ sym same)
         by (inr a) (inl b) = taken j s b (ap name_of (sym a.1) ∙ same)
         by (inr a) (inr b) = a.0 ∙ sym b.0
-
--- a change that keeps a thing's name keeps that of what stands in a slot
-pub has_name-map : {R : Type 0} (name_of : R → List ℕ) (changed : R → R) → ((thing : R) → name_of (changed thing) ≡ name_of thing) → (q : List ℕ) (slot : Option R)
-    → has_name name_of q (option_map changed slot) ≡ has_name name_of q slot
-has_name-map name_of changed keeps q None = refl
-has_name-map name_of changed keeps q (Some thing) = ap (bytes_eq q) (keeps thing)

@@ -38,14 +38,8 @@ flat_map-range_more f n =
 fits_true : (a b : ℕ) → a ≤ b → nat_le a b ≡ true
 fits_true a b le = grind (arith, nat_tests)
 
-fits_false : (a b : ℕ) → b < a → nat_le a b ≡ false
-fits_false a b lt = grind (arith, nat_tests)
-
 fitting_all : (numerals : Numerals) (level room : ℕ) → length (level_text numerals level) ≤ room → fitting numerals level room ≡ level_text numerals level
 fitting_all numerals level room le = ap (λ (b : Bool). cond b (level_text numerals level) []) (fits_true (length (level_text numerals level)) room le)
-
-fitting_none : (numerals : Numerals) (level room : ℕ) → room < length (level_text numerals level) → fitting numerals level room ≡ []
-fitting_none numerals level room lt = ap (λ (b : Bool). cond b (level_text numerals level) []) (fits_false (length (level_text numerals level)) room lt)
 
 fitting_fits : (numerals : Numerals) (level room : ℕ) → length (fitting numerals level room) ≤ room
 fitting_fits numerals level room = by (nat_le (length (level_text numerals level)) room) refl
@@ -56,12 +50,6 @@ fitting_fits numerals level room = by (nat_le (length (level_text numerals level
 
 pub run_all : (layout : DiagramLayout) (level room : ℕ) → length (level_text layout.numerals level) ≤ room → run_text layout level room ≡ level_text layout.numerals level ++ repeat (room - length (level_text layout.numerals level)) (mark_text layout.charset Flat)
 run_all layout level room le = ap (λ (l : List ℕ). l ++ repeat (room - length l) (mark_text layout.charset Flat)) (fitting_all layout.numerals level room le)
-
-pub run_none : (layout : DiagramLayout) (level room : ℕ) → room < length (level_text layout.numerals level) → run_text layout level room ≡ repeat room (mark_text layout.charset Flat)
-run_none layout level room lt =
-    let same : room - 0 ≡ room = omega arith in
-    ap (λ (l : List ℕ). l ++ repeat (room - length l) (mark_text layout.charset Flat)) (fitting_none layout.numerals level room lt)
-    ∙ ap (λ k. repeat k (mark_text layout.charset Flat)) same
 
 -- ---- wider wires
 

@@ -1,5 +1,5 @@
 -- Columns are the same where their numbers are.
-use Rattle.std.proofs.Common.{◌≡◌, ℕ, zero, suc, ◌*◌, ◌<◌, ◌≤◌, subst, ap₂, arith}
+use Rattle.std.proofs.Common.{◌≡◌, ℕ, ◌<◌, subst, ap₂}
 use Rattle.std.specs.Coded.{le_prop}
 use Rattle.mp_picture.specs.declared.columns.Columns.{Columns}
 
@@ -17,8 +17,3 @@ module _ (from to units : ℕ) (some : from < to) (wide : 0 < units) where
       (subst (λ y. (p : from < y) (q : 0 < k) → these ≡ record { from = from; to = y; units = k; some = p; wide = q }) same_to
       (subst (λ z. (p : from < to) (q : 0 < z) → these ≡ record { from = from; to = to; units = z; some = p; wide = q }) same_units same_numbers))
       some' wide'
-
--- some units in columns of so many
-pub some_columns : (units most u : ℕ) → 0 < units → units ≤ u * most → 0 < u
-some_columns units most zero some enough = absurd (omega (arith, some, enough))
-some_columns units most (suc u) some enough = omega arith

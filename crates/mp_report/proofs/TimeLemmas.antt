@@ -1,5 +1,5 @@
 -- What is told over a run of times.
-use Rattle.mp_report.proofs.Names.{◌≡◌, ◌+◌, ◌<◌, ◌≤◌, ◌∷◌, ◌++◌, ℕ, List, [], map, flat_map, Place, zero, suc, refl, append-nil, append_assoc, arith, range_with_len}
+use Rattle.mp_report.proofs.Names.{◌≡◌, ◌+◌, ◌<◌, ◌≤◌, ◌∷◌, ◌++◌, ℕ, List, [], flat_map, zero, suc, refl, append-nil, append_assoc, arith, range_with_len}
 use Rattle.std.proofs.lemmas.Grind.{flat_map-append}
 use Rattle.std.proofs.lemmas.List.{map-append}
 

@@ -1,21 +1,18 @@
 -- The step of one line.
-use Rattle.std.proofs.Common.{◌≡◌, inl, inr, ℕ, Bool, true, false, List, [], ◌∷◌, ◌++◌, length, take, Option, Some, None, Result, Ok, Err, refl, sym, ap, subst, ◌∙◌}
+use Rattle.std.proofs.Common.{◌≡◌, inl, inr, ℕ, Bool, true, false, List, [], ◌∷◌, ◌++◌, Option, Some, None, Result, Ok, Err, refl, sym, ap, subst, ◌∙◌}
 use mathlib.Core.List.{IsPrefix}
 use Rattle.mp_records.specs.declared.edit.Edit.{Edit}
 use Rattle.mp_records.specs.declared.edit_error.EditError.{EditError}
-use Rattle.mp_records.specs.declared.edit_error.EditError.TheVariants.{OutOfMemory}
 use Rattle.mp_streams.specs.Outgoing.{Outgoing}
 use Rattle.mp_streams.specs.WriteErrors.{Writes}
 use Rattle.mp_streams.specs.declared.write_error.WriteError.{WriteError}
 use Rattle.mp_text.specs.declared.question.Question.{Question}
-use Rattle.mp_text.specs.declared.script_line.Line.TheVariants.{Empty, Change, Ask}
-use Rattle.mp_text.specs.declared.lexing.line_error.LineError.{LineError}
-use Rattle.mp_text.specs.LineStarts.{HasForm}
+use Rattle.mp_text.specs.declared.script_line.Line.TheVariants.{Empty}
 use Rattle.mp_text.specs.ScriptLines.{line_at}
 use Rattle.mp_version.specs.Stories.{Story}
 use Rattle.mp_desk.specs.Extending.{Extends}
 use Rattle.mp_desk.specs.Holders.{RefusedAfter}
-use Rattle.mp_desk.proofs.PrefixLemmas.{prefix_self, prefix_trans, prefix_take, extends_self}
+use Rattle.mp_desk.proofs.PrefixLemmas.{prefix_self, prefix_trans, extends_self}
 use Rattle.mp_seats.specs.talk.Answers.{PutsAnswer}
 use Rattle.mp_seats.specs.declared.refusal.Refusal.TheVariants as refusals
 use Rattle.mp_seats.specs.declared.reply.Reply.{Reply}
@@ -89,21 +86,6 @@ module _ {S : Type 0} (answer : Story → List ℕ → Question → List ℕ) (r
       by authors (Some line) says =
           inl (subst (λ read. IsReadRefusal (signed_writing answer reply authors) true seen.seen read (reply (replies.Refused error))) (sym says) (error, refusal old.seen seen.seen edit error is.1, refl))
 
-  viewed_so : (seen : Seated) → Submits false (Err refusals.NotADesigner) old seen edit → new ≡ with_refusal false seen → Writes r a b (reply replies.NotADesigner) → PutsEdit (signed_writing answer reply) false r old new edit a b
-  viewed_so seen is counted put = (
-    reply replies.NotADesigner,
-    (λ line says authors more.
-        inr
-        (inl
-        (refused_line (signed_writing answer reply authors) false old seen new line (reply replies.NotADesigner) (subst (λ (s : Seated). Extends s.seen old.seen) (sym is.1) (extends_self old.seen))
-        (subst (λ (s : Seated). IsPrefix old.signed s.signed) (sym is.1) (prefix_self old.signed)) (subst (λ (s : Seated). s ≡ with_seen old s.seen s.signed) (sym is.1) refl) counted (by authors line says)))),
-    put,
-  )
-    where
-      by : (authors : List ℕ) (line : Option (List ℕ)) → IsEditLine line edit → IsRefusalAt (signed_writing answer reply authors) false seen.seen line (reply replies.NotADesigner)
-      by authors None says = absurd says
-      by authors (Some line) says = inl (subst (λ read. IsReadRefusal (signed_writing answer reply authors) false seen.seen read (reply replies.NotADesigner)) (sym says) refl)
-
   pub edit_accepted : (edits : Bool) (n : ℕ) → Submits edits (Ok n) old new edit → Writes r a b (reply (replies.Accepted n)) → PutsEdit (signed_writing answer reply) edits r old new edit a b
   edit_accepted true n is put = accepted_so n is put
   edit_accepted false n is put = absurd (cc (is.0))
@@ -112,11 +94,6 @@ module _ {S : Type 0} (answer : Story → List ℕ → Question → List ℕ) (r
       → Writes r a b (reply (replies.Refused error)) → PutsEdit (signed_writing answer reply) edits r old new edit a b
   edit_refused true seen error is counted put = refused_so seen error is counted put
   edit_refused false seen error is counted put = absurd (cc (is.0))
-
-  pub edit_of_viewer : (edits : Bool) (seen : Seated) → Submits edits (Err refusals.NotADesigner) old seen edit → new ≡ with_refusal edits seen → Writes r a b (reply replies.NotADesigner)
-      → PutsEdit (signed_writing answer reply) edits r old new edit a b
-  edit_of_viewer true seen is counted put = absurd (cc (is.0))
-  edit_of_viewer false seen is counted put = viewed_so seen is counted put
 
 -- ---- lines
 
@@ -147,33 +124,3 @@ module _ {S : Type 0} (answer : Story → List ℕ → Question → List ℕ) (r
           }))),
       put,
     )
-
-    pub line_edited : (edit : Edit) → line_at line ≡ Ok (Change edit) → PutsEdit (signed_writing answer reply) edits r old new edit a b → PutsAnswer (IsSignedStep (signed_writing answer reply) edits) r old new (Some line) a b
-    line_edited edit is puts = (puts.0, puts.1 (Some line) is, puts.2)
-
-    pub line_asked : (question : Question) → line_at line ≡ Ok (Ask question) → Extends new.seen old.seen → IsPrefix old.signed new.signed → new ≡ with_seen old new.seen new.signed
-        → length new.signed ≡ length new.seen.edits → Writes r a b (answer new.seen new.signed question) → PutsAnswer (IsSignedStep (signed_writing answer reply) edits) r old new (Some line) a b
-    line_asked question is later begins same each put = (
-      answer new.seen new.signed question,
-      (λ authors more.
-          let known : take (length new.seen.edits) authors ≡ new.signed = ap (λ n. take n authors) (sym each) ∙ prefix_take new.signed authors more in
-          inr
-          (inr
-          (record {
-            extends = later;
-            begins = begins;
-            stands = same;
-            replied =
-                subst (λ read. IsReadAnswer (signed_writing answer reply authors) new.seen read (answer new.seen new.signed question)) (sym is)
-                (ap (λ (l : List ℕ). answer new.seen l question) (sym known));
-          }))),
-      put,
-    )
-
-    pub line_wanting : HasForm line → new ≡ with_refusal edits old → Writes r a b (reply (replies.Refused OutOfMemory)) → PutsAnswer (IsSignedStep (signed_writing answer reply) edits) r old new (Some line) a b
-    line_wanting formed same put = counted (Some line) (reply (replies.Refused OutOfMemory)) same (λ authors. inr (formed, refl)) put
-
-    pub line_unread : (error : LineError) → line_at line ≡ Err error → new ≡ with_refusal edits old → Writes r a b (reply (replies.Unread error)) → PutsAnswer (IsSignedStep (signed_writing answer reply) edits) r old new (Some line) a b
-    line_unread error is same put =
-        counted (Some line) (reply (replies.Unread error)) same
-        (λ authors. inl (subst (λ read. IsReadRefusal (signed_writing answer reply authors) edits old.seen read (reply (replies.Unread error))) (sym is) refl)) put

@@ -135,27 +135,8 @@ puts_straight {T = T} (Err error) a b text bytes whole none all part faults =
 
 -- ---- what the sink has in the end
 
--- all, where nothing is held
-pub puts_all : {S T E : Type 0} {f : E → Bool} {done : T} {a b : Outgoing S} {xs : List ℕ} → Puts f (Ok done) a b xs → b.held ≡ [] → Appends a.taken b.taken (a.held ++ xs)
-puts_all {T = T} {E = E} {f = f} {done = done} {a = a} {b = b} {xs = xs} puts none =
-    let all : a.held ++ xs ≡ puts.front = puts.held ∙ ap (λ l. puts.front ++ l) (ap (λ l. l ++ puts.lost) none ∙ puts.ends.1) ∙ append-nil puts.front in
-    subst (Appends a.taken b.taken) (sym all) puts.taken
-
 module _ {S T E : Type 0} {f : E → Bool} {r : Result T E} {a b : Outgoing S} {xs : List ℕ} (puts : Puts f r a b xs) where
   taken_front : Appends a.taken b.taken (take (length puts.front) (a.held ++ xs))
   taken_front =
       let front : take (length puts.front) (a.held ++ xs) ≡ puts.front = ap (take (length puts.front)) puts.held ∙ take-append_seam puts.front (b.held ++ puts.lost) in
       subst (Appends a.taken b.taken) (sym front) puts.taken
-
-  -- some, from the front
-  pub puts_front : (n : ℕ) × Appends a.taken b.taken (take n (a.held ++ xs))
-  puts_front = (length puts.front, taken_front)
-
--- not all, after a fault
-pub puts_part : {S T E : Type 0} {f : E → Bool} {error : E} {a b : Outgoing S} {xs : List ℕ} → f error ≡ true → Puts {T = T} f (Err error) a b xs → AppendsPrefix a.taken b.taken (a.held ++ xs)
-puts_part {T = T} {E = E} {f = f} {error = error} {a = a} {b = b} {xs = xs} fault puts =
-    let stops : Stops true a b puts.lost = subst (λ is. Stops is a b puts.lost) fault puts.ends in
-    let some : 0 < length puts.lost = stops.2 in
-    let long : length (a.held ++ xs) ≡ length puts.front + (length b.held + length puts.lost) =
-    ap length puts.held ∙ length-append puts.front (b.held ++ puts.lost) ∙ ap (λ n. length puts.front + n) (length-append b.held puts.lost) in
-    (length puts.front, omega (arith, some, long), taken_front puts)

@@ -1,5 +1,5 @@
 -- The edits of a netlist's bundles, once its wires are added, are not refused.
-use Rattle.mp_text.proofs.Names.{◌≡◌, ◌<◌, ◌≤◌, ◌==◌, ◌&&◌, ◌∷◌, ◌++◌, each_end, each_ok, All-get_or, added_bundle, ℕ, true, List, [], length, get_or, All, Option, Some, None, Ok, is_none, refl, ap, ◌∙◌, arith, length-append, nat_le, flat_map, eq-eqb, lt-ltb, nat_tests, get_or_at, ModuleRecord, BundleRecord, max_setup, Circuit, IsCircuit, IsBundle, bundle_at, HasNames, wire_name, bundle_by_name, bundle_edits, and_from, refusal, edited, after_single, stands, width_named, bundle_checks, new_bundle, bundle_limit}
+use Rattle.mp_text.proofs.Names.{◌≡◌, ◌<◌, ◌≤◌, ◌∷◌, ◌++◌, each_end, each_ok, All-get_or, added_bundle, ℕ, List, [], length, get_or, All, Option, Some, None, Ok, is_none, refl, ap, ◌∙◌, arith, length-append, flat_map, eq-eqb, nat_tests, get_or_at, ModuleRecord, BundleRecord, Circuit, IsCircuit, IsBundle, bundle_at, HasNames, bundle_by_name, bundle_edits, and_from, refusal, edited, after_single, bundle_checks, new_bundle, bundle_limit}
 use Rattle.mp_text.proofs.GivenLemmas.{wanting_given, front_none}
 use Rattle.mp_text.proofs.SlotLemmas.{Unnamed, named_nowhere, front_unnamed}
 use Rattle.mp_text.proofs.StageLemmas.{none_failing, is_done, Reaches, Added, AddsOne, added_reached, unnamed_again}

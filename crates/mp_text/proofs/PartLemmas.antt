@@ -1,5 +1,5 @@
 -- Facts about the parts of a batch's words.
-use Rattle.mp_text.proofs.Names.{◌≡◌, ◌∷◌, take_more, map-append, ℕ, Bool, List, [], map, All, IsAscii, Bor, refl, sym, ap, subst, ◌∙◌, byte, slice_split, onto_first, texts, AreAscii, is_mark, All-slice_split, All-unmap, part_texts, arith, nat_tests, map-map, take_all, before_first, after_first, texts-before_first, texts-after_first, All-take, All-drop}
+use Rattle.mp_text.proofs.Names.{◌≡◌, ◌∷◌, take_more, map-append, ℕ, Bool, List, [], map, All, IsAscii, Bor, refl, sym, ap, subst, ◌∙◌, byte, slice_split, texts, AreAscii, is_mark, All-slice_split, All-unmap, part_texts, arith, nat_tests, map-map, take_all, before_first, after_first, texts-before_first, texts-after_first, All-take, All-drop}
 use Rattle.mp_text.proofs.GivenLemmas.{ascii_at}
 
 -- a word that divides parts, where it lies in memory

@@ -1,5 +1,5 @@
 -- Facts about texts as a whole.
-use Rattle.mp_text.proofs.Names.{◌≡◌, ◌+◌, ◌<◌, ◌≤◌, ◌∷◌, rest_falls, ℕ, List, [], length, Result, Ok, Err, IfErr, refl, sym, ap, subst, arith, before_first, after_first, nat_tests, Circuit, TextError, TextCode, TooLong, TextState, Fresh, Formatted, Open, lines_of-cons, is_line_feed, lines_of, text_at, after_lines, after_line, next_line, finished, last_line, GivesText, IsReachedIn, text_limit, ◌≢◌, ◌&&◌, ◌==◌, false, None, cond, Some, take, max_text, max_short_text, number_word, first_words, is_four, states_fourth, ne_eqb, words_of, take-take, eq-eqb, codes, slice_get}
+use Rattle.mp_text.proofs.Names.{◌≡◌, ◌+◌, ◌<◌, ◌≤◌, ◌∷◌, rest_falls, ℕ, List, [], length, Result, Ok, Err, IfErr, refl, sym, ap, arith, before_first, after_first, nat_tests, Circuit, TextError, TextCode, TooLong, TextState, Fresh, lines_of-cons, is_line_feed, lines_of, text_at, after_lines, after_line, next_line, finished, last_line, GivesText, IsReachedIn, text_limit, ◌≢◌, ◌&&◌, ◌==◌, false, None, Some, take, max_short_text, number_word, first_words, is_four, states_fourth, ne_eqb, words_of, take-take, eq-eqb, codes, slice_get}
 use Rattle.std.specs.Prelude.{◌⊎◌}
 use Rattle.std.specs.Str.{bytes_eq}
 use Rattle.std.proofs.Common.{inl, inr, ◌∙◌}

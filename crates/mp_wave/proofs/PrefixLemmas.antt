@@ -2,7 +2,6 @@
 use Rattle.std.proofs.Common.{◌≡◌, ℕ, ◌+◌, ◌-◌, ◌<◌, ◌≤◌, List, [], ◌∷◌, nat_lt, nat_le, cond, true, false, refl, ap, sym, ◌∙◌, arith, inl, inr, length, zero, suc, take, drop, append-nil, subst}
 use Rattle.std.proofs.lemmas.Bool.Decides.{nat_tests}
 use Rattle.std.proofs.lemmas.Bool.{cases_lt}
-use Rattle.std.proofs.lemmas.Grind.{common_steps}
 use Rattle.std.specs.List.{AllWithin}
 use Rattle.mp_wave.specs.Waveform.{Waveform, IsWaveform, AreChanges, level_from, level_of, last_from, last_time, later_than, earlier_than, between, kept_before}
 use Rattle.mp_wave.proofs.WaveformLemmas.{nat_le-true, nat_le-false, level_from-append_over}
@@ -42,10 +41,6 @@ earlier_than-take time (suc place) (x ∷ xs) le over later =
     rw below
     (ap (λ (ys : List (ℕ × ℕ)). x ∷ ys)
     (earlier_than-take time place xs (omega arith) (λ k d low high. over (suc k) d (omega arith) (omega arith)) (λ k d low high. later (suc k) d (omega arith) (omega arith))))
-
--- a slice up to the end is what is left
-pub take-rest : (place : ℕ) (changes : List (ℕ × ℕ)) → take (length changes - place) (drop place changes) ≡ drop place changes
-take-rest place changes = grind (arith, common_steps)
 
 -- of changes after a time none is earlier than that
 pub none_earlier : (time before level : ℕ) (changes : List (ℕ × ℕ)) → time ≤ before + 1 → AreChanges before level changes → earlier_than time changes ≡ []

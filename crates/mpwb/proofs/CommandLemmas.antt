@@ -1,11 +1,11 @@
 -- A command runs as its view does.
-use Rattle.std.proofs.Common.{◌≡◌, ◌&&◌, ◌⊎◌, inl, inr, Bool, true, false, ℕ, List, Option, Some, None, Result, Ok, Err, IfSome, IsSomeAnd, IsOkAnd, is_some, length, nat_le, refl, ap, sym, if◌then◌else◌}
+use Rattle.std.proofs.Common.{◌≡◌, ◌&&◌, inl, inr, Bool, true, false, ℕ, List, Option, Some, None, Result, Ok, Err, IfSome, IsSomeAnd, is_some, length, nat_le, refl, ap, sym, if◌then◌else◌}
 use Rattle.mp_netlist.specs.Circuit.{Circuit}
 use Rattle.mp_streams.specs.Outgoing.{Outgoing}
 use Rattle.mp_streams.specs.declared.write_error.WriteError.{WriteError}
 use Rattle.mp_streams.specs.declared.write_error.WriteError.TheVariants as writes
 use Rattle.mp_text.specs.declared.text_error.TextError.{TextError}
-use Rattle.mp_commands.specs.command_runs.Clauses.{Ran, RanFrom, WritesOne, counted_netlist, has_valid_crew, lines_of, opening_of, text_limit, too_long, viewed_opening, with_wires}
+use Rattle.mp_commands.specs.command_runs.Clauses.{Ran, RanFrom, WritesOne, counted_netlist, has_valid_crew, lines_of, text_limit, too_long, viewed_opening, with_wires}
 use Rattle.mp_commands.specs.command_runs.Names.{Fresh, after_lines}
 use Rattle.mp_commands.specs.command_runs.ViewRuns.{RunsView}
 use Rattle.mp_commands.specs.declared.command_runs.options.Options.{Options}

@@ -1,4 +1,3 @@
 pub mod GivenLemmas
 pub mod LikeLemmas
 pub mod PickLemmas
-pub mod StepLemmas

@@ -88,7 +88,7 @@ fn is_small(change: &Revision<'_>, small: &Small) -> bool
     // Their contracts say that the netlists are well formed.
     let _was_horizon = small.was.horizon();
     let _now_horizon = small.now.horizon();
-    if !has_grown(&small.was, &small.now) {
+    if !is_no_smaller(&small.was, &small.now) {
         return false;
     }
     if !is_picked(change, change.old, &small.picked, &small.was) {
@@ -98,7 +98,7 @@ fn is_small(change: &Revision<'_>, small: &Small) -> bool
 }
 
 /// Whether the later netlist has no fewer slots.
-fn has_grown(was: &Netlist, now: &Netlist) -> bool
+fn is_no_smaller(was: &Netlist, now: &Netlist) -> bool
     ensures { result ≡ true → IsNoSmaller was.now now.now }
 {
     was.wire_slots() <= now.wire_slots() && was.module_slots() <= now.module_slots()

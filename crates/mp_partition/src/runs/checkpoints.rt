@@ -110,15 +110,6 @@ impl Checkpoints {
     {
         split(&self.list, time).0
     }
-
-    /// The last state kept for a time up to this one, or a blank one, and the number of states kept for such times. If that is `before` or one more,
-    /// as at successive checkpoints, there is no search.
-    pub fn kept_near(&self, time: u32, before: usize) -> (Memory, usize)
-        ensures { result.0 ≡ kept_at self.now time blank }
-    {
-        let count = self.list.count_near(time, before);
-        (state_before(&self.list, count), count)
-    }
 }
 
 ghost use Rattle.std.specs.Prelude.{◌↔◌, ℕ, IsTrue, length, take};

@@ -101,22 +101,6 @@ impl StateList {
         self.search_upto(time)
     }
 
-    /// How many are of times not after this one. It takes no search if that is this many, or one more.
-    #[inline(always)]
-    pub(crate) fn count_near(&self, time: u32, many: usize) -> usize
-        requires { IsRising (states_of self.now) }
-        ensures bound { result ≤ length (states_of self.now) }
-        ensures parted { IsCut (states_of self.now) time result }
-    {
-        if many < self.len() && self.is_cut(many + 1, time) {
-            return many + 1;
-        }
-        if many <= self.len() && self.is_cut(many, time) {
-            return many;
-        }
-        self.count_upto(time)
-    }
-
     /// How many would be of times not after this one if their times were equally far apart, from 0 on.
     #[inline(always)]
     fn likely_place(&self, time: u32) -> usize

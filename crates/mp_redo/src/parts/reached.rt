@@ -96,6 +96,7 @@ fn count_at(counts: &mut Vec<usize>, home: u32) {
     }
 }
 
+/// The largest of these counts, 0 if there is none.
 fn most_of(counts: &[usize]) -> usize {
     let mut most = 0usize;
     for count in counts {

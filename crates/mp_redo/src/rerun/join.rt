@@ -3,10 +3,10 @@
 ghost use Rattle.std.specs.Prelude.{◌<◌, ◌≤◌, vec_len};
 ghost use Rattle.mp_modules.specs.declared.memory.TheConstants.{MOST_INPUTS};
 
+use mp_model::{InPiece, respond};
 use mp_modules::{AnyModule, MOST_INPUTS, Memory};
 use mp_netlist::ModuleId;
 use mp_phase::{Gate, Work};
-use mp_model::{InPiece, respond};
 use std::alloc::{AllocError, Global};
 use std::sync::Wait;
 

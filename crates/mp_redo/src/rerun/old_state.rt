@@ -12,10 +12,10 @@ ghost use Rattle.mp_redo.specs.rerun.Reruns.{IsChange};
 
 use mp_active::Change;
 use mp_depend::{block_of, old_state};
+use mp_model::{Changes, InPiece, cut_delayed, respond};
 use mp_modules::{AnyModule, MOST_INPUTS, Memory};
 use mp_netlist::{Input, ModuleId, ModuleRecord};
 use mp_partition::Run;
-use mp_model::{Changes, InPiece, cut_delayed, respond};
 use mp_wave::Wave;
 use std::alloc::{AllocError, Global};
 

@@ -1,5 +1,5 @@
 -- The word at fault, and the name nearest to it.
-use Rattle.std.specs.Prelude.{ℕ, Bool, List, [], length, if◌then◌else◌, codes, Option, Some, None, unwrap_or, slice_get}
+use Rattle.std.specs.Prelude.{ℕ, List, [], if◌then◌else◌, codes, Option, Some, None, unwrap_or, slice_get}
 use Rattle.std.specs.List.{list_all}
 use Rattle.mp_records.specs.declared.edit_error.EditError.TheVariants as edits
 use Rattle.mp_netlist.specs.Circuit.{Circuit}
@@ -24,10 +24,6 @@ place_in text number net line code = word_place (is_blank (text_before text numb
 abbrev pub word_in : List ℕ → TextError → Option Circuit → ℕ
 word_in text error net =
     index (words_of (line_numbered text error.line)) (place_in text error.line net (line_numbered text error.line) error.code)
-
--- the word at fault of the line that isn't read: how many words stand before it, which are all where a word is wanting
-abbrev pub fault_word : List ℕ → TextError → ℕ
-fault_word text error = word_in text error (netlist_before text error.line error.code)
 
 -- where the word at fault stands, in a line whose bytes are all allowed
 abbrev pub plain_span : List ℕ → TextError → Option Circuit → ℕ × ℕ

@@ -3,10 +3,7 @@ use Rattle.std.specs.Prelude.{ℕ, ◌*◌, ◌&&◌, Bool, true, List, [], ◌�
 use Rattle.std.specs.List.{before_first, filter_map}
 use Rattle.std.specs.Char.{to_ascii_lowercase}
 use Rattle.strsim.specs.Edits.{levenshtein_row}
-use Rattle.mp_modules.specs.Kinds.{word_of}
-use Rattle.mp_modules.specs.declared.kind.Kind.{Kind}
 use Rattle.mp_records.specs.declared.wire_record.WireRecord.{WireRecord}
-use Rattle.mp_netlist.specs.Circuit.{Circuit}
 use Rattle.mp_text.specs.lexing.Numbers.{is_slash}
 
 -- with letters of one case

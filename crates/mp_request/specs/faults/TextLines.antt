@@ -1,5 +1,5 @@
 -- The line of a number, and the text before it.
-use Rattle.std.specs.Prelude.{ℕ, zero, suc, ◌+◌, ◌-◌, ◌==◌, Bool, List, [], ◌∷◌, length, take, drop, if◌then◌else◌, Option, None, Result}
+use Rattle.std.specs.Prelude.{ℕ, zero, suc, ◌+◌, ◌-◌, ◌==◌, Bool, List, [], ◌∷◌, length, take, drop, if◌then◌else◌, Option, None}
 use Rattle.std.specs.List.{before_first, list_all}
 use Rattle.std.specs.Result.{result_ok}
 use Rattle.mp_netlist.specs.Circuit.{Circuit}

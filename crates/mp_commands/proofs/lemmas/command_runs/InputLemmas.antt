@@ -1,5 +1,5 @@
 -- The input of a source, by what was taken of it.
-use Rattle.mp_commands.proofs.lemmas.command_runs.Names.{◌≡◌, ◌<◌, ◌≤◌, ◌+◌, ℕ, IfSome, Bool, List, length, Option, Some, None, Err, refl, sym, subst, arith, take_all, length-take, lt-leb, le-leb, Circuit, lines_of, opening_of, within_size, too_long, fault_of_take, IsInput, HasInput, StaysUnread, RunFault, ReadFailed, OutOfMemory, text_limit, taken_of, Result, ◌-◌, ◌⊎◌, ◌++◌, inl, inr, min, take, cases_lt, ap, ◌∙◌, length-append, max_short_text, limit_least, limit_of_front, TakesInput}
+use Rattle.mp_commands.proofs.lemmas.command_runs.Names.{◌≡◌, ◌<◌, ◌≤◌, ◌+◌, ℕ, IfSome, Bool, List, length, Option, Some, None, Err, refl, sym, subst, arith, take_all, length-take, lt-leb, le-leb, Circuit, lines_of, opening_of, within_size, too_long, fault_of_take, IsInput, HasInput, StaysUnread, RunFault, ReadFailed, OutOfMemory, text_limit, taken_of, Result, ◌-◌, ◌++◌, inl, inr, min, take, cases_lt, ap, ◌∙◌, length-append, max_short_text, limit_least, limit_of_front, TakesInput}
 use Rattle.mp_streams.specs.declared.take_error.TakeError.{TakeError}
 use Rattle.mp_commands.specs.command_runs.OpenedInputs.{StaysShutWith}
 use Rattle.std.specs.Io.KnownBytes.{Consumes, IsAtEnd}

@@ -1,25 +1,11 @@
 -- The lines of waves, one after the other.
-use Rattle.std.proofs.Common.{◌≡◌, ℕ, ◌+◌, ◌-◌, ◌≤◌, List, [], ◌++◌, append_assoc, length, Option, Some, zero, suc, refl, sym, ap, ◌∙◌, add-one, add-zero, add-suc, arith}
+use Rattle.std.proofs.Common.{◌≡◌, ℕ, ◌+◌, ◌-◌, ◌≤◌, List, [], ◌++◌, append_assoc, length, zero, suc, refl, sym, ap, ◌∙◌, add-one, add-zero, add-suc, arith}
 use Rattle.std.proofs.lemmas.List.{append-nil}
-use Rattle.mp_wave.specs.Waveform.{Waveform}
-use Rattle.mp_records.specs.declared.wire_record.WireRecord.{WireRecord}
 use Rattle.mp_netlist.specs.Circuit.{Circuit, wire_at}
-use Rattle.mp_netlist.specs.Slots.{slot_at}
-use Rattle.mp_model.specs.Waves.{wave, slot_wave, AreWavesOf}
-use Rattle.mp_text.specs.lexing.WaveLines.{wave_line}
+use Rattle.mp_model.specs.Waves.{wave}
 use Rattle.mp_commands.specs.views.Outputs.{slot_line, lines_below, waves_text}
 
 -- ---- the wave of a wire that stands
-
-pub wave_stands : (n : Circuit) (w : ℕ) (waves : List (Option Waveform)) (r : WireRecord) → AreWavesOf n waves → Some r ≡ wire_at n w → slot_at waves w ≡ Some (wave n w)
-wave_stands n w waves r given stands = given w ∙ ap (slot_wave n w) (sym stands)
-
-pub line_of_wave : (n : Circuit) (w : ℕ) (waves : List (Option Waveform)) (r : WireRecord) (v : Waveform)
-    → AreWavesOf n waves → Some r ≡ wire_at n w → Some v ≡ slot_at waves w → wave_line r.name v.initial v.changes ≡ slot_line (wire_at n w) (wave n w)
-line_of_wave n w waves r v given stands found =
-    let both : Some v ≡ Some (wave n w) = found ∙ wave_stands n w waves r given stands in
-    let same : v ≡ wave n w = cc in
-    ap (λ (x : Waveform). wave_line r.name x.initial x.changes) same ∙ ap (λ s. slot_line s (wave n w)) stands
 
 -- ---- lines after lines
 

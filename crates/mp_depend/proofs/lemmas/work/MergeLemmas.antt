@@ -188,6 +188,3 @@ alone_merged least horizon (suc f) (t ∷ w) alone enough =
     let none = alone_rest least horizon t (All-head (IsAlone horizon) t w alone).one in
     let first = entries_first t w in
     ap (λ r. first_entry t ∷ merged least horizon f r w) none ∙ ap (λ es. first_entry t ∷ es) (alone_merged least horizon f w (All-tail (IsAlone horizon) t w alone) (omega (arith, enough, first)))
-
-pub alone_entries : (least horizon : ℕ) (w : List WorkSpan) → All (IsAlone horizon) w → entries_left least horizon [] w ≡ map first_entry w
-alone_entries least horizon w alone = alone_merged least horizon (most_entries [] + most_entries w) w alone (omega arith)

@@ -6,22 +6,12 @@ use Rattle.std.proofs.lemmas.Nat.{div-add-mod', mod_below, mod-mul-add}
 pub rest_le : (t k : ℕ) → t % k ≤ t
 rest_le t k = let e = div-add-mod' t k in omega (arith, e)
 
-pub zero_rest : (k : ℕ) → 0 % k ≡ 0
-zero_rest k = let le = rest_le 0 k in omega (arith, le)
-
 -- without its rest a number is a multiple
 pub whole_rest : (t k : ℕ) → 0 < k → (t - t % k) % k ≡ 0
 whole_rest t k positive =
     let whole = div-add-mod' t k in
     let is : t - t % k ≡ t / k * k + 0 = omega (arith, whole) in
     ap (λ x. x % k) is ∙ mod-mul-add (t / k) k 0 positive
-
--- the next multiple
-pub next_rest : (k b : ℕ) → 0 < k → b % k ≡ 0 → (b + k) % k ≡ 0
-next_rest k b positive whole =
-    let e = div-add-mod' b k in
-    let is : b + k ≡ (b / k + 1) * k + 0 = omega (arith, e, whole) in
-    ap (λ x. x % k) is ∙ mod-mul-add (b / k + 1) k 0 positive
 
 -- from a multiple on to before the next the rest is what is above it
 pub rest_above : (k b t : ℕ) → b % k ≡ 0 → b ≤ t → t < b + k → t % k ≡ t - b

@@ -1,4 +1,4 @@
-use Rattle.std.proofs.Common.{◌≡◌, ap, sym, ◌∙◌}
+use Rattle.std.proofs.Common.{ap, sym, ◌∙◌}
 use Rattle.std.proofs.lemmas.Bool.{false≢true}
 use Rattle.mp_netlist.specs.Circuit.{stimulus_in}
 use Rattle.mp_netlist.proofs.DriverLemmas.{finds_only_ports}

@@ -3,18 +3,13 @@ use Rattle.std.proofs.Common.{◌≡◌, ℕ, zero, suc, List, [], ◌∷◌, �
 use Rattle.std.specs.Prelude.{slice_set}
 use mathlib.Core.Option.{some, some-ne-none, some-injective}
 use lib.ListN.{get_elem?}
-use Rattle.crossbeam_channel.specs.Fifo.{Pushes, Pops, Forks}
+use Rattle.crossbeam_channel.specs.Fifo.{Pushes, Pops}
 use Rattle.mp_engine.specs.declared.messages.message.Subject.{Ghosts}
 use Rattle.mp_engine.specs.declared.messages.message.Heading.{Heading}
 use Rattle.mp_engine.specs.declared.messages.message.Message.{Message}
 use Rattle.mp_engine.specs.declared.messages.line_rule.Known.{Known}
 use Rattle.mp_engine.specs.declared.messages.line_rule.Known.TheVariants.{Whole, Sends, Takes}
 use Rattle.mp_engine.specs.messages.LineRules.{last_heading, Keeps}
-
-not_whole : (sent taken : Option Heading) (pass : ℕ) → get_elem? (Sends sent ∷ Takes taken ∷ []) pass ≡ some Whole → ⊥
-not_whole sent taken zero at = let e = some-injective _ _ at in cc
-not_whole sent taken (suc zero) at = let e = some-injective _ _ at in cc
-not_whole sent taken (suc (suc pass)) at = some-ne-none Whole (sym at)
 
 is_sender : (sent taken last : Option Heading) (pass : ℕ) → get_elem? (Sends sent ∷ Takes taken ∷ []) pass ≡ some (Sends last) → pass ≡ 0
 is_sender sent taken last zero at = refl
@@ -41,12 +36,6 @@ module _ {J : Type 0} {subject : Ghosts J} where
   cut_at : (views : List Known) (pass : ℕ) (messages : List (Message J subject)) → views ≡ Whole ∷ [] → messages ≡ [] → get_elem? (Whole ∷ []) pass ≡ some Whole → Keeps messages (slice_set views pass (Sends None) ++ Takes None ∷ [])
   cut_at views zero messages is none at = inr (None, ap (λ vs. slice_set vs zero (Sends None) ++ Takes None ∷ []) is ∙ ap (λ (xs : List (Message J subject)). Sends (last_heading None xs) ∷ Takes None ∷ []) (sym none))
   cut_at views (suc pass) messages is none at = absurd (some-ne-none Whole (sym at))
-
-  pub cuts : (pass : ℕ) → Forks (Keeps {subject = subject}) pass Whole (Sends None) (Takes None)
-  cuts pass messages views keeps at = elim keeps as (λ _. Keeps messages (slice_set views pass (Sends None) ++ Takes None ∷ [])) [
-    | inl whole ↦ cut_at views pass messages whole.0 whole.1 (subst (λ vs. get_elem? vs pass ≡ some Whole) whole.0 at)
-    | inr cut ↦ absurd (not_whole (last_heading cut.0 messages) cut.0 pass (subst (λ vs. get_elem? vs pass ≡ some Whole) cut.1 at))
-  ]
 
   pub sends : (n pass : ℕ) (v : Known) (last : Option Heading) (message : Message J subject) → v ≡ Sends last → Pushes (Keeps {subject = subject}) n pass v message (λ w. w ≡ Sends (Some message.heading))
   sends n pass v last message is messages views room keeps at = (Sends (Some message.heading), kept, refl)

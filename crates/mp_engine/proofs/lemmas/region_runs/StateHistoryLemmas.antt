@@ -14,17 +14,17 @@ use Rattle.mp_records.specs.declared.ids.ModuleId.{ModuleId}
 use Rattle.mp_records.specs.declared.module_record.ModuleRecord.{ModuleRecord}
 use Rattle.mp_netlist.specs.Circuit.{Circuit, module_at}
 use Rattle.mp_model.specs.Levels.{built}
-use Rattle.mp_model.specs.Waves.{state, AreWavesOf}
+use Rattle.mp_model.specs.Waves.{state}
 use Rattle.mp_model.proofs.SlotLemmas.{slot_within}
 use Rattle.mp_kernel.specs.events.Adding.{listed}
 use Rattle.mp_partition.specs.declared.runs.checkpoint.Checkpoint.{Checkpoint}
 use Rattle.mp_partition.specs.runs.Checkpoints.{kept_at, state_before, IsBorder, KeepsFrom}
 use Rattle.mp_partition.specs.runs.Marks.{is_marked, AreListed, AreAdded}
-use Rattle.mp_partition.specs.runs.Outcomes.{Outcome, AreSlots}
-use Rattle.mp_partition.specs.runs.Runs.{AreCheckpoints, IsRun, end_memory}
+use Rattle.mp_partition.specs.runs.Outcomes.{AreSlots}
+use Rattle.mp_partition.specs.runs.Runs.{AreCheckpoints}
 use Rattle.mp_partition.proofs.lemmas.runs.KeepLemmas.{kept_at-last}
 use Rattle.mp_partition.proofs.lemmas.runs.MarkLemmas.{contains_one}
-use Rattle.mp_partition.proofs.lemmas.runs.OutcomeLemmas.{slot_is, no_module, checkpoint_is}
+use Rattle.mp_partition.proofs.lemmas.runs.OutcomeLemmas.{slot_is, no_module}
 use Rattle.mp_engine.specs.region_runs.StateHistories.{kept_of, id_of, ids_of, first_kept, IsKept, AreKept, AreFirst, HasHistory, HasMarked, IsHistory}
 use Rattle.mp_engine.specs.declared.region_runs.state_history.StateHistory.{StateHistory}
 
@@ -217,11 +217,3 @@ checkpoints_are n t marks kept slots made are = record {
         → option_map (λ ks. kept_at ks c blank) (option_map (λ (r : ModuleRecord). kept_of kept m) found) ≡ option_map (λ (r : ModuleRecord). state_before n m r c) found
     by m c border low None e = refl
     by m c border low (Some r) e = ap Some ((are.each m r e).known c border low)
-
-pub whole_run_is : (n : Circuit) (run : Outcome) → run.horizon ≡ n.horizon → AreWavesOf n run.waves → AreSlots (length n.modules) (end_memory n) run.ends → AreCheckpoints n run.kept → IsRun n run
-whole_run_is n run same waves ends kept = record {
-  horizon = same;
-  waves = waves;
-  ends = slot_is (length n.modules) (end_memory n) run.ends (λ k past. no_module n (λ (r : ModuleRecord). state n k (n.horizon - 1)) k past) ends;
-  checkpoints = λ m c. checkpoint_is n m c run same kept;
-}

@@ -1,5 +1,5 @@
 -- The changes of a time, one before the others.
-use Rattle.mp_exports.proofs.lemmas.vcd.Names.{rules, vec_len, told_at, left_whole, left_then, left_as, ◌≡◌, ◌≢◌, ◌+◌, ◌-◌, ◌<◌, ◌≤◌, ◌==◌, ◌∷◌, ◌++◌, None, map, get_or-map, left_none, nat_lt-false, nat_lt-true, earlier_than-take, get_or_default, ℕ, Bool, true, not, cond, nat_le, List, [], length, length-append, take, slice_index, slice_set, Some, zero, suc, refl, sym, ap, subst, ◌∙◌, zero-add, add-one, get_or, arith, get_or-set_other, get_or-set_same, nat_tests, cases_lt, eq-eqb, eqb-true, le-leb, lt-leb, lt-ltb, ne_eqb, get_or-append, length-set, get_or-append_seam, take-suc, change_after, changes_after, between, WireRecord, Circuit, wire_at, width_of, level, filter, flat_map, flat_map-map, value_line, value_at, marked, time_mark, QueuedChange, no_entry, entry_at, IsChain, Tells, told_from, with_told, onto, onto_slot, with_levels, told_lines}
+use Rattle.mp_exports.proofs.lemmas.vcd.Names.{vec_len, told_at, left_whole, left_then, left_as, ◌≡◌, ◌≢◌, ◌+◌, ◌-◌, ◌<◌, ◌≤◌, ◌==◌, ◌∷◌, ◌++◌, None, map, get_or-map, left_none, nat_lt-false, nat_lt-true, earlier_than-take, get_or_default, ℕ, Bool, true, not, cond, nat_le, List, [], length, length-append, take, slice_index, slice_set, Some, zero, suc, refl, ap, subst, ◌∙◌, zero-add, add-one, get_or, arith, get_or-set_other, get_or-set_same, nat_tests, cases_lt, eq-eqb, eqb-true, le-leb, lt-leb, lt-ltb, ne_eqb, get_or-append, length-set, get_or-append_seam, take-suc, changes_after, between, WireRecord, Circuit, wire_at, width_of, level, filter, flat_map-map, value_line, marked, time_mark, QueuedChange, no_entry, entry_at, IsChain, Tells, told_from, with_told, onto, onto_slot, with_levels, told_lines}
 use Rattle.mp_exports.specs.declared.vcd.change_queue.ChangeQueue.{ChangeQueue}
 
 -- one entry more at the end leaves a chain

@@ -3,7 +3,7 @@ use Rattle.std.proofs.Common.{IsErrAnd}
 use Rattle.mp_streams.specs.Outgoing.{Outgoing, Puts}
 use Rattle.mp_streams.specs.WriteErrors.{is_fault}
 use Rattle.mp_streams.specs.declared.write_error.WriteError.{WriteError}
-use Rattle.mp_exports.proofs.lemmas.vcd.Names.{puts_unmade, OutOfMemory, ◌≡◌, ◌+◌, ◌-◌, ◌<◌, ◌≤◌, ◌∷◌, ◌++◌, take_more, map-append, left_whole, left_then, left_as, left_none, ℕ, List, [], append_assoc, length, drop, Option, None, Some, zero, suc, refl, ap, ◌∙◌, add-one, arith, filter, flat_map, range_with_len, drop-cons, drop-length, Waveform, WireRecord, Circuit, IsCircuit, wire_at, width_of, slot_at, wave, slot_wave, if_stands, standing_from, is_changed, slot_text, with_levels, onto_slot, nat_tests, flat_map-append, Bool, append-nil, get_or, take, sym, subst, puts_then, Left, unit_text, times_text, take-append-drop, Result, drop-drop}
+use Rattle.mp_exports.proofs.lemmas.vcd.Names.{puts_unmade, OutOfMemory, ◌≡◌, ◌+◌, ◌-◌, ◌<◌, ◌≤◌, ◌∷◌, ◌++◌, take_more, map-append, left_whole, left_then, left_as, left_none, ℕ, List, [], append_assoc, length, drop, Option, None, Some, zero, suc, refl, ap, ◌∙◌, add-one, arith, filter, flat_map, range_with_len, drop-cons, drop-length, Waveform, WireRecord, Circuit, IsCircuit, wire_at, width_of, slot_at, wave, slot_wave, standing_from, is_changed, slot_text, with_levels, onto_slot, nat_tests, flat_map-append, Bool, append-nil, take, sym, subst, puts_then, Left, take-append-drop, Result, drop-drop}
 
 pub standing_end : (slots : List (Option WireRecord)) (w : ℕ) → w ≡ length slots → standing_from w (drop w slots) ≡ []
 standing_end slots w over = ap (λ k. standing_from w (drop k slots)) over ∙ ap (standing_from w) (drop-length slots)

@@ -8,9 +8,6 @@ use Rattle.mp_kernel.specs.declared.automata.automaton_state.AutomatonState.{Aut
 use Rattle.mp_kernel.specs.declared.events.fanout_entry.FanoutEntry.{FanoutEntry}
 use Rattle.mp_kernel.specs.events.Adding.{state_at, event_for, events_for, AreAdded, listed, IsAdding}
 
-no_state : AutomatonState
-no_state = record { 0 = 0 }
-
 some_in : (l : FanoutEntry) (rest : List FanoutEntry) → 0 < length (l ∷ rest)
 some_in l rest = omega arith
 
@@ -19,9 +16,6 @@ placed_head {l = l} {rest = rest} h = h.placed 0 l (some_in l rest)
 
 event_head : {states : List AutomatonState} {due : List ℕ} {l : FanoutEntry} {rest : List FanoutEntry} → IsAdding states due (l ∷ rest) → 0 < l.event
 event_head {l = l} {rest = rest} h = h.events 0 l (some_in l rest)
-
-pub event_itself : (l : FanoutEntry) → event_for l.module l ≡ l.event
-event_itself l = rw (eq-eqb l.module l.module refl) refl
 
 pub added_one : (m : ℕ) (l : FanoutEntry) → events_for m (l ∷ []) ≡ event_for m l
 added_one m l = omega arith

@@ -13,17 +13,6 @@ place_before places p x low = get_or_append_left places (p ∷ []) x x low
 place_last : (places : List ℕ) (p x : ℕ) → length places ≡ x → place_at (places ++ p ∷ []) x ≡ p
 place_last places p x size = get_or_push places p x x size
 
-pub numbered_none : (marks : List Bool) → AreNumbered marks 0 [] []
-numbered_none marks = record {
-  size = refl;
-  few = omega arith;
-  below = λ k d low. absurd (omega arith);
-  marked = λ k d low. absurd (omega arith);
-  placed = λ k d low. absurd (omega arith);
-  within = λ x low is. absurd (omega arith);
-  found = λ x d low is. absurd (omega arith);
-}
-
 -- the next number isn't marked
 pub numbered_same : (marks : List Bool) (i : ℕ) (numbers places : List ℕ) → is_marked marks i ≡ false → AreNumbered marks i numbers places → AreNumbered marks (i + 1) numbers (places ++ length numbers ∷ [])
 numbered_same marks i numbers places not are = record {

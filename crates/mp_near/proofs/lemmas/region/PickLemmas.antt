@@ -18,9 +18,9 @@ use Rattle.mp_near.specs.reach.Reach.{IsSetSame, IsReach, IsWholeReach, HasReach
 use Rattle.mp_near.specs.region.Given.{AreGiven}
 use Rattle.mp_near.specs.region.Picks.{AreWiresOf, ArePicks, picking}
 use Rattle.mp_near.specs.declared.region.picked.Picked.{Picked}
-use Rattle.mp_near.proofs.lemmas.reach.MarkLemmas.{grown_more, grown_none}
+use Rattle.mp_near.proofs.lemmas.reach.MarkLemmas.{grown_more}
 use Rattle.mp_near.proofs.lemmas.reach.NumberLemmas.{is_picked}
-use Rattle.mp_near.proofs.lemmas.reach.ReachLemmas.{MarkedBelow, below_next, below_none, below_same, wires_are}
+use Rattle.mp_near.proofs.lemmas.reach.ReachLemmas.{MarkedBelow, below_next, below_same, wires_are}
 use Rattle.mp_near.proofs.lemmas.reach.StandLemmas.{drives_new, drives_old, driven, read_low, read_stands}
 
 -- what is known of two netlists and marks
@@ -201,9 +201,6 @@ pub record AreSpread (old new : Circuit) (modules wires : List Bool) (count : �
   pub grown : AreGrown wires marks
   pub before : MarkedBelow (Reads old) modules count marks
   pub after : MarkedBelow (Reads new) modules count marks
-
-pub spread_none : (old new : Circuit) (modules wires : List Bool) → AreSpread old new modules wires 0 wires
-spread_none old new modules wires = record { grown = grown_none wires; before = below_none (Reads old) modules wires; after = below_none (Reads new) modules wires }
 
 -- the next module isn't marked
 pub spread_same : (old new : Circuit) (modules wires marks : List Bool) (m : ℕ) → is_marked modules m ≡ false → AreSpread old new modules wires m marks → AreSpread old new modules wires (m + 1) marks

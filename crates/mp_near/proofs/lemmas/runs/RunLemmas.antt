@@ -8,7 +8,7 @@ use Rattle.mp_records.specs.declared.module_record.ModuleRecord.{ModuleRecord}
 use Rattle.mp_netlist.specs.Slots.{slot_at}
 use Rattle.mp_netlist.specs.Circuit.{Circuit, wire_at, module_at}
 use Rattle.mp_netlist.specs.Limits.{checkpoint_units}
-use Rattle.mp_model.specs.Waves.{level, slot_wave, state}
+use Rattle.mp_model.specs.Waves.{level, slot_wave}
 use Rattle.mp_partition.specs.runs.Checkpoints.{kept_at, state_before, IsBorder}
 use Rattle.mp_partition.specs.runs.Outcomes.{Outcome, wave_of, end_of, checkpoint_of}
 use Rattle.mp_partition.specs.runs.Replacing.{HasReplaced}

@@ -1,5 +1,5 @@
 -- The words of codes are short.
-use Rattle.std.proofs.Common.{ℕ, ◌≤◌, length, arith}
+use Rattle.std.proofs.Common.{◌≤◌, length, arith}
 use Rattle.mp_modules.specs.Findings.{code_word}
 use Rattle.mp_modules.specs.declared.finding_code.FindingCode.{FindingCode}
 use Rattle.mp_modules.specs.declared.finding_code.FindingCode.TheVariants as codes

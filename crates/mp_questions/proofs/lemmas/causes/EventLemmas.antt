@@ -1,7 +1,7 @@
 -- Events of levels, and the changes of waves.
-use Rattle.std.proofs.Common.{◌≡◌, ◌≢◌, ℕ, ◌+◌, ◌-◌, ◌<◌, ◌≤◌, ◌==◌, Bool, true, false, not, cond, List, [], ◌∷◌, ◌++◌, length, Option, Some, None, option_map, nat_lt, map, take, get_or, filter, slice_get, zero, suc, refl, ap, sym, subst, ◌∙◌, arith, inl, inr, append-nil}
+use Rattle.std.proofs.Common.{◌≡◌, ◌≢◌, ℕ, ◌+◌, ◌-◌, ◌<◌, ◌≤◌, ◌==◌, Bool, true, false, not, cond, List, [], ◌∷◌, ◌++◌, length, Option, Some, None, option_map, nat_lt, filter, slice_get, zero, suc, refl, ap, sym, subst, ◌∙◌, arith, inl, inr, append-nil}
 use Rattle.std.proofs.lemmas.Bool.{cases_lt, eq-eqb, ne_eqb}
-use Rattle.std.proofs.lemmas.List.{length-append, length-map, take_more, map-append}
+use Rattle.std.proofs.lemmas.List.{length-append, length-map}
 use Rattle.std.proofs.lemmas.List.Filters.{length-filter_both}
 use Rattle.std.proofs.lemmas.List.Elements.{filter-append}
 use Rattle.std.proofs.lemmas.Option.{same_Some}
@@ -243,17 +243,3 @@ events_short n t inputs = omega (arith, length-map (filter (hears n t) inputs) (
 abbrev listed : Option InputEvent → List InputEvent
 listed None = []
 listed (Some e) = e ∷ []
-
--- an input more
-pub events_more : (n : Circuit) (t : ℕ) (inputs : List Input) (k : ℕ) (d : Input) (o : Option InputEvent) → k < length inputs → o ≡ cond (hears n t (get_or inputs k d)) (Some (event_at n t (get_or inputs k d))) None
-    → events_at n t (take (k + 1) inputs) ≡ events_at n t (take k inputs) ++ listed o
-events_more n t inputs k d o within is =
-    let x = get_or inputs k d in
-    ap (events_at n t) (take_more inputs k d within)
-    ∙ ap (map (event_at n t)) (filter-append (hears n t) (take k inputs) (x ∷ []))
-    ∙ map-append (event_at n t) (filter (hears n t) (take k inputs)) (filter (hears n t) (x ∷ []))
-    ∙ ap (λ es. events_at n t (take k inputs) ++ es) (by (hears n t x) ∙ ap listed (sym is))
-  where
-    by : (b : Bool) → map (event_at n t) (cond b (get_or inputs k d ∷ []) []) ≡ listed (cond b (Some (event_at n t (get_or inputs k d))) None)
-    by true = refl
-    by false = refl

@@ -18,7 +18,7 @@ use Rattle.mp_model.specs.Waves.{level}
 use Rattle.mp_questions.specs.declared.causes.wire_change.WireChange.{WireChange}
 use Rattle.mp_questions.specs.causes.Changes.{change_at, last_change}
 use Rattle.mp_questions.specs.timing.Events.{last_event}
-use Rattle.mp_questions.specs.causes.Causes.{DrivingPort, Cause, Outside, Start, Events, driving_port, hears, event_at, events_at, cause_by, cause_of}
+use Rattle.mp_questions.specs.causes.Causes.{DrivingPort, Cause, Start, Events, driving_port, hears, event_at, events_at, cause_by, cause_of}
 use Rattle.mp_questions.specs.late.Sources.{has_memory, sources, sources_by}
 use Rattle.mp_questions.specs.late.Lateness.{is_outside, is_excused}
 use Rattle.mp_questions.specs.late.Searching.{wire_numbers, key, change_by, any_excused, source_at, from_on, with_key}
@@ -139,14 +139,6 @@ module _ (n : Circuit) (ok : IsCircuit n) (w r : ℕ) (wire : WireId) (t : ℕ) 
     by_cause cause is =
         excused_step n ok w r change ∙ ap (λ x. (x || (nat_lt r t && is_outside (cause_of n change))) || list_any (is_excused n w r) (sources n change)) other
         ∙ ap (λ (c : Cause). (nat_lt r t && is_outside c) || list_any (is_excused n w r) (sources_by n t c)) is
-
-    -- it is set from outside
-    pub from_outside : driving_port n wire.0 ≡ None → is_excused n w r change ≡ nat_lt r t
-    from_outside none = by_cause Outside (ap (cause_by n t) none) ∙ by (nat_lt r t)
-      where
-        by : (b : Bool) → ((b && true) || false) ≡ b
-        by true = refl
-        by false = refl
 
     -- it comes from a port
     pub from_port : (g : DrivingPort) → driving_port n wire.0 ≡ Some g → is_excused n w r change ≡ list_any (is_excused n w r) (sources_by n t (cause_by n t (Some g)))

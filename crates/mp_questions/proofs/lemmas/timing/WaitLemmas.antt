@@ -2,7 +2,7 @@
 use Rattle.std.proofs.Common.{◌≡◌, ◌≢◌, ℕ, ◌<◌, false, cond, ◌==◌, List, [], ◌++◌, codes, decimal, Some, None, refl, sym, ap, ◌∙◌, arith}
 use Rattle.mp_modules.specs.CElement.{bubbled}
 use Rattle.mp_modules.specs.declared.memory.Client.{Client}
-use Rattle.mp_modules.specs.declared.memory.Client.TheVariants.{Nobody, First, Second}
+use Rattle.mp_modules.specs.declared.memory.Client.TheVariants.{First, Second}
 use Rattle.mp_modules.specs.declared.memory.Memory.{Memory}
 use Rattle.mp_modules.specs.Tables.{rendezvous}
 use Rattle.mp_records.specs.declared.module_record.ModuleRecord.{ModuleRecord}
@@ -55,9 +55,6 @@ module _ (n : Circuit) (m : ℕ) (r : ModuleRecord) (t : ℕ) where
     served : (client : Client) → w.memory.served ≡ client → (state n m t).served ≡ client
     served client at = ap (λ (s : Memory). s.served) (sym is.memory) ∙ at
 
-    pub call_free : w.memory.served ≡ Nobody → [] ≡ call_wait n m r t
-    call_free at = rw (served Nobody at) refl
-
     pub call_first : w.memory.served ≡ First → input_line n r (codes " CALL waits for ") 2 w.marks.first_output ≡ call_wait n m r t
     call_first at = rw (served First at) (ap (input_line n r (codes " CALL waits for ") 2) is.marks.first_output)
 
@@ -80,9 +77,6 @@ module _ (n : Circuit) (m : ℕ) (r : ModuleRecord) (t : ℕ) where
     second_kept_is =
         ap (λ (s : Memory). cond s.waiting.second (input_line n r (codes " ARBITER keeps ") 1 w.marks.second_waiting) []) is.memory
         ∙ ap (λ (u : ℕ). cond (state n m t).waiting.second (input_line n r (codes " ARBITER keeps ") 1 u) []) is.marks.second_waiting
-
-    pub owner_free : w.memory.served ≡ Nobody → [] ≡ owner_wait n m r t (state n m t).served
-    owner_free at = sym (ap (owner_wait n m r t) (served Nobody at))
 
     pub owner_first : w.memory.served ≡ First → input_line n r (codes " ARBITER waits for ") 2 w.marks.first_output ++ second_kept ≡ owner_wait n m r t (state n m t).served
     owner_first at =

@@ -1,14 +1,11 @@
 -- Which modules drive the wires of a part.
-use Rattle.std.proofs.Common.{◌≡◌, ℕ, Bool, true, false, ◌==◌, List, Some, ap, sym, subst, refl, ◌∙◌, true≢false}
-use Rattle.std.specs.Prelude.{not}
-use Rattle.std.proofs.lemmas.Bool.{eqb-true, eq-eqb}
+use Rattle.std.proofs.Common.{◌≡◌, ℕ, Bool, true, false, List, Some, ap, sym, subst, refl, ◌∙◌, true≢false}
 use Rattle.std.specs.Prelude.{All}
 use Rattle.std.specs.List.{Contains}
 use Rattle.mp_records.specs.declared.ids.ModuleId.{ModuleId}
 use Rattle.mp_records.specs.declared.ports.Input.{Input}
 use Rattle.mp_records.specs.declared.module_record.ModuleRecord.{ModuleRecord}
 use Rattle.mp_netlist.specs.declared.driver.Driver.{Driver}
-use Rattle.mp_netlist.specs.declared.driver.Driver.TheVariants.{Port}
 use Rattle.mp_netlist.specs.Drivers.{is_port}
 use Rattle.mp_netlist.specs.Circuit.{Circuit, IsCircuit, Drives, module_at}
 use Rattle.mp_netlist.proofs.DriverLemmas.{finds_ports, finds_only_ports}
@@ -17,20 +14,6 @@ use Rattle.mp_partition.specs.regions.Readers.{Reads}
 use Rattle.mp_partition.specs.regions.Regions.{partition_of}
 use Rattle.mp_redo.specs.apart.Parts.{IsDrivenWithin, IsDrivenElsewhere}
 use Rattle.mp_redo.specs.parts.Drivers.{IsReadFrom, TellsElsewhere}
-
--- a port drives the wire
-pub tells_port : (drivers : List Driver) (homes : List ℕ) (k w p home : ℕ) (id : ModuleId) → driver_in drivers w ≡ Port id p → home ≡ partition_of homes id.0 → TellsElsewhere drivers homes k w (not (home == k))
-tells_port drivers homes k w p home id is at = by (home == k) refl
-  where
-    by : (same : Bool) → (home == k) ≡ same → TellsElsewhere drivers homes k w (not same)
-    by true e = record {
-      elsewhere = λ yes. absurd (true≢false (sym yes));
-      within = λ no other q drives. let one : id ≡ other = cc in ap (λ (x : ModuleId). partition_of homes x.0) (sym one) ∙ sym at ∙ eqb-true home k e;
-    }
-    by false e = record {
-      elsewhere = λ yes. (id, p, is, λ there. true≢false (sym (eq-eqb home k (at ∙ there)) ∙ e));
-      within = λ no. absurd (true≢false no);
-    }
 
 -- no port does
 pub tells_none : (drivers : List Driver) (homes : List ℕ) (k w : ℕ) → is_port (driver_in drivers w) ≡ false → TellsElsewhere drivers homes k w false

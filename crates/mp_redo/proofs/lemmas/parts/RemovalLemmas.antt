@@ -1,7 +1,7 @@
 -- Netlists from which the modules of other parts are removed, one after the other.
-use Rattle.std.proofs.Common.{◌≡◌, ℕ, ◌+◌, ◌<◌, ◌≤◌, true, List, Option, None, Some, Ok, length, get_or, refl, sym, ap, subst, ◌∙◌, arith, inl, inr, true≢false}
+use Rattle.std.proofs.Common.{◌≡◌, ℕ, ◌<◌, ◌≤◌, true, List, Option, None, Some, Ok, length, get_or, refl, sym, ap, subst, ◌∙◌, arith, inl, inr, true≢false}
 use Rattle.std.specs.Prelude.{unwrap_or}
-use Rattle.std.proofs.lemmas.Bool.{cases_lt, cases_eq}
+use Rattle.std.proofs.lemmas.Bool.{cases_lt}
 use Rattle.std.proofs.lemmas.List.{get_or_past, get_or-set_same, get_or-set_other, length-set}
 use Rattle.mp_records.specs.declared.module_record.ModuleRecord.{ModuleRecord}
 use Rattle.mp_records.specs.declared.edit.Edit.TheVariants.{Single}
@@ -55,15 +55,6 @@ number_of n ok m r at =
 same_frame : (n : Circuit) → HasSameFrame n n
 same_frame n = record { format = refl; horizon = refl; wires = refl; bundles = refl; places = refl }
 
-frames_join : (a b c : Circuit) → HasSameFrame a b → HasSameFrame b c → HasSameFrame a c
-frames_join a b c first second = record {
-  format = second.format ∙ first.format;
-  horizon = second.horizon ∙ first.horizon;
-  wires = second.wires ∙ first.wires;
-  bundles = second.bundles ∙ first.bundles;
-  places = second.places ∙ first.places;
-}
-
 without : (n : Circuit) (m : ℕ) (r : ModuleRecord) → module_at n m ≡ Some r → IsWithout n m (with_module n m None)
 without n m r at = record {
   frame = record { format = refl; horizon = refl; wires = refl; bundles = refl; places = length-set n.modules m None };
@@ -93,36 +84,6 @@ pub record IsPartTo (n : Circuit) (homes : List ℕ) (k m : ℕ) (found : Circui
   pub here : (j : ℕ) → partition_of homes j ≡ k → module_at found j ≡ module_at n j
   pub gone : (j : ℕ) → j < m → (partition_of homes j ≡ k → ⊥) → module_at found j ≡ None
   pub rest : (j : ℕ) → m ≤ j → module_at found j ≡ module_at n j
-
-pub none_removed : (n : Circuit) (homes : List ℕ) (k : ℕ) (found : Circuit) → found ≡ n → IsPartTo n homes k 0 found
-none_removed n homes k found same = subst (IsPartTo n homes k 0) (sym same) (record {
-  frame = same_frame n;
-  here = λ j home. refl;
-  gone = λ j low other. absurd (let no : ⊥ = omega (arith, low) in no);
-  rest = λ j past. refl;
-})
-
-pub one_stays : (n : Circuit) (homes : List ℕ) (k m : ℕ) (found : Circuit) → partition_of homes m ≡ k → IsPartTo n homes k m found → IsPartTo n homes k (m + 1) found
-one_stays n homes k m found home before = record {
-  frame = before.frame;
-  here = before.here;
-  gone = λ j low other. elim (cases_eq j m) as (λ _. module_at found j ≡ None) [
-    | inl same ↦ absurd (other (ap (partition_of homes) same ∙ home))
-    | inr differ ↦ before.gone j (omega (arith, low, differ)) other
-  ];
-  rest = λ j past. before.rest j (omega (arith, past));
-}
-
-pub one_goes : (n : Circuit) (homes : List ℕ) (k m : ℕ) (found next : Circuit) → (partition_of homes m ≡ k → ⊥) → IsWithout found m next → IsPartTo n homes k m found → IsPartTo n homes k (m + 1) next
-one_goes n homes k m found next elsewhere less before = record {
-  frame = frames_join n found next before.frame less.frame;
-  here = λ j home. less.others j (λ same. elsewhere (ap (partition_of homes) (sym same) ∙ home)) ∙ before.here j home;
-  gone = λ j low other. elim (cases_eq j m) as (λ _. module_at next j ≡ None) [
-    | inl same ↦ ap (module_at next) same ∙ less.gone
-    | inr differ ↦ less.others j differ ∙ before.gone j (omega (arith, low, differ)) other
-  ];
-  rest = λ j past. less.others j (λ same. let no : ⊥ = omega (arith, past, same) in no) ∙ before.rest j (omega (arith, past));
-}
 
 pub all_removed : (n : Circuit) (homes : List ℕ) (k m : ℕ) (found : Circuit) → length n.modules ≤ m → IsPartTo n homes k m found → HasPart n homes k found
 all_removed n homes k m found end is = record {

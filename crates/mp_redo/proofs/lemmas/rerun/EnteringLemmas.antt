@@ -1,6 +1,5 @@
 -- Who enters a gate works then.
-use Rattle.std.proofs.Common.{◌≡◌, ℕ, ◌+◌, ◌-◌, ◌<◌, ◌≤◌, Bool, true, false, List, IsSome, refl, sym, subst, ◌∙◌, arith, inl, inr}
-use Rattle.std.specs.List.{Contains}
+use Rattle.std.proofs.Common.{◌≡◌, ℕ, ◌+◌, ◌-◌, ◌<◌, ◌≤◌, Bool, true, false, List, IsSome, refl, sym, subst, arith, inl, inr}
 use Rattle.std.proofs.lemmas.Bool.{cases_Bool, both_ways}
 use Rattle.std.proofs.lemmas.List.Elements.{All-weaker}
 use Rattle.mp_records.specs.declared.ids.ModuleId.{ModuleId}
@@ -8,7 +7,7 @@ use Rattle.mp_netlist.specs.Circuit.{Circuit, IsCircuit, module_at}
 use Rattle.mp_netlist.specs.Limits.{checkpoint_units}
 use Rattle.mp_partition.specs.runs.Outcomes.{Outcome}
 use Rattle.mp_phase.specs.Allowed.{IsAllowed, AreAllowed}
-use Rattle.mp_depend.specs.work.Work.{block_of, window_end, IsWindow, IsEntry}
+use Rattle.mp_depend.specs.work.Work.{block_of, IsWindow, IsEntry}
 use Rattle.mp_depend.proofs.lemmas.work.WindowLemmas.{window_within, in_block}
 use Rattle.mp_depend.specs.recording.Live.{AreAtWork}
 use Rattle.mp_redo.specs.declared.rerun.join.Join.{Join}

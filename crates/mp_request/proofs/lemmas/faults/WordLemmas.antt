@@ -1,11 +1,11 @@
 -- Facts about the words of a line, and about first places.
-use Rattle.std.proofs.Common.{◌≡◌, ℕ, min, ◌-◌, ◌<◌, ◌≤◌, List, [], ◌∷◌, length, take, drop, map, refl, ap, arith, ◌∙◌, sym, All}
+use Rattle.std.proofs.Common.{◌≡◌, ℕ, min, ◌-◌, List, [], ◌∷◌, length, take, drop, refl, ap, ◌∙◌, sym}
 use Rattle.std.specs.Borrow.{Bor}
 use Rattle.std.specs.Prelude.{Bool, not, cond, ◌+◌}
 use Rattle.std.specs.List.{before_first, after_first, position_or_len}
 use Rattle.std.proofs.lemmas.List.{drop-map, drop_min, take_min, take_rest}
 use Rattle.std.proofs.lemmas.List.Elements.{All-take, All-drop}
-use Rattle.mp_text.specs.Names.{texts, AreAscii}
+use Rattle.mp_text.specs.Names.{texts}
 use Rattle.mp_text.specs.Statements.{is_mark}
 use Rattle.mp_text.proofs.lemmas.lexing.WordListLemmas.{texts-before_first, texts-after_first}
 

@@ -52,9 +52,6 @@ plain_words line false words is says = absurd (cc (rw is at says))
 pub not_plain : (line : List ℕ) → list_all is_allowed line ≡ false → IsSeatsLine (Some line) → ⊥
 not_plain line is says = let p = plain_words line false (codes "seats" ∷ []) is says in absurd (cc (p.0))
 
-pub not_one : (line : List ℕ) → (length (words_of line) ≡ 1 → ⊥) → IsSeatsLine (Some line) → ⊥
-not_one line more says = more (ap (λ (ws : List (List ℕ)). length ws) (plain_words line (list_all is_allowed line) (codes "seats" ∷ []) refl says).1)
-
 pub not_this : (line word : List ℕ) → slice_get (words_of line) 0 ≡ Some word → (word ≡ codes "seats" → ⊥) → IsSeatsLine (Some line) → ⊥
 not_this line word first other says =
     let words = (plain_words line (list_all is_allowed line) (codes "seats" ∷ []) refl says).1 in

@@ -6,7 +6,7 @@ use Rattle.mp_desk.specs.Extending.{Extends}
 use Rattle.mp_desk.proofs.PrefixLemmas.{prefix_self, prefix_trans, extends_self, extends_trans}
 use Rattle.mp_seats.specs.Replies.{Writing}
 use Rattle.mp_seats.specs.Steps.{Seated}
-use Rattle.mp_seats.specs.hosting.Stays.{IsServed, IsStay, IsSignedStay, AreStays, WasAttended, WasSignedAttended, AreAttended, Each}
+use Rattle.mp_seats.specs.hosting.Stays.{IsStay, IsSignedStay, AreStays, WasAttended, WasSignedAttended, AreAttended, Each}
 
 module _ (T : Type 0) {D : Type 0} (Comes : D → D → Option (List ℕ) → Option (List ℕ) → Type 0) (Leaves : D → D → Option (List ℕ) → Type 0) (TurnsAway : D → D → Type 0) (w : Writing) (edits : Bool) where
   -- nobody came yet
@@ -27,24 +27,6 @@ module _ (T : Type 0) {D : Type 0} (Comes : D → D → Option (List ℕ) → Op
       → WasAttended T Comes Leaves TurnsAway w edits seat door last end
   one_more_stay seat door seat' door' last end attended stay =
       record { stays = attended.stays ++ (last, end) ∷ []; are = more_stays seat door attended.stays seat' door' last end attended.are stay }
-
-  -- who came was served and left
-  pub served_stay : (start last : Seated) (before inside after : D) (left left' taken taken' put : Option (List ℕ)) → Comes before inside left taken → left' ≡ left → taken' ≡ taken
-      → IsServed T w edits left' taken' start last put → Leaves inside after put → IsStay T Comes Leaves TurnsAway w edits start last before after
-  served_stay start last before inside after left left' taken taken' put comes same_left same_taken served leaves = inl (record {
-    inside = inside;
-    left = left';
-    taken = taken';
-    put = put;
-    comes = subst (λ l. Comes before inside l taken') (sym same_left) (subst (λ t. Comes before inside left t) (sym same_taken) comes);
-    served = served;
-    leaves = leaves;
-  })
-
-  -- who came was turned away
-  pub turned_stay : (start : Seated) (before inside after : D) (left taken : Option (List ℕ)) → Comes before inside left taken → TurnsAway inside after
-      → IsStay T Comes Leaves TurnsAway w edits start start before after
-  turned_stay start before inside after left taken comes turns = inr (record { inside = inside; left = left; taken = taken; comes = comes; turned_away = turns; same = refl })
 
   -- at the end of a day nobody came any more
   pub no_more_stay : (seat : Seated) (door : D) (seat' : Seated) (door' : D) (last : Seated) (end : D)
@@ -127,19 +109,6 @@ module _ (T : Type 0) {D : Type 0} (Comes : D → D → Option (List ℕ) → Op
       → WasSignedAttended T Comes Leaves TurnsAway w edits seat door seat' door' → last ≡ seat' → end ≡ door' → WasSignedAttended T Comes Leaves TurnsAway w edits seat door last end
   signed_no_more seat door seat' door' last end attended same_seat same_door authors more =
       no_more_stay T Comes Leaves TurnsAway (w authors) edits seat door seat' door' last end (attended authors (subst (λ (s : Seated). IsPrefix s.signed authors) same_seat more)) same_seat same_door
-
-  -- who came was served and left
-  pub signed_served : (start last : Seated) (before inside after : D) (left left' taken taken' put : Option (List ℕ)) → Comes before inside left taken → left' ≡ left → taken' ≡ taken
-      → ((authors : List ℕ) → IsPrefix last.signed authors → IsServed T (w authors) edits left' taken' start last put) → Leaves inside after put
-      → IsSignedStay T Comes Leaves TurnsAway w edits start last before after
-  signed_served start last before inside after left left' taken taken' put comes same_left same_taken served leaves authors more =
-      served_stay T Comes Leaves TurnsAway (w authors) edits start last before inside after left left' taken taken' put comes same_left same_taken (served authors more) leaves
-
-  -- who came was turned away
-  pub signed_turned : (start : Seated) (before inside after : D) (left taken : Option (List ℕ)) → Comes before inside left taken → TurnsAway inside after
-      → IsSignedStay T Comes Leaves TurnsAway w edits start start before after
-  signed_turned start before inside after left taken comes turns authors more =
-      turned_stay T Comes Leaves TurnsAway (w authors) edits start before inside after left taken comes turns
 
   -- the posts that were attended, once all edits have their authors
   pub each_attended : {P : Type 0} (seat : P → Seated) (door : P → D) (authors : List ℕ) (old new : List P) → length new ≡ length old

@@ -1,16 +1,13 @@
 -- What a journal has, line by line.
-use Rattle.std.proofs.Common.{◌≡◌, ℕ, zero, suc, ◌+◌, ◌<◌, ◌≤◌, true, false, List, [], ◌∷◌, ◌++◌, length, length-append, take, drop, Option, Result, Ok, Err, is_err, refl, sym, ap, subst, ◌∙◌, arith}
+use Rattle.std.proofs.Common.{◌≡◌, ℕ, zero, suc, ◌+◌, ◌<◌, true, false, List, [], ◌∷◌, ◌++◌, length, length-append, take, Option, Result, Ok, Err, is_err, refl, sym, ap, subst, ◌∙◌, arith}
 use Rattle.std.specs.Io.KnownBytes.{Appends}
-use Rattle.std.proofs.KnownBytes.{Appends-nil, Appends-trans}
+use Rattle.std.proofs.KnownBytes.{Appends-trans}
 use Rattle.std.proofs.lemmas.List.{append-nil}
-use Rattle.std.proofs.lemmas.List.Concat.{flat_map-append}
 use Rattle.std.proofs.Math.Seq.{take-append_seam}
-use Rattle.mp_records.specs.declared.edit.Edit.{Edit}
 use Rattle.mp_streams.specs.declared.failed.Failed.{Failed}
 use Rattle.mp_streams.specs.Outgoing.{Outgoing, Writes}
 use Rattle.mp_streams.specs.StreamBytes.{AppendsPrefix}
-use Rattle.mp_text.specs.edit_lines.EditLines.{edit_text, edit_lines}
-use Rattle.mp_seats.specs.journal.Journals.{Journal, HasTaken, Passes, Continues, KeepsEdits, HasOneMore}
+use Rattle.mp_seats.specs.journal.Journals.{Journal, HasTaken, Passes, Continues}
 
 -- where nothing is held before and behind, what was written is with the sink
 pub passes : {S : Type 0} (r : Result (Unit {0}) Failed) (a b : Outgoing S) (text : List ℕ) → Writes r a b text → a.held ≡ [] → b.held ≡ [] → Passes r a.taken b.taken text
@@ -24,18 +21,6 @@ passes (Err failed) a b text puts first last =
     let front : take (length puts.front) text ≡ puts.front = ap (take (length puts.front)) split ∙ take-append_seam puts.front puts.lost in
     (length puts.front, omega (arith, some, ap length split, length-append puts.front puts.lost), subst (Appends a.taken b.taken) (sym front) puts.taken)
 
--- a part of some bytes is one of more bytes
-part_of_more : (old new : Option (List ℕ)) (bytes more : List ℕ) → AppendsPrefix old new bytes → AppendsPrefix old new (bytes ++ more)
-part_of_more old new bytes more part =
-    let less = part.1 in
-    let same : take part.0 (bytes ++ more) ≡ take part.0 bytes = take_within bytes more part.0 less in
-    (part.0, omega (arith, less, length-append bytes more), subst (Appends old new) (sym same) part.2)
-  where
-    take_within : (bytes more : List ℕ) (n : ℕ) → n < length bytes → take n (bytes ++ more) ≡ take n bytes
-    take_within [] more n less = absurd (omega (arith, less))
-    take_within (b ∷ bytes) more zero less = refl
-    take_within (b ∷ bytes) more (suc n) less = ap (λ l. b ∷ l) (take_within bytes more n (omega (arith, less)))
-
 -- all of some bytes, and then a part of others
 all_and_part : (a b c : Option (List ℕ)) (first bytes : List ℕ) → Appends a b first → AppendsPrefix b c bytes → AppendsPrefix a c (first ++ bytes)
 all_and_part a b c first bytes all part =
@@ -47,13 +32,6 @@ all_and_part a b c first bytes all part =
     take_past [] bytes n k is = let same : k ≡ n = omega (arith, is) in ap (λ (m : ℕ). take m bytes) same
     take_past (b ∷ first) bytes n zero is = absurd (omega (arith, is))
     take_past (b ∷ first) bytes n (suc k) is = ap (λ l. b ∷ l) (take_past first bytes n k (omega (arith, is)))
-
--- nothing is written after a fault
-pub stays_torn : (old new : Journal) (bytes : List ℕ) → new ≡ old → old.is_whole ≡ false → Continues old new bytes
-stays_torn old new bytes same torn first has =
-    let was : HasTaken (record { before = old.before; taken = old.taken; is_whole = false }) first = subst (λ w. HasTaken (record { before = old.before; taken = old.taken; is_whole = w }) first) torn has in
-    let now : HasTaken (record { before = old.before; taken = old.taken; is_whole = false }) (first ++ bytes) = part_of_more old.before old.taken first bytes was in
-    subst (λ j. HasTaken j (first ++ bytes)) (sym same) (subst (λ w. HasTaken (record { before = old.before; taken = old.taken; is_whole = w }) (first ++ bytes)) (sym torn) now)
 
 -- the line is there
 pub goes_on : (old new : Journal) (bytes : List ℕ) → old.is_whole ≡ true → new.is_whole ≡ true → new.before ≡ old.before → Appends old.taken new.taken bytes → Continues old new bytes
@@ -70,33 +48,6 @@ is_torn old new bytes whole torn before part first has =
     let now : AppendsPrefix old.before new.taken (first ++ bytes) = all_and_part old.before old.taken new.taken first bytes was part in
     subst (λ b. HasTaken (record { before = b; taken = new.taken; is_whole = new.is_whole }) (first ++ bytes)) (sym before)
     (subst (λ w. HasTaken (record { before = old.before; taken = new.taken; is_whole = w }) (first ++ bytes)) (sym torn) now)
-
-drop_snoc : (opening : ℕ) (edits : List Edit) (edit : Edit) → opening ≤ length edits → drop opening (edits ++ edit ∷ []) ≡ drop opening edits ++ edit ∷ []
-drop_snoc zero edits edit low = refl
-drop_snoc (suc n) [] edit low = absurd (omega (arith, low))
-drop_snoc (suc n) (e ∷ edits) edit low = drop_snoc n edits edit (omega (arith, low))
-
--- one line more
-pub keeps_more : (old new : Journal) (opening : ℕ) (edits : List Edit) (edit : Edit) → HasOneMore old new (edits ++ edit ∷ []) → KeepsEdits old opening edits → KeepsEdits new opening (edits ++ edit ∷ [])
-keeps_more old new opening edits edit one kept =
-    let low = kept.0 in
-    let line : List ℕ = edit_text edit ++ 10 ∷ [] in
-    let lines : edit_lines (drop opening (edits ++ edit ∷ [])) ≡ edit_lines (drop opening edits) ++ line =
-    ap edit_lines (drop_snoc opening edits edit low) ∙ flat_map-append (λ e. edit_text e ++ 10 ∷ []) (drop opening edits) (edit ∷ [])
-    ∙ ap (λ l. edit_lines (drop opening edits) ++ l) (append-nil line) in
-    (omega (arith, low, length-append edits (edit ∷ [])), subst (HasTaken new) (sym lines) (one edits edit refl (edit_lines (drop opening edits)) kept.1))
-
--- none yet
-pub keeps_none : (journal : Journal) (edits : List Edit) → journal.taken ≡ journal.before → journal.is_whole ≡ true → KeepsEdits journal (length edits) edits
-keeps_none journal edits same whole =
-    let none : drop (length edits) edits ≡ [] = drop_whole edits in
-    let now : Appends journal.before journal.taken [] = subst (λ t. Appends journal.before t []) (sym same) (Appends-nil journal.before) in
-    let has : HasTaken journal [] = subst (λ w. HasTaken (record { before = journal.before; taken = journal.taken; is_whole = w }) []) (sym whole) now in
-    (omega arith, subst (λ es. HasTaken journal (edit_lines es)) (sym none) has)
-  where
-    drop_whole : (edits : List Edit) → drop (length edits) edits ≡ []
-    drop_whole [] = refl
-    drop_whole (e ∷ edits) = drop_whole edits
 
 -- the write of a line failed
 pub torn_at : (old mid : Journal) (r : Result (Unit {0}) Failed) (bytes : List ℕ) → old.is_whole ≡ true → is_err r ≡ true → Passes r old.taken mid.taken bytes → mid.before ≡ old.before

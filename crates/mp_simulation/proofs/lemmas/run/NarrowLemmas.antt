@@ -1,7 +1,7 @@
 -- Levels and widths where each wire has width 1.
-use Rattle.std.proofs.Common.{◌≡◌, ℕ, ◌^◌, ◌<◌, ◌≤◌, Bool, true, false, not, cond, nat_lt, Option, Some, None, IsSome, length, refl, sym, ap, ◌∙◌, arith, subst}
+use Rattle.std.proofs.Common.{◌≡◌, ℕ, ◌^◌, ◌<◌, ◌≤◌, Bool, true, false, not, cond, nat_lt, Option, Some, None, IsSome, length, refl, ap, ◌∙◌, arith, subst}
 use Rattle.std.specs.Prelude.{◌&&◌}
-use Rattle.std.proofs.lemmas.Bool.{eqb-true, eq-eqb, false≢true}
+use Rattle.std.proofs.lemmas.Bool.{eqb-true, eq-eqb}
 use Rattle.std.proofs.lemmas.Option.{none-some, same_Some}
 use Rattle.mp_modules.specs.Kinds.{has_width}
 use Rattle.mp_modules.proofs.KindLemmas.{some_input}
@@ -11,7 +11,6 @@ use Rattle.mp_records.specs.Inputs.{no_input, input_at}
 use Rattle.mp_netlist.specs.Circuit.{Circuit, IsCircuit, wire_at, width_of, module_at, module_width}
 use Rattle.mp_model.specs.Waves.{level}
 use Rattle.mp_model.proofs.LevelFitLemmas.{level_fits}
-use Rattle.mp_model.proofs.SlotLemmas.{slot_within}
 use Rattle.mp_simulation.specs.units.DataLevels.{has_data, is_bit_wire}
 use Rattle.mp_simulation.specs.run.Narrow.{IsNarrow, has_one_bit}
 
@@ -43,16 +42,6 @@ one_bit_module n ok narrow m r at =
 narrow_by : (slot : Option WireRecord) (r : WireRecord) → has_one_bit slot ≡ true → slot ≡ Some r → r.width ≡ 1
 narrow_by None r test is = absurd (none-some r is)
 narrow_by (Some v) r test is = subst (λ (x : WireRecord). x.width ≡ 1) (same_Some v r is) (eqb-true v.width 1 test)
-
-pub narrow_all : (n : Circuit) → ((k : ℕ) → k < length n.wires → has_one_bit (wire_at n k) ≡ true) → IsNarrow n
-narrow_all n tests w r at = narrow_by (wire_at n w) r (tests w (slot_within n.wires w r at)) at
-
-bit_by : (n : Circuit) → IsNarrow n → (w : ℕ) (slot : Option WireRecord) → wire_at n w ≡ slot → has_one_bit slot ≡ true
-bit_by n narrow w None at = refl
-bit_by n narrow w (Some r) at = eq-eqb r.width 1 (narrow w r at)
-
-pub not_narrow : (n : Circuit) (w : ℕ) → has_one_bit (wire_at n w) ≡ false → IsNarrow n → ⊥
-not_narrow n w test narrow = let other = bit_by n narrow w (wire_at n w) refl in false≢true (sym test ∙ other)
 
 no_data : (n : Circuit) → IsNarrow n → (w : ℕ) (slot : Option WireRecord) → wire_at n w ≡ slot → has_data slot ≡ false
 no_data n narrow w None at = refl

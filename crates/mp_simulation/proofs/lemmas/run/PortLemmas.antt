@@ -33,15 +33,11 @@ use Rattle.mp_simulation.proofs.lemmas.units.LevelWheelLemmas.{is_change, HoldsO
 use Rattle.mp_simulation.proofs.lemmas.units.AheadLemmas.{counted_entry, no_entry}
 use Rattle.mp_simulation.specs.run.Widths.{is_bit_module}
 use Rattle.mp_simulation.specs.run.Settling.{is_below}
-use Rattle.mp_simulation.specs.run.Seating.{has_data_at, level_departs_from, level_departs, first_levels, levels_in, IsFirstLevel}
+use Rattle.mp_simulation.specs.run.Seating.{level_departs_from, level_departs, first_levels, levels_in, IsFirstLevel}
 use Rattle.mp_simulation.proofs.lemmas.run.SettlingLemmas.{unmapped, same_delay, still_below, delay_some, output_low, slot_within}
 use Rattle.mp_simulation.proofs.lemmas.run.WidthLemmas.{bit_drives, data_first}
 
 -- ---- ports
-
-pub data_port : (n : Circuit) (o : Option WireId) → has_data_at n (option_map wire_number o) ≡ drives_data n o
-data_port n None = refl
-data_port n (Some w) = refl
 
 slot_if : (b : Bool) (units : ℕ) (port : OutputPort) → 0 < units → HasSlot units port → HasSlot units (cond b port no_port)
 slot_if true units port some has = has

@@ -33,10 +33,6 @@ none_from w v u (s ∷ ss) from low =
     ∙ plus_none (cond (is_change w v s) 1 0) (count_by (is_change w v) ss) (none_listed (s.wire == w) (s.time == v) (ne_eqb s.time v (λ e. omega arith)))
     ∙ none_from w v s.time ss from.1 (omega arith)
 
-bit_and_true : (b : Bool) → bit (b && true) ≡ bit b
-bit_and_true true = refl
-bit_and_true false = refl
-
 listed_cons : (w x : ℕ) (xs : List ℕ) → listed w (x ∷ xs) ≡ bit (x == w) + listed w xs
 listed_cons w x xs = sum_by-cons (λ d. cond (d == w) 1 0) x xs
 

@@ -248,30 +248,6 @@ seated_none n inputs s places modules empty = record {
 
 -- ---- one place more
 
-pub seats_no_module : (n : Circuit) (m : ℕ) (inputs : List (Option ℕ)) (old new : Seating) → module_at n m ≡ None → new.modules.modules.items ≡ old.modules.modules.items →
-    new.modules.places.items ≡ old.modules.places.items ++ None ∷ [] → new.wheel ≡ old.wheel → Seats n m inputs old new
-seats_no_module n m inputs old new at modules places wheel = record {
-  modules = modules ∙ sym (append-nil old.modules.modules.items) ∙ ap (λ slot. old.modules.modules.items ++ seated_in n m inputs slot) (sym at);
-  places = places ∙ ap (λ slot. old.modules.places.items ++ place_in n (length old.modules.modules.items) slot ∷ []) (sym at);
-  wheel = wheel ∙ ap (λ slot. scheduled old.wheel (levels_in n m slot)) (sym at);
-  units = ap (length {A = List LevelChange}) wheel;
-}
-
-pub seats_bits : (n : Circuit) (m : ℕ) (r : ModuleRecord) (inputs : List (Option ℕ)) (old new : Seating) → module_at n m ≡ Some r → is_bit_module n r ≡ true →
-    new.modules.modules.items ≡ old.modules.modules.items → new.modules.places.items ≡ old.modules.places.items ++ None ∷ [] → new.wheel ≡ old.wheel → Seats n m inputs old new
-seats_bits n m r inputs old new at bits modules places wheel = record {
-  modules = modules ∙ sym (append-nil old.modules.modules.items)
-      ∙ ap (λ b. old.modules.modules.items ++ cond b [] (data_module n m r inputs ∷ [])) (sym bits)
-      ∙ ap (λ slot. old.modules.modules.items ++ seated_in n m inputs slot) (sym at);
-  places = places
-      ∙ ap (λ b. old.modules.places.items ++ cond b None (Some (length old.modules.modules.items)) ∷ []) (sym bits)
-      ∙ ap (λ slot. old.modules.places.items ++ place_in n (length old.modules.modules.items) slot ∷ []) (sym at);
-  wheel = wheel
-      ∙ ap (λ b. scheduled old.wheel (cond b [] (first_levels n m r))) (sym bits)
-      ∙ ap (λ slot. scheduled old.wheel (levels_in n m slot)) (sym at);
-  units = ap (length {A = List LevelChange}) wheel;
-}
-
 pub same_ports : (p : OutputPorts) (a b c : OutputPort) → p.first ≡ a → p.second ≡ b → p.third ≡ c → p ≡ record { first = a; second = b; third = c }
 same_ports p a b c first second third =
     ap (λ (x : OutputPort). let v : OutputPorts = record { first = x; second = p.second; third = p.third } in v) first

@@ -128,18 +128,6 @@ settled_is n ok m r part levels memory at part_is levels_are is =
 
 -- ---- the first changes
 
-nothing_first : (n : Circuit) (w k : ℕ) (d : Driver) → 0 ≡ bit (is_below 0 d && is_first_bit n d w (k + 1))
-nothing_first n w k Nothing = refl
-nothing_first n w k Stimulus = refl
-nothing_first n w k (Port m p) = let test : nat_lt m.0 0 ≡ false = grind (arith, nat_tests) in sym (ap (λ b. bit (b && is_first_bit n (Port m p) w (k + 1))) test)
-
-pub settled_none : (n : Circuit) (wheel : List (List ℕ)) → ((k : ℕ) → slice_index_or wheel k [] ≡ []) → IsSettled n 0 [] wheel
-settled_none n wheel empty = record {
-  places = refl;
-  each = λ m low. absurd (omega arith);
-  slots = λ w k within. ap (listed w) (empty k) ∙ nothing_first n w k (driver n w);
-}
-
 -- one port of a module
 toggle_of : (n : Circuit) (w p : ℕ) → p < 3 → (r : ModuleRecord) (m : Memory) → (output_at r p).wire ≡ Some (record { 0 = w }) →
     port_toggle (departing n (output_ports_of r) m) p ≡ not (is_data n w) && not (initial_of (wire_at n w) == output_of m p)

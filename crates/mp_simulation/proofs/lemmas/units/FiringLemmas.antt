@@ -49,9 +49,6 @@ use Rattle.mp_simulation.proofs.lemmas.units.LevelCopyLemmas.{sum_zero, all_flat
 use Rattle.mp_simulation.proofs.lemmas.units.StepLemmas.{steps, rests}
 use Rattle.mp_simulation.proofs.lemmas.units.FiredLemmas.{both, bits_none, bits_own, bits_data, level_none, level_own, one_place}
 
-none_number : (k : ℕ) → None ≡ Some k → ⊥
-none_number k e = cc
-
 pub some_is : (o : Option ℕ) → is_some o ≡ true → (k : ℕ) × (o ≡ Some k)
 some_is None is = absurd (both (is_some (let none : Option ℕ = None in none)) is refl)
 some_is (Some k) is = (k, refl)

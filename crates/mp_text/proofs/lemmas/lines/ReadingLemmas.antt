@@ -8,7 +8,7 @@ use Rattle.std.proofs.lemmas.List.{append-nil}
 use Rattle.mp_streams.specs.declared.failed.Failed.{Failed}
 use Rattle.mp_text.specs.lexing.Lines.{is_line_feed}
 use Rattle.mp_text.specs.lines.Given.{given, with_more, has_line_feed}
-use Rattle.mp_text.specs.lines.Incoming.{Incoming, ReadsLine, StaysIfHeld}
+use Rattle.mp_text.specs.lines.Incoming.{Incoming, ReadsLine}
 use Rattle.mp_text.proofs.lemmas.lines.GivenLemmas.{given_more, given_none}
 use Rattle.mp_text.proofs.lemmas.lines.FeedLemmas.{before_behind, after_behind, feed_behind, before_none, after_none}
 
@@ -72,9 +72,6 @@ module _ (first now new : Incoming) (reading : IsReading first now) (none : has_
 
   no_stay : has_line_feed first.held ≡ true → ⊥
   no_stay feed = true≢false (sym feed ∙ ap has_line_feed (sym (reading.stays feed).1) ∙ none)
-
-  pub stays_not : StaysIfHeld first new
-  stays_not feed = absurd (no_stay feed)
 
   -- it gave some, or told its end
   pub goes_on : new.line ≡ with_more now.line (before_first is_line_feed now.held) → Consumes now.left new.left new.held → new.faults ≡ now.faults → new.ended ≡ now.ended

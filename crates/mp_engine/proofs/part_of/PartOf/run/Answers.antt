@@ -8,11 +8,8 @@ use Rattle.mp_partition.proofs.lemmas.regions.DivisionLemmas.{divided_apart}
 use Rattle.mp_partition.proofs.lemmas.regions.RegionLemmas.{has_stimuli}
 use Rattle.mp_partition.specs.merging.PartRuns.{IsPartRun}
 use Rattle.mp_engine.specs.region_runs.StateHistories.{IsHistory}
-use Rattle.mp_engine.specs.region_runs.RegionRuns.{AreTidings, IsUnderWay}
-use Rattle.mp_engine.specs.messages.Messages.{AreTold, IsToldOnce, KnowsAhead}
-use Rattle.mp_engine.specs.messages.Lines.{parts_of}
+use Rattle.mp_engine.specs.region_runs.RegionRuns.{IsUnderWay}
 use Rattle.mp_engine.proofs.lemmas.region_runs.StateHistoryLemmas.{has_history}
-use Rattle.mp_engine.proofs.HearingLemmas.{renamed, tidings_are}
 use Rattle.mp_engine.proofs.part_of.PartOf.run.Goals as goal
 
 pub new-region-requires : goal.new-region-requires

@@ -2,16 +2,12 @@ use Rattle.std.proofs.Common.{◌≡◌, ℕ, ◌+◌, ◌-◌, Bool, List, sym,
 use Rattle.mp_netlist.specs.Circuit.{Circuit}
 use Rattle.mp_simulation.specs.units.NetlistSimulations.{IsSimulated}
 use Rattle.mp_partition.specs.runs.Marks.{is_marked}
-use Rattle.mp_partition.specs.regions.Regions.{partition_of, region, HasStimuli}
+use Rattle.mp_partition.specs.regions.Regions.{partition_of, region}
 use Rattle.mp_partition.specs.regions.Divisions.{heard_by}
 use Rattle.mp_partition.proofs.lemmas.regions.DivisionLemmas.{divided_apart}
-use Rattle.mp_partition.proofs.lemmas.regions.RegionLemmas.{has_stimuli}
-use Rattle.mp_partition.specs.merging.PartRuns.{IsPartRun}
-use Rattle.mp_engine.specs.region_runs.StateHistories.{IsHistory}
 use Rattle.mp_engine.specs.region_runs.RegionRuns.{AreTidings, IsUnderWay}
 use Rattle.mp_engine.specs.messages.Messages.{AreTold, IsToldOnce, KnowsAhead}
 use Rattle.mp_engine.specs.messages.Lines.{parts_of}
-use Rattle.mp_engine.proofs.lemmas.region_runs.StateHistoryLemmas.{has_history}
 use Rattle.mp_engine.proofs.HearingLemmas.{renamed, tidings_are}
 use Rattle.mp_engine.proofs.part_of.PartOf.run_windows.Goals as goal
 

@@ -2,7 +2,7 @@ use Rattle.mp_near.proofs.region.small.is_small.Goals as goal
 
 pub returns : goal.returns
 returns c is =
-    let grown = c.has_grown.ensures c.if-not-has_grown.false in
+    let grown = c.is_no_smaller.ensures c.if-not-is_no_smaller.false in
     let was = c.is_picked.ensures c.if-not-is_picked.false in
     let now = c.is_picked-2.ensures is in
     record {

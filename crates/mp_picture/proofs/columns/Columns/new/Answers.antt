@@ -1,5 +1,5 @@
-use Rattle.std.proofs.Common.{◌≡◌, ℕ, ◌-◌, ◌+◌, ◌*◌, ◌%◌, ◌<◌, ◌≤◌, max, sym, ap, ap₂, subst, ◌∙◌, arith}
-use Rattle.mp_picture.specs.RoundNumbers.{is_round, rounded_down, units_of}
+use Rattle.std.proofs.Common.{◌≡◌, ℕ, ◌-◌, ◌+◌, ◌<◌, ◌≤◌, max, ap, ap₂, ◌∙◌, arith}
+use Rattle.mp_picture.specs.RoundNumbers.{rounded_down, units_of}
 use Rattle.mp_picture.proofs.RoundLemmas.{round_some, units_round, units_enough, units_fewest}
 use Rattle.mp_picture.proofs.SameColumnLemmas.{same_columns}
 use Rattle.mp_picture.proofs.columns.Columns.new.Goals as goal

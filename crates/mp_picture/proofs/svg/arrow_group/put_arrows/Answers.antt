@@ -1,7 +1,5 @@
 use Rattle.mp_streams.proofs.OutLemmas.{puts_next, puts_stopped, writes_failed}
-use Rattle.mp_records.specs.declared.ids.WireId.{WireId}
 use Rattle.mp_picture.specs.declared.svg.arrow.Arrow.{Arrow}
-use Rattle.mp_picture.specs.declared.svg.arrow.WirePoint.{WirePoint}
 use Rattle.mp_picture.specs.svg.Arrows.{arrow_text}
 use Rattle.mp_picture.proofs.svg.arrow_group.put_arrows.Goals as goal
 

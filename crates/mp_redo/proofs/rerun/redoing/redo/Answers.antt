@@ -1,4 +1,4 @@
-use Rattle.std.proofs.Common.{◌≡◌, sym, subst}
+use Rattle.std.proofs.Common.{sym, subst}
 use Rattle.mp_netlist.specs.Circuit.{Circuit}
 use Rattle.mp_phase.specs.Allowed.{IsAllowed}
 use Rattle.mp_depend.specs.work.Work.{IsEntry}

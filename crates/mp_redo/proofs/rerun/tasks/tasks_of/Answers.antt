@@ -1,4 +1,4 @@
-use Rattle.std.proofs.Common.{◌≡◌, ◌<◌, List, slice_index_or, sym, subst}
+use Rattle.std.proofs.Common.{slice_index_or, sym, subst}
 use Rattle.std.proofs.lemmas.List.Elements.{All-push, Contains-get_or}
 use Rattle.mp_records.specs.declared.ids.ModuleId.{ModuleId}
 use Rattle.mp_depend.specs.work.Work.{IsEntry}

@@ -1,4 +1,4 @@
-use Rattle.std.proofs.Common.{◌≡◌, sym, subst, ◌∙◌}
+use Rattle.std.proofs.Common.{sym, subst, ◌∙◌}
 use Rattle.mp_partition.specs.runs.Marks.{is_marked}
 use Rattle.mp_depend.specs.recording.Keeping.{AreOverlays, AreOldStates}
 use Rattle.mp_depend.proofs.lemmas.recording.HistoryLemmas.{history_alike}

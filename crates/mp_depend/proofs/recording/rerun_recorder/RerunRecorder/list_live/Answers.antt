@@ -1,4 +1,4 @@
-use Rattle.std.proofs.Common.{rules, ◌≡◌, true, is_some, List, Option, ℕ, ap, subst, sym, ◌∙◌}
+use Rattle.std.proofs.Common.{rules, ◌≡◌, true, is_some, List, Option, ℕ, ap, subst, sym}
 use Rattle.std.specs.List.{Contains}
 use Rattle.std.proofs.lemmas.Fn.{filter_same}
 use Rattle.mp_records.specs.declared.ids.ModuleId.{ModuleId}

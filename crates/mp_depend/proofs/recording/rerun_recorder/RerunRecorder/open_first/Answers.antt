@@ -1,4 +1,4 @@
-use Rattle.std.proofs.Common.{◌≡◌, ◌+◌, ◌<◌, ◌≤◌, Some, false, true, IsTrue, IsSome, length, slice_set, refl, ap, sym, subst, ◌∙◌, arith}
+use Rattle.std.proofs.Common.{◌≡◌, ◌+◌, ◌≤◌, Some, false, true, IsTrue, IsSome, length, slice_set, refl, ap, sym, subst, ◌∙◌, arith}
 use Rattle.mp_partition.specs.runs.Marks.{is_marked}
 use Rattle.mp_netlist.specs.Circuit.{module_at}
 use Rattle.mp_model.proofs.SlotLemmas.{some_within}

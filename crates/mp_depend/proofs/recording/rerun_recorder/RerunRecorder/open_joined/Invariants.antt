@@ -1,4 +1,4 @@
-use Rattle.std.proofs.Common.{◌≡◌, ◌⊎◌, ℕ, ◌<◌, Bool, slice_index_or}
+use Rattle.std.proofs.Common.{◌⊎◌, ℕ, ◌<◌, Bool, slice_index_or}
 use Rattle.std.specs.List.{Contains}
 use Rattle.mp_records.specs.declared.ids.ModuleId.{ModuleId}
 use Rattle.mp_depend.specs.recording.Recorders.{IsSound}

@@ -6,7 +6,6 @@ use Rattle.std.proofs.lemmas.List.Elements.{Contains-push}
 use Rattle.mp_records.specs.declared.ids.ModuleId.{ModuleId}
 use Rattle.mp_model.proofs.SlotLemmas.{some_within}
 use Rattle.mp_depend.specs.declared.work.work_span.WorkSpan.{WorkSpan}
-use Rattle.mp_depend.specs.declared.recording.checkpoint_overlay.CheckpointOverlay.{CheckpointOverlay}
 use Rattle.mp_depend.specs.declared.recording.checkpoint_overlay.CheckpointOverlay.TheVariants.{Old}
 use Rattle.mp_depend.specs.recording.Overlays.{overlay_at}
 use Rattle.mp_depend.specs.recording.Live.{place_at}

@@ -1,4 +1,4 @@
-use Rattle.std.proofs.Common.{◌≡◌, length, get_or, take, refl, subst, sym, arith}
+use Rattle.std.proofs.Common.{◌≡◌, get_or, take, refl, subst, arith}
 use Rattle.std.proofs.lemmas.List.{take_all}
 use Rattle.mp_near.proofs.lemmas.reach.MarkLemmas.{grown_none, grown_more}
 use Rattle.mp_near.proofs.lemmas.reach.ReachLemmas.{AreMarkedIn, marked_more, reader_at, unheard}

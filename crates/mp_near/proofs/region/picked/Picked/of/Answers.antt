@@ -1,4 +1,4 @@
-use Rattle.std.proofs.Common.{◌≡◌, ℕ, Bool, List, length, sym, subst}
+use Rattle.std.proofs.Common.{ℕ, Bool, List, length, subst}
 use Rattle.mp_near.specs.region.Given.{AreGiven}
 use Rattle.mp_near.specs.reach.Numbers.{AreNumbered}
 use Rattle.mp_near.specs.declared.region.picked.Picked.{Picked}

@@ -1,4 +1,3 @@
-use Rattle.std.proofs.Common.{◌≡◌}
 use Rattle.mp_redo.specs.rerun.Reruns.{active_of}
 use Rattle.mp_redo.proofs.lemmas.rerun.EnteringLemmas.{window_work}
 use Rattle.mp_redo.proofs.rerun.rerun.Rerun.enter_window.Goals as goal
