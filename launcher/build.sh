@@ -28,12 +28,26 @@ tell_failure() {
     exit 70
 }
 
+# Says how many crates are proved side by side, if nobody has said it and memory is short: one a processor, and one for each 5 GB that are free. No proof
+# takes more, but rt reckons with 10 GB. Where that is there for each processor, rt chooses, and gives a crate that is alone several processors.
+choose_lanes() {
+    local free limit lanes
+    if [ -n "${RT_JOBS:-}" ]; then return; fi
+    free=$(sed -n 's/^MemAvailable: *\([0-9]*\) kB$/\1/p' /proc/meminfo)
+    limit=$(cat /sys/fs/cgroup/memory.max 2>/dev/null || true)
+    if [[ $limit =~ ^[0-9]+$ ]] && ((limit / 1024 < free)); then free=$((limit / 1024)); fi
+    lanes=$(nproc)
+    if ((free / 10000000 >= lanes)); then return; fi
+    if ((free / 5000000 < lanes)); then lanes=$((free / 5000000)); fi
+    export RT_JOBS=$((lanes > 1 ? lanes : 1))
+}
+
 build() {
     local now said=""
     begin_work
     copy_crates
     : >"$log"
-    (cd "$room/top" && exec setsid rt ci) </dev/null >"$log" 2>&1 &
+    (cd "$room/top" && choose_lanes && exec setsid rt ci) </dev/null >"$log" 2>&1 &
     gate=$!
     while kill -0 "$gate" 2>/dev/null; do
         now="$((${#crates[@]} - $(count_done))) of ${#crates[@]} crates left, proving $(name_checked)"
