@@ -8,11 +8,11 @@ mod fault;
 mod module_parts;
 mod module_places;
 mod nearest;
-mod place;
 mod showing;
 mod spans;
 mod text_lines;
 mod wires;
+mod word_place;
 mod word_places;
 
 pub use showing::fault_text;

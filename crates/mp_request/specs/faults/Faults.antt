@@ -8,7 +8,7 @@ use Rattle.mp_text.specs.declared.lexing.line_error.LineError.TheVariants.{Unkno
 use Rattle.mp_text.specs.declared.text_code.TextCode.{TextCode}
 use Rattle.mp_text.specs.declared.text_code.TextCode.TheVariants.{Line, Refused}
 use Rattle.mp_text.specs.declared.text_error.TextError.{TextError}
-use Rattle.mp_request.specs.declared.faults.place.Place.{Place}
+use Rattle.mp_request.specs.declared.faults.word_place.WordPlace.{WordPlace}
 use Rattle.mp_request.specs.faults.Places.{index}
 use Rattle.mp_request.specs.faults.TextLines.{line_numbered, text_before, is_blank, netlist_before}
 use Rattle.mp_request.specs.faults.Spans.{span_from, bad_span}
@@ -16,7 +16,7 @@ use Rattle.mp_request.specs.faults.WordPlaces.{begins_with, word_place}
 use Rattle.mp_request.specs.faults.EditPlaces.{edit_at, refusal_place}
 use Rattle.mp_request.specs.faults.Nearest.{nearest, wire_names, statement_words, kind_words, name_part}
 
-abbrev pub place_in : List ℕ → ℕ → Option Circuit → List ℕ → TextCode → Place
+abbrev pub place_in : List ℕ → ℕ → Option Circuit → List ℕ → TextCode → WordPlace
 place_in text number net line (Refused error) = refusal_place net (edit_at line) error
 place_in text number net line code = word_place (is_blank (text_before text number)) (words_of line) code
 

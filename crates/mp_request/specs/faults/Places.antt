@@ -3,8 +3,8 @@ use Rattle.std.specs.Prelude.{ℕ, ◌+◌, List, length, drop, min}
 use Rattle.std.specs.List.{before_first, after_first}
 use Rattle.std.specs.Str.{byte}
 use Rattle.mp_text.specs.Statements.{is_mark}
-use Rattle.mp_request.specs.declared.faults.place.Place.{Place}
-use Rattle.mp_request.specs.declared.faults.place.Place.TheVariants.{Word, Param, Input, Output}
+use Rattle.mp_request.specs.declared.faults.word_place.WordPlace.{WordPlace}
+use Rattle.mp_request.specs.declared.faults.word_place.WordPlace.TheVariants.{Word, Param, Input, Output}
 
 -- the words of a module's line behind its kind
 pub record ModuleParts : Type 0 where
@@ -25,12 +25,12 @@ module_parts words = record {
 }
 
 -- how many words stand before it, where a `:` and a `>` end the parameters and the inputs
-abbrev pub index_in : ModuleParts → Place → ℕ
+abbrev pub index_in : ModuleParts → WordPlace → ℕ
 index_in parts (Word place) = place
 index_in parts (Param place) = place + 3
 index_in parts (Input place) = place + (4 + length parts.params)
 index_in parts (Output place) = place + (5 + length parts.params) + length parts.inputs
 
 -- the same, and all the words of the line where it has no such word
-abbrev pub index : List (List ℕ) → Place → ℕ
+abbrev pub index : List (List ℕ) → WordPlace → ℕ
 index words place = min (length words) (index_in (module_parts words) place)

@@ -3,8 +3,8 @@ ghost use Rattle.std.specs.Prelude.{◌≡◌, ◌<◌, IfOk, length};
 ghost use Rattle.mp_request.specs.faults.EditPlaces.{wire_place, bundle_place, is_good, good_changes, stimulus_place, edit_place, edit_in, edit_at, refusal_place};
 
 use crate::faults::module_places::module_place;
-use crate::faults::place::Place;
 use crate::faults::wires::{stands, width_named};
+use crate::faults::word_place::WordPlace;
 use mp_modules::fits_width;
 use mp_netlist::{Changes, Edit, EditError, Name, Netlist, NewBundle, SingleEdit};
 use mp_text::{Line, LineError, read_line};
@@ -16,7 +16,7 @@ pub(crate) fn refusal_place(
     netlist: &Option<Netlist>,
     line: &[u8],
     error: EditError,
-) -> Result<Place, AllocError>
+) -> Result<WordPlace, AllocError>
     ensures { IfOk result (λ place. place ≡ refusal_place netlist.now (edit_at line.now) error) }
 {
     let edit = edit_at(alloc, line)?;
@@ -27,11 +27,15 @@ pub(crate) fn refusal_place(
 }
 
 /// The word at fault in the line of this edit, or its first word if there is no netlist or no edit.
-fn place_in_edit(netlist: &Option<Netlist>, edit: &Option<SingleEdit>, error: EditError) -> Place
+fn place_in_edit(
+    netlist: &Option<Netlist>,
+    edit: &Option<SingleEdit>,
+    error: EditError,
+) -> WordPlace
     ensures { result ≡ refusal_place netlist.now edit.now error }
 {
     let (Some(netlist), Some(edit)) = (netlist, edit) else {
-        return Place::Word(0);
+        return WordPlace::Word(0);
     };
     edit_place(netlist, edit, error)
 }
@@ -61,7 +65,7 @@ fn edit_in(line: Line) -> Option<SingleEdit>
 }
 
 /// The word at fault in the line of an edit that is refused.
-fn edit_place(netlist: &Netlist, edit: &SingleEdit, error: EditError) -> Place
+fn edit_place(netlist: &Netlist, edit: &SingleEdit, error: EditError) -> WordPlace
     ensures { result ≡ edit_place netlist.now edit.now error }
 {
     match edit {
@@ -69,47 +73,47 @@ fn edit_place(netlist: &Netlist, edit: &SingleEdit, error: EditError) -> Place
         SingleEdit::AddModule(new) => module_place(netlist, new.get(), error),
         SingleEdit::AddBundle(new) => bundle_place(netlist, new.get(), error),
         SingleEdit::SetStimulus { wire, changes } => stimulus_place(netlist, wire, changes, error),
-        _ => Place::Word(0),
+        _ => WordPlace::Word(0),
     }
 }
 
-fn wire_place(error: EditError) -> Place
+fn wire_place(error: EditError) -> WordPlace
     ensures { result ≡ wire_place error }
 {
     match error {
-        EditError::BadName | EditError::NameTaken => Place::Word(1),
-        EditError::BadWidth => Place::Word(2),
-        EditError::BadLevel => Place::Word(3),
-        _ => Place::Word(0),
+        EditError::BadName | EditError::NameTaken => WordPlace::Word(1),
+        EditError::BadWidth => WordPlace::Word(2),
+        EditError::BadLevel => WordPlace::Word(3),
+        _ => WordPlace::Word(0),
     }
 }
 
-fn bundle_place(netlist: &Netlist, new: &NewBundle, error: EditError) -> Place
+fn bundle_place(netlist: &Netlist, new: &NewBundle, error: EditError) -> WordPlace
     ensures { result ≡ bundle_place netlist.now new.now error }
 {
     match error {
-        EditError::BadName | EditError::NameTaken => Place::Word(1),
-        EditError::NoSuchWire if !stands(netlist, &new.request) => Place::Word(2),
-        EditError::NoSuchWire if !stands(netlist, &new.acknowledge) => Place::Word(3),
-        EditError::NoSuchWire => Place::Word(4),
-        EditError::WidthMismatch if width_named(netlist, &new.request) == 1 => Place::Word(3),
-        EditError::WidthMismatch => Place::Word(2),
-        EditError::BadParam => Place::Word(5),
-        _ => Place::Word(0),
+        EditError::BadName | EditError::NameTaken => WordPlace::Word(1),
+        EditError::NoSuchWire if !stands(netlist, &new.request) => WordPlace::Word(2),
+        EditError::NoSuchWire if !stands(netlist, &new.acknowledge) => WordPlace::Word(3),
+        EditError::NoSuchWire => WordPlace::Word(4),
+        EditError::WidthMismatch if width_named(netlist, &new.request) == 1 => WordPlace::Word(3),
+        EditError::WidthMismatch => WordPlace::Word(2),
+        EditError::BadParam => WordPlace::Word(5),
+        _ => WordPlace::Word(0),
     }
 }
 
-fn stimulus_place(netlist: &Netlist, wire: &Name, changes: &Changes, error: EditError) -> Place
+fn stimulus_place(netlist: &Netlist, wire: &Name, changes: &Changes, error: EditError) -> WordPlace
     ensures { result ≡ stimulus_place netlist.now wire.now changes.now error }
 {
     match error {
-        EditError::NoSuchWire | EditError::AlreadyDriven => Place::Word(1),
+        EditError::NoSuchWire | EditError::AlreadyDriven => WordPlace::Word(1),
         EditError::BadStimulus => {
             let width = u64::from(width_named(netlist, wire));
             let horizon = u64::from(netlist.horizon());
-            Place::Word(2 + good_changes(horizon, width, changes.as_slice()))
+            WordPlace::Word(2 + good_changes(horizon, width, changes.as_slice()))
         }
-        _ => Place::Word(0),
+        _ => WordPlace::Word(0),
     }
 }
 

@@ -7,9 +7,9 @@ ghost use Rattle.mp_request.specs.faults.TextLines.{line_numbered};
 
 use crate::faults::edit_places::refusal_place;
 use crate::faults::nearest;
-use crate::faults::place::Place;
 use crate::faults::spans::{bad_span, before_byte, span_of, statement_part};
 use crate::faults::text_lines::{is_blank, line_numbered, netlist_before, text_before};
+use crate::faults::word_place::WordPlace;
 use crate::faults::word_places::{begins_with, word_place};
 use mp_netlist::{EditError, Name, Netlist};
 use mp_text::{LineError, TextCode, TextError, is_plain, words};
@@ -87,7 +87,7 @@ fn place_in(
     error: TextError,
     netlist: &Option<Netlist>,
     words: &[&[u8]],
-) -> Result<Place, AllocError>
+) -> Result<WordPlace, AllocError>
     requires words { texts words.now ≡ words_of (line_numbered text.now error.line) }
     requires ascii { AreAscii words.now }
     ensures { IfOk result (λ place. place ≡ place_in text.now error.line netlist.now (line_numbered text.now error.line) error.code) }

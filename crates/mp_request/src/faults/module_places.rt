@@ -9,17 +9,17 @@ ghost use Rattle.mp_records.specs.declared.port_names.OutputName.{OutputName};
 ghost use Rattle.mp_request.specs.faults.EditPlaces.{module_place, uncounted_port, missing_port, misfit_input, misfit_output, misfit_port, bad_param, bad_delay, is_taken, taken_output};
 ghost use Rattle.mp_request.specs.faults.WordPlaces.{port_place};
 
-use crate::faults::place::Place;
 use crate::faults::wires::{is_undriven, output_fits, output_stands, stands, width_named};
+use crate::faults::word_place::WordPlace;
 use mp_modules::{Kind, fits_width};
 use mp_netlist::{EditError, InputName, MAX_DELAY, Name, Netlist, NewModule, OutputName};
 
 /// The word at fault in a line whose module is refused with this error.
-pub(crate) fn module_place(netlist: &Netlist, new: &NewModule, error: EditError) -> Place
+pub(crate) fn module_place(netlist: &Netlist, new: &NewModule, error: EditError) -> WordPlace
     ensures { result ≡ module_place netlist.now new.now error }
 {
     match error {
-        EditError::BadName | EditError::NameTaken => Place::Word(1),
+        EditError::BadName | EditError::NameTaken => WordPlace::Word(1),
         EditError::WrongPorts => uncounted_port(new),
         EditError::NoSuchWire => missing_port(netlist, new),
         EditError::WidthMismatch => misfit_port(netlist, new),
@@ -28,34 +28,37 @@ pub(crate) fn module_place(netlist: &Netlist, new: &NewModule, error: EditError)
             bad_param(new.kind, width, new.params.as_slice())
         }
         EditError::BadDelay => bad_delay(new),
-        EditError::AlreadyDriven => Place::Output(taken_output(netlist, new.outputs.as_slice())),
-        _ => Place::Word(0),
+        EditError::AlreadyDriven => WordPlace::Output(taken_output(
+            netlist,
+            new.outputs.as_slice(),
+        )),
+        _ => WordPlace::Word(0),
     }
 }
 
 /// The place of the input at index `input` if there is one, and otherwise of the output at index `output`.
-pub(crate) fn port_place(inputs: usize, input: usize, output: usize) -> Place
+pub(crate) fn port_place(inputs: usize, input: usize, output: usize) -> WordPlace
     ensures { result ≡ port_place inputs input output }
 {
     if input < inputs {
-        return Place::Input(input);
+        return WordPlace::Input(input);
     }
-    Place::Output(output)
+    WordPlace::Output(output)
 }
 
 /// The first input too many, or the end of the inputs if one is missing; otherwise the same of the outputs.
-fn uncounted_port(new: &NewModule) -> Place
+fn uncounted_port(new: &NewModule) -> WordPlace
     ensures { result ≡ uncounted_port new.now }
 {
     let (inputs, outputs) = (new.inputs.as_slice().len(), new.outputs.as_slice().len());
     if inputs == new.kind.inputs() {
-        return Place::Output(outputs.min(new.kind.outputs()));
+        return WordPlace::Output(outputs.min(new.kind.outputs()));
     }
-    Place::Input(inputs.min(new.kind.inputs()))
+    WordPlace::Input(inputs.min(new.kind.inputs()))
 }
 
 /// The first port whose wire doesn't exist.
-fn missing_port(netlist: &Netlist, new: &NewModule) -> Place
+fn missing_port(netlist: &Netlist, new: &NewModule) -> WordPlace
     ensures { result ≡ missing_port netlist.now new.now }
 {
     let inputs = new.inputs.as_slice();
@@ -89,7 +92,7 @@ fn missing_output(netlist: &Netlist, outputs: &[OutputName]) -> usize
 }
 
 /// The first port whose wire has another width than the port.
-fn misfit_port(netlist: &Netlist, new: &NewModule) -> Place
+fn misfit_port(netlist: &Netlist, new: &NewModule) -> WordPlace
     ensures { result ≡ misfit_port netlist.now new.now }
 {
     let inputs = new.inputs.as_slice();
@@ -137,10 +140,10 @@ fn new_width(netlist: &Netlist, kind: Kind, inputs: &[InputName]) -> u32
 }
 
 /// The first parameter out of its range or too many, or the end of the parameters if one is missing.
-fn bad_param(kind: Kind, width: u32, params: &[u64]) -> Place
+fn bad_param(kind: Kind, width: u32, params: &[u64]) -> WordPlace
     ensures { result ≡ bad_param kind width params.now }
 {
-    Place::Param(unfit_param(kind, width, params).min(kind.params()))
+    WordPlace::Param(unfit_param(kind, width, params).min(kind.params()))
 }
 
 fn unfit_param(kind: Kind, width: u32, params: &[u64]) -> usize
@@ -168,7 +171,7 @@ fn is_in_range(kind: Kind, width: u32, param: u64) -> bool
 }
 
 /// The first port with a delay out of range.
-fn bad_delay(new: &NewModule) -> Place
+fn bad_delay(new: &NewModule) -> WordPlace
     ensures { result ≡ bad_delay new.now }
 {
     let inputs = new.inputs.as_slice();

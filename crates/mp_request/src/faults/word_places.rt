@@ -6,7 +6,7 @@ ghost use Rattle.mp_request.specs.faults.WordPlaces.{begins_with, first_unread, 
 
 use crate::faults::module_parts::{ModuleParts, behind, module_parts};
 use crate::faults::module_places::port_place;
-use crate::faults::place::Place;
+use crate::faults::word_place::WordPlace;
 use mp_records::{InputName, OutputName};
 use mp_text::{LineError, TextCode, Worded};
 use std::alloc::{AllocError, Global};
@@ -17,19 +17,19 @@ pub(crate) fn word_place(
     is_first: bool,
     words: &[&[u8]],
     code: TextCode,
-) -> Result<Place, AllocError>
+) -> Result<WordPlace, AllocError>
     requires { AreAscii words.now }
     ensures { IfOk result (λ place. place ≡ word_place is_first (texts words.now) code) }
 {
     match code {
         TextCode::Line(LineError::UnknownStatement) if begins_with(words, b"module") => {
-            Ok(Place::Word(2))
+            Ok(WordPlace::Word(2))
         }
         TextCode::Line(LineError::WordCount) => Ok(count_place(words)),
         TextCode::Line(LineError::BadNumber) => number_place(alloc, words),
-        TextCode::BadFormat if is_first => Ok(Place::Word(1)),
-        TextCode::NoHorizon if begins_with(words, b"format") => Ok(Place::Word(words.len())),
-        _ => Ok(Place::Word(0)),
+        TextCode::BadFormat if is_first => Ok(WordPlace::Word(1)),
+        TextCode::NoHorizon if begins_with(words, b"format") => Ok(WordPlace::Word(words.len())),
+        _ => Ok(WordPlace::Word(0)),
     }
 }
 
@@ -45,7 +45,7 @@ pub(crate) fn begins_with(words: &[&[u8]], word: &[u8]) -> bool
 }
 
 /// The first word too many, or the end of the line.
-fn count_place(words: &[&[u8]]) -> Place
+fn count_place(words: &[&[u8]]) -> WordPlace
     requires { AreAscii words.now }
     ensures { result ≡ count_place (texts words.now) }
 {
@@ -53,29 +53,29 @@ fn count_place(words: &[&[u8]]) -> Place
         return lack_place(module_parts(words));
     }
     if begins_with(words, b"wire") {
-        return Place::Word(4);
+        return WordPlace::Word(4);
     }
     if begins_with(words, b"bundle") {
-        return Place::Word(6);
+        return WordPlace::Word(6);
     }
     if begins_with(words, b"stim") {
-        return Place::Word(words.len());
+        return WordPlace::Word(words.len());
     }
-    Place::Word(2)
+    WordPlace::Word(2)
 }
 
 /// The place of the first input if there is no input, and otherwise that of the first output.
-fn lack_place(parts: ModuleParts<'_, '_>) -> Place
+fn lack_place(parts: ModuleParts<'_, '_>) -> WordPlace
     ensures { result ≡ lack_place (record { params = texts parts.entry.params.now; inputs = texts parts.entry.inputs.now; outputs = texts parts.entry.outputs.now }) }
 {
     if parts.inputs.is_empty() {
-        return Place::Input(0);
+        return WordPlace::Input(0);
     }
-    Place::Output(0)
+    WordPlace::Output(0)
 }
 
 /// The first word that should be a number, or a pair with a number, and isn't.
-fn number_place(alloc: Global, words: &[&[u8]]) -> Result<Place, AllocError>
+fn number_place(alloc: Global, words: &[&[u8]]) -> Result<WordPlace, AllocError>
     requires { AreAscii words.now }
     ensures { IfOk result (λ place. place ≡ number_place (texts words.now)) }
 {
@@ -89,29 +89,29 @@ fn number_place(alloc: Global, words: &[&[u8]]) -> Result<Place, AllocError>
         return unread_behind_name::<(u64, u64)>(alloc, behind(words, 2));
     }
     if begins_with(words, b"bundle") {
-        return Ok(Place::Word(5));
+        return Ok(WordPlace::Word(5));
     }
-    Ok(Place::Word(1))
+    Ok(WordPlace::Word(1))
 }
 
 /// The first of the words after a statement and a name that can't be read as a `W`.
-fn unread_behind_name<W: Worded>(alloc: Global, words: &[&[u8]]) -> Result<Place, AllocError>
+fn unread_behind_name<W: Worded>(alloc: Global, words: &[&[u8]]) -> Result<WordPlace, AllocError>
     requires { All (λ word. W.may_read word.now) words.now }
-    ensures { IfOk result (λ place. place ≡ Place.Word (2 + first_unread W.read (texts words.now))) }
+    ensures { IfOk result (λ place. place ≡ WordPlace.Word (2 + first_unread W.read (texts words.now))) }
 {
     let read = first_unread::<W>(alloc, words)?;
-    Ok(Place::Word(2 + read))
+    Ok(WordPlace::Word(2 + read))
 }
 
 /// The first parameter or port of a module that can't be read.
-fn unread_part(alloc: Global, parts: ModuleParts<'_, '_>) -> Result<Place, AllocError>
+fn unread_part(alloc: Global, parts: ModuleParts<'_, '_>) -> Result<WordPlace, AllocError>
     requires inputs { AreAscii parts.inputs.now }
     requires outputs { AreAscii parts.outputs.now }
     ensures { IfOk result (λ place. place ≡ unread_part (record { params = texts parts.entry.params.now; inputs = texts parts.entry.inputs.now; outputs = texts parts.entry.outputs.now })) }
 {
     let param = first_unread::<u64>(alloc, parts.params)?;
     if param < parts.params.len() {
-        return Ok(Place::Param(param));
+        return Ok(WordPlace::Param(param));
     }
     let input = first_unread::<InputName>(alloc, parts.inputs)?;
     let output = first_unread::<OutputName>(alloc, parts.outputs)?;

@@ -22,7 +22,7 @@ struct Reach<'a>(&'a str, u32);
 
 /// A netlist's statements, the number of its modules, and its horizon.
 #[derive(Clone, Copy)]
-struct Plan<'a>(&'a str, u32, u32);
+struct TestNetlist<'a>(&'a str, u32, u32);
 
 /// So many modules work, and pass the gate for just the work's entries.
 fn assert_passed<R: Abort + Threads + Wait + Sync>(
@@ -62,11 +62,11 @@ fn assert_each<R: Abort + Threads + Wait + Sync>(
 fn assert_exact(
     rt: &(impl Abort + Threads + Wait + Sync),
     alloc: Global,
-    plan: Plan<'_>,
+    tried: TestNetlist<'_>,
     crew: &Crew,
     reaches: &[Reach<'_>],
 ) -> Result<(), Fail> {
-    let Plan(statements, modules, horizon) = plan;
+    let TestNetlist(statements, modules, horizon) = tried;
     let counts = counts(alloc, modules, horizon)?;
     let counter = PassageCounter::new(horizon, counts.as_slice());
     let old = netlist(alloc, horizon, statements)?;
@@ -83,24 +83,24 @@ fn assert_exact(
 #[test]
 fn one_thread_passes_each_entry(rt: HostRuntime) -> Result<(), Fail> {
     let reaches = [Reach(ONE, 1), Reach(HALF, 2), Reach(MOST, 4)];
-    let plan = Plan(BRANCHES, MODULES, 8);
-    assert_exact(&rt, rt.alloc(), plan, &Crew::new(1, 64)?, &reaches)
+    let tried = TestNetlist(BRANCHES, MODULES, 8);
+    assert_exact(&rt, rt.alloc(), tried, &Crew::new(1, 64)?, &reaches)
 }
 
 /// Two modules begin to work in the same unit, and the workers of the crew answer for them: the netlist ends too soon for parts to be worth it.
 #[test]
 fn workers_pass_each_entry(rt: HostRuntime) -> Result<(), Fail> {
     let reaches = [Reach(ONE, 1), Reach(SOON, 2), Reach(MOST, 4)];
-    let plan = Plan(BRANCHES, MODULES, 4);
-    assert_exact(&rt, rt.alloc(), plan, &Crew::new(2, 2)?, &reaches)
+    let tried = TestNetlist(BRANCHES, MODULES, 4);
+    assert_exact(&rt, rt.alloc(), tried, &Crew::new(2, 2)?, &reaches)
 }
 
 /// If two modules are reached at once, each of two parts is evaluated again on a thread of its own.
 #[test]
 fn parts_pass_each_entry(rt: HostRuntime) -> Result<(), Fail> {
     let reaches = [Reach(ONE, 1), Reach(HALF, 2), Reach(MOST, 4)];
-    let plan = Plan(BRANCHES, MODULES, 8);
-    assert_exact(&rt, rt.alloc(), plan, &Crew::new(2, 2)?, &reaches)
+    let tried = TestNetlist(BRANCHES, MODULES, 8);
+    assert_exact(&rt, rt.alloc(), tried, &Crew::new(2, 2)?, &reaches)
 }
 
 /// A buffer that hears nothing.
@@ -113,6 +113,6 @@ module b BUF : a > y/3
 #[test]
 fn module_that_joins_twice_passes_each_entry(rt: HostRuntime) -> Result<(), Fail> {
     let reaches = [Reach("stim a 100=1 200=0 1050=1", 1)];
-    let plan = Plan(BUFFER, 1, 1100);
-    assert_exact(&rt, rt.alloc(), plan, &Crew::new(1, 64)?, &reaches)
+    let tried = TestNetlist(BUFFER, 1, 1100);
+    assert_exact(&rt, rt.alloc(), tried, &Crew::new(1, 64)?, &reaches)
 }

@@ -7,7 +7,7 @@ use crate::faults::module_parts::{ModuleParts, module_parts};
 
 /// The place of a word. The place after the last parameter, input or output is the mark that ends them, or the end of the line.
 #[derive(Clone, Copy)]
-pub(crate) enum Place {
+pub(crate) enum WordPlace {
     /// The word at this index.
     Word(usize),
     /// The parameter of a module at this index.
@@ -18,7 +18,7 @@ pub(crate) enum Place {
     Output(usize),
 }
 
-impl Place {
+impl WordPlace {
     /// The index of the word in the line; the number of words if the line has no such word.
     pub(crate) fn index(self, words: &[&[u8]]) -> usize
         requires { AreAscii words.now }
@@ -33,10 +33,10 @@ impl Place {
             (index_in (record { params = texts parts.entry.params.now; inputs = texts parts.entry.inputs.now; outputs = texts parts.entry.outputs.now }) self) }
     {
         match self {
-            Place::Word(place) => place,
-            Place::Param(place) => place.saturating_add(3),
-            Place::Input(place) => place.saturating_add(4 + parts.params.len()),
-            Place::Output(place) => place
+            WordPlace::Word(place) => place,
+            WordPlace::Param(place) => place.saturating_add(3),
+            WordPlace::Input(place) => place.saturating_add(4 + parts.params.len()),
+            WordPlace::Output(place) => place
                 .saturating_add(5 + parts.params.len())
                 .saturating_add(parts.inputs.len()),
         }
