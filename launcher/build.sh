@@ -16,7 +16,7 @@ copy_crates() {
 # the crates that are done, of those that the program needs
 count_done() { grep -cE '^rt: [a-z_]+ (proved|is kept)' "$log" || true; }
 
-# what the checks that run are of
+# the crates whose checks run now
 name_checked() { ps -s "$gate" -o args= 2>/dev/null | sed -n 's/.*rattle .*--crate-name \([^ ]*\).*/\1/p' | sort -u | tr '\n' ' '; }
 
 time_taken() { echo "$((SECONDS / 60)) min $((SECONDS % 60)) s"; }
@@ -28,8 +28,8 @@ tell_failure() {
     exit 70
 }
 
-# Says how many crates are proved side by side, if nobody has said it and memory is short: one a processor, and one for each 5 GB that are free. No proof
-# takes more, but rt reckons with 10 GB. Where that is there for each processor, rt chooses, and gives a crate that is alone several processors.
+# Says how many crates are proved side by side, if nobody has said it and memory is short: at most one for each processor, and at most one for each
+# 5 GB that are free. No proof takes more, but rt reckons with 10 GB. If that is there for each processor, rt chooses.
 choose_lanes() {
     local free limit lanes
     if [ -n "${RT_JOBS:-}" ]; then return; fi
