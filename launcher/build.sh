@@ -1,7 +1,7 @@
 # shellcheck shell=bash
 # ./mpwb build. The crates that the program needs are proved by `rt ci` in a copy that has them alone, without their must-fail edits: as many side
-# by side as there are processors and memory, those first on which the longest chain of crates stands. Where rt keeps what it has proved for
-# later calls, here and in other copies of the repository, a build goes on where an earlier one was ended.
+# by side as there are processors and memory, those first on which the longest chain of crates stands (lanes.py). An rt that keeps what it has proved
+# for later calls, as that of rattle-kit-13f, goes on where an earlier build was ended; that of rattle-kit-13b begins anew.
 
 log=$folder/build.log
 
@@ -28,18 +28,13 @@ tell_failure() {
     exit 70
 }
 
-# Says how many crates are proved side by side, if nobody has said it and memory is short: at most one for each processor, and at most one for each
-# 5 GB that are free. No proof takes more, but rt reckons with 10 GB. If that is there for each processor, rt chooses.
-choose_lanes() {
-    local free limit lanes
-    if [ -n "${RT_JOBS:-}" ]; then return; fi
-    free=$(sed -n 's/^MemAvailable: *\([0-9]*\) kB$/\1/p' /proc/meminfo)
-    limit=$(cat /sys/fs/cgroup/memory.max 2>/dev/null || true)
-    if [[ $limit =~ ^[0-9]+$ ]] && ((limit / 1024 < free)); then free=$((limit / 1024)); fi
-    lanes=$(nproc)
-    if ((free / 10000000 >= lanes)); then return; fi
-    if ((free / 5000000 < lanes)); then lanes=$((free / 5000000)); fi
-    export RT_JOBS=$((lanes > 1 ? lanes : 1))
+# rt ci, by lanes.py if nobody has said how many crates are proved side by side
+prove() {
+    if [ -z "${RT_JOBS:-}" ] && command -v python3 >/dev/null; then
+        exec setsid python3 -B "$top/launcher/lanes.py" "$(type -P rt)"
+    else
+        exec setsid rt ci
+    fi
 }
 
 build() {
@@ -47,7 +42,7 @@ build() {
     begin_work
     copy_crates
     : >"$log"
-    (cd "$room/top" && choose_lanes && exec setsid rt ci) </dev/null >"$log" 2>&1 &
+    (cd "$room/top" && prove) </dev/null >"$log" 2>&1 &
     gate=$!
     while kill -0 "$gate" 2>/dev/null; do
         now="$((${#crates[@]} - $(count_done))) of ${#crates[@]} crates left, proving $(name_checked)"

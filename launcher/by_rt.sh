@@ -44,7 +44,7 @@ run_by_rt() {
         echo "mpwb: read failed" >&2
         exit 3
     fi
-    try_words --seconds "$seconds_of_a_run" -- "${words[@]}" || status=$?
+    try_words rt --seconds "$seconds_of_a_run" -- "${words[@]}" || status=$?
     tell_rt_run
     exit "$status"
 }

@@ -1,6 +1,7 @@
 # shellcheck shell=bash
-# The program that is checked at run time. `rt try` makes it in a folder of TMPDIR, runs it and removes it. So rt is told to run it on a named pipe:
-# there it waits until it is taken from its folder.
+# The program that is checked at run time. `rt try` makes it: by a folder of links to the kit, in which it is optimised and put where it is wanted
+# (kit.sh). If that folder is of no use, with another kit, `rt try` makes it in a folder of TMPDIR, runs it and removes it. So rt is told to run it on a
+# named pipe: there it waits until it is taken from its folder.
 
 status_of_check=70 # that of a run in which a check fails
 
@@ -21,15 +22,20 @@ find_program() {
     [ -n "$found" ] && { ln "$found" "$room/program" || cp "$found" "$room/program"; } 2>/dev/null
 }
 
-# runs rt try with these words, on what `in` of the room has
+# runs `try` of this rt with these words, on what `in` of the room has
 try_words() {
     local status=0
-    (cd "$top/crates/mpwb" && exec setsid rt try "$@") <"$room/in" >"$room/out" 2>"$room/log" &
+    (cd "$top/crates/mpwb" && exec setsid "$1" try "${@:2}") <"$room/in" >"$room/out" 2>"$room/log" &
     gate=$!
     wait "$gate" || status=$?
     gate=""
     return "$status"
 }
+
+try_program() { TMPDIR=$room/tmp try_words "$1" -- waves "$room/netlist" || true; }
+
+# whether rt has run the program all the same, or refused a source at a line of it
+has_answer() { [ -e "$room/log" ] && { ended_by_rt || grep -qE '^[^ :]+:[0-9]+:[0-9]+: ' "$room/log"; }; }
 
 make_checked() {
     begin_work
@@ -39,7 +45,8 @@ make_checked() {
     : >"$room/in"
     take_program &
     taker=$!
-    TMPDIR=$room/tmp try_words -- waves "$room/netlist" || true
+    if link_kit; then try_program "$room/kit/bin/rt"; fi
+    if ! [ -x "$room/program" ] && ! has_answer; then try_program rt; fi
     end_process "$taker"
     taker=""
     # (where it can't be kept, it serves this run alone)

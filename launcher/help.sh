@@ -22,7 +22,8 @@ Usage: ./mpwb build
 
 Proves every part of the program and builds it. This takes about an hour on four
 processors, once; from then on an answer takes milliseconds. It shows how far it
-is. You can stop it, and call it again to go on: the kit keeps what is proved. If
+is. Meanwhile ./mpwb answers by the program without proofs. If you stop it, the
+next call begins anew, except with rattle-kit-13f, which keeps what is proved. If
 the program is built and no source is newer, it does nothing.
 
 Exit status:

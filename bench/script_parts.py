@@ -1,0 +1,116 @@
+"""A module of LLVM that the stand-in for the kit's compiler has, and what has to hold of the parts into which the script divides it."""
+import os
+import re
+
+from seat_checks import expect
+
+# the text of a module: what `main` reaches and what it doesn't, functions of one line and one of many
+MANY = "\n".join(f"  store i8 {at}, ptr %a0" for at in range(99))
+MODULE = f"""; ModuleID = 'module.bc'
+source_filename = "rattle"
+target triple = "x86_64-unknown-linux-gnu"
+
+@static.0 = private global [1 x i8] zeroinitializer, align 1
+@static.1 = private unnamed_addr constant [9 x i8] c"@isolated", align 1
+@static.2 = private constant <{{ ptr, ptr }}> <{{ ptr @"a::by_table", ptr @static.1 }}>, align 8
+@static.3 = private constant [1 x i8] c"3", align 1
+
+; Function Attrs: nounwind
+declare i32 @isatty(i32) #1
+
+define internal void @"a::long<\\22q\\22>"(ptr %a0) #0 {{
+start:
+  call void @llvm.memset.p0.i64(ptr %a0, i8 -86, i64 8, i1 false)
+  call void @"checks::Value"(i8 1)
+{MANY}
+  ret void
+}}
+
+declare void @llvm.memset.p0.i64(ptr, i8, i64, i1) #2
+
+define internal void @"a::by_table"() #0 {{
+start:
+  call i32 @isatty(i32 0)
+  ret void
+}}
+
+define internal void @isolated() #0 {{
+start:
+  call void @"a::by_table"()
+  store i8 0, ptr @static.3
+  ret void
+}}
+
+define i32 @main(i32 %a0, ptr %a1) #0 {{
+start:
+  call void @"a::long<\\22q\\22>"(ptr @static.0)
+  call void @"a::short"(ptr @static.2)
+{MANY}
+  ret i32 0
+}}
+
+define internal void @"a::short"(ptr %a0) #0 {{
+start:
+  call void @"a::long<\\22q\\22>"(ptr %a0)
+  ret void
+}}
+
+define internal void @"checks::Value"(i8 %a0) #3 {{
+start:
+  call void @llvm.trap()
+  unreachable
+}}
+
+declare void @llvm.trap() #1
+
+attributes #0 = {{ nounwind sanitize_address "frame-pointer"="all" "probe-stack"="inline-asm" }}
+attributes #1 = {{ nounwind }}
+attributes #2 = {{ nocallback }}
+attributes #3 = {{ sanitize_address "frame-pointer"="all" }}
+
+!0 = !{{}}
+"""
+LONG, SHORT, TABLE, CHECK = '"a::long<\\22q\\22>"', '"a::short"', '"a::by_table"', '"checks::Value"'
+REACHED = {"main", LONG, SHORT, TABLE, CHECK, "static.0", "static.1", "static.2"}
+NAME = re.compile(r'@("[^"]*"|[-\w.$]+)')
+KINDS = {"define available_externally hidden": "given", "define hidden": "own", "define i32 @main": "own", "declare ": "declared"}
+
+
+def kind_of(line):
+    """Whether a line defines, gives or declares something; nothing of another line."""
+    if line.startswith("@"):
+        return "given" if " = available_externally hidden " in line else "own" if " = hidden " in line else "unknown"
+    if line.startswith(("define ", "declare ")):
+        return next((kind for begin, kind in KINDS.items() if line.startswith(begin)), "unknown")
+    return None
+
+
+def names_of(text):
+    """The names of a part by kind, and all that it names outside strings."""
+    kinds = {"own": [], "given": [], "declared": [], "unknown": []}
+    for line in text.splitlines():
+        if kind_of(line):
+            kinds[kind_of(line)].append(NAME.search(line)[1])
+    return kinds, set(NAME.findall(re.sub(r'c"[^"]*"', "", text)))
+
+
+def expect_parts(folder, count):
+    """Each of at most so many parts defines its own, has or declares all else that it names, and nothing twice; together they define what is reached."""
+    texts = []
+    for name in sorted(os.listdir(folder)):
+        with open(f"{folder}/{name}", encoding="utf-8") as file:
+            texts.append(file.read())
+    own, given = [], []
+    for text in texts:
+        kinds, named = names_of(text)
+        known = [name for names in kinds.values() for name in names]
+        expect("lines of no kind, and what is there twice", ([], len(known)), (kinds["unknown"], len(set(known))))
+        expect("what a part names and hasn't", set(), named - set(known))
+        expect("what a part has and nothing names", {"main"} & set(kinds["own"]), set(kinds["declared"] + kinds["given"]) - named | {"main"} & set(known))
+        own += kinds["own"]
+        given += kinds["given"]
+    expect("what the parts define", sorted(REACHED), sorted(own))
+    expect("how many parts", True, 1 < len(texts) <= count)
+    expect("what comes with a body where it isn't defined", set(), {LONG, "main"} & set(given))
+    whole = "\n".join(texts)
+    expect("fills, checks and attributes", (0, True, 0, True), (whole.count("i8 -86"), "call void @llvm.trap()" in whole, whole.count("sanitize"), '"probe-stack"' in whole))
