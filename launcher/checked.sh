@@ -56,6 +56,7 @@ make_checked() {
 # sets up what the checked program runs in
 set_up_checked() {
     tell_checked
+    if ! checks_addresses "$chosen"; then set_up_built; fi
     export ASAN_OPTIONS="abort_on_error=0:exitcode=$status_of_check:allocator_may_return_null=1"
 }
 

@@ -7,7 +7,7 @@ operands_of() {
     explain) echo words ;;
     help) echo commands ;;
     ask | install | join | watch) echo folders ;;
-    build) echo none ;;
+    build | test) echo none ;;
     *) echo files ;;
     esac
 }

@@ -4,12 +4,13 @@
 tell_words() {
     cat <<'EOF'
 
-The script ./mpwb has six more commands, which `./mpwb COMMAND --help` describes:
+The script ./mpwb has seven more commands, which `./mpwb COMMAND --help` describes:
   ask      Sends a line to a seat of a live desk and shows the answer
   build    Proves and builds the program
   install  Installs the program with a man page and completions for shells
   join     Takes a seat of a live desk
   page     Writes a page for a browser that shows the waveforms
+  test     Tests the program, in a minute or two
   watch    Shows the netlist of a live desk, again after each edit
 EOF
 }
@@ -30,6 +31,25 @@ Exit status:
   0   the program is built
   2   the command line was refused
   70  the program was not built
+EOF
+}
+
+tell_test() {
+    cat <<'EOF'
+Tests the program, in a minute or two.
+
+Usage: ./mpwb test
+
+Runs all examples and stored runs, compares the documents with what the program
+writes, and tests the Python package and this script. It tests the proved program
+if that is built, and else the one without proofs. What fails is shown, and the
+last line is `N passed, M failed`. The whole test, with all proofs, is .ci/run.
+
+Exit status:
+  0   all passed
+  1   something failed
+  2   the command line was refused
+  70  there is no program
 EOF
 }
 
