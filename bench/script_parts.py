@@ -106,11 +106,11 @@ def expect_parts(folder, count):
         known = [name for names in kinds.values() for name in names]
         expect("lines of no kind, and what is there twice", ([], len(known)), (kinds["unknown"], len(set(known))))
         expect("what a part names and hasn't", set(), named - set(known))
-        expect("what a part has and nothing names", {"main"} & set(kinds["own"]), set(kinds["declared"] + kinds["given"]) - named | {"main"} & set(known))
         own += kinds["own"]
         given += kinds["given"]
     expect("what the parts define", sorted(REACHED), sorted(own))
-    expect("how many parts", True, 1 < len(texts) <= count)
-    expect("what comes with a body where it isn't defined", set(), {LONG, "main"} & set(given))
-    whole = "\n".join(texts)
-    expect("fills, checks and attributes", (0, True, 0, True), (whole.count("i8 -86"), "call void @llvm.trap()" in whole, whole.count("sanitize"), '"probe-stack"' in whole))
+    expect("how many parts", True, min(2, count) <= len(texts) <= count)
+    expect("what comes with a body where it isn't defined", {SHORT, CHECK} if count > 1 else set(), {SHORT, CHECK, LONG, "main"} & set(given))
+    for text in texts:
+        expect("fills and attributes", (0, 0, True), (text.count("i8 -86"), text.count("sanitize"), '"probe-stack"' in text))
+    expect("checks", True, all('call void @"checks::Value"(i8 1)' in text for text in texts if f"define hidden void @{LONG}" in text))
