@@ -38,7 +38,7 @@ def flags_in(words: List[str]) -> List[str]:
     left = iter(words)
     for word in left:
         if word in ("-o", "-x"):
-            next(left)
+            next(left, None)
         elif word not in UNWANTED and not word.endswith(".bc"):
             kept.append(word)
     return [*kept, *WANTED]
