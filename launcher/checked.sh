@@ -1,7 +1,7 @@
 # shellcheck shell=bash
 # The program that is checked at run time. `rt try` makes it: by a folder of links to the kit, in which it is optimised and put where it is wanted
-# (kit.sh). If that folder is of no use, with another kit, `rt try` makes it in a folder of TMPDIR, runs it and removes it. So rt is told to run it on a
-# named pipe: there it waits until it is taken from its folder.
+# (kit.sh). If that folder is of no use, with another kit, `rt try` makes it in a folder of TMPDIR, runs it and removes it. So rt is told to run it on
+# a named pipe: there it waits until it is taken from its folder.
 
 status_of_check=70 # that of a run in which a check fails
 
@@ -35,7 +35,7 @@ try_words() {
 try_program() { TMPDIR=$room/tmp try_words "$1" -- waves "$room/netlist" || true; }
 
 # whether rt has run the program all the same, or refused a source at a line of it
-has_answer() { [ -e "$room/log" ] && { ended_by_rt || grep -qE '^[^ :]+:[0-9]+:[0-9]+: ' "$room/log"; }; }
+has_answer() { [ -e "$room/log" ] && { ended_by_rt || grep -qE '^[^ :]+:[0-9]+:[0-9]+: error' "$room/log"; }; }
 
 make_checked() {
     begin_work
