@@ -53,7 +53,7 @@ def expect_lanes():
     nice = {key[0]: had[1] for key, had in ample.had.items() if key[1] == "proof"}
     expect("who is served first", (mine, True), (nice["low"], min(mine + 1, 19) <= nice["middle"] < nice["top"] < nice["aside"] < nice["last"] <= 19 or mine > 0))
     expect("how many ran at once", True, 2 <= ample.most <= 4)
-    for memory in (1.1e9, 0.5e9):
+    for memory in (1e9, 0.5e9):
         short = Done(memory)
         expect(f"with {memory} bytes", (1, {1}), (short.most, {had[0] for had in short.had.values()}))
     expect_raised()

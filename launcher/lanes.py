@@ -23,7 +23,7 @@ Given = Dict[Key, Any]  # what the tasks that have ended gave
 # what a task waits for, its lines, the bytes of memory that rt thinks it takes, and the call that does it by so many jobs
 Task = Tuple[List[Key], int, float, Callable[[Given, int], Any]]
 
-TAKEN = 0.5  # the part of the memory that rt thinks of which a check by one job takes
+TAKEN = 0.45  # the part of the memory that rt thinks of which a check by one job takes
 TAKEN_MORE = 0.4  # what each further job takes, as a part of what the first one does
 USED = 0.85  # the part of the free memory that is used
 MOST_JOBS = 8  # more seldom help
