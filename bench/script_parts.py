@@ -95,7 +95,7 @@ def names_of(text):
 
 
 def expect_parts(folder, count):
-    """Each of at most so many parts defines its own, has or declares all else that it names, and nothing twice; together they define what is reached."""
+    """Each of at most so many parts defines its own, and has or declares all else that it names, once; together they define what is reached."""
     texts = []
     for name in sorted(os.listdir(folder)):
         with open(f"{folder}/{name}", encoding="utf-8") as file:

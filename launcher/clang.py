@@ -46,8 +46,8 @@ def flags_in(words: List[str]) -> List[str]:
 
 def text_of(clang: str, module: str) -> str:
     """The text of a module. (Its bytes are kept as they are.)"""
-    words = [clang, f"--target={TARGET}", "--no-default-config", "-S", "-emit-llvm", "-O0", "-Xclang", "-disable-llvm-passes", "-x", "ir", module, "-o", "-"]
-    ran = subprocess.run(words, stdout=subprocess.PIPE, check=True)
+    words = [clang, f"--target={TARGET}", "--no-default-config", "-O0", "-Xclang", "-disable-llvm-passes", "-S", "-emit-llvm"]
+    ran = subprocess.run([*words, "-x", "ir", module, "-o", "-"], stdout=subprocess.PIPE, check=True)
     return ran.stdout.decode("latin-1")
 
 

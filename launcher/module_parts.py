@@ -23,7 +23,7 @@ _SANITIZED = re.compile(r'sanitize_address ?|"frame-pointer"="all" ?')
 
 @dataclass
 class Module:
-    """A module by its names: the line of each variable and of each declaration, the text of each function from its linkage on, and what stands around."""
+    """A module by names: the line of each variable and each declaration, the text of each function from its linkage on, and what stands around them."""
 
     head: List[str] = field(default_factory=list)
     lines: Dict[str, str] = field(default_factory=dict)
