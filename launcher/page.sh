@@ -12,7 +12,8 @@ start_page() {
     local file=${1--} name
     if [ $# -gt 1 ] || [[ $file == -?* ]]; then refuse "./mpwb page [FILE] > page.html"; fi
     read_crates
-    begin_work
+    choose_program
+    if [ -z "$room" ]; then begin_work; fi
     name=$(basename -- "$file")
     if [ "$file" = - ]; then
         file=$room/netlist name="standard input"

@@ -33,6 +33,7 @@ fit() {
     shift
     file=$(file_of show "$@")
     if [ -n "$file" ] && [ "$file" != - ] && [ ! -f "$file" ]; then run show "$@"; fi # (a pipe can't be read twice)
+    choose_program
     if [ -z "$room" ]; then begin_work; fi
     if [ -z "$file" ] || [ "$file" = - ]; then
         input=$room/netlist file=$room/netlist
