@@ -11,10 +11,7 @@ start_watch() {
         refuse "./mpwb watch FOLDER SEAT [QUESTION ..] with a viewer's seat, for example ./mpwb watch meeting viewer-1"
     fi
     need_desk "$1"
-    if [ -z "$question" ]; then
-        read_crates
-        choose_program
-    fi
+    if [ -z "$question" ]; then choose_program; fi
     take_seat "$1" "$2"
     if [ -z "$room" ]; then begin_work; fi
     exec 4>&1
@@ -69,7 +66,7 @@ see() {
         return
     fi
     hear_answer text >"$room/netlist"
-    width=$(terminal_width)
+    width=$(terminal_width 4)
     if [ -z "$width" ]; then
         (run show "$room/netlist") || exit
     else
@@ -83,7 +80,7 @@ see() {
 edits_at_terminal=5 # so many of the last ones are shown in place
 
 draw() {
-    if [ ! -t 4 ]; then
+    if ! has_screen 4; then
         echo "version $version" && cat "$room/seen" "$room/edits"
         return
     fi
@@ -108,4 +105,4 @@ fit_rows() {
         }' "$room/seen" "$room/edits"
 }
 
-end_screen() { if [ -t 4 ]; then printf '\033[?7h'; fi; }
+end_screen() { if has_screen 4; then printf '\033[?7h'; fi; }
