@@ -5,11 +5,11 @@ start_install() {
     local prefix=${1-/usr/local}
     if [ $# -gt 1 ] || [[ $prefix == -* || -z $prefix ]]; then refuse "./mpwb install [PREFIX]"; fi
     need_sources
-    read_crates
     if ! is_current "$program"; then
         echo "mpwb: the program isn't built: run ./mpwb build first" >&2
         exit 70
     fi
+    umask 022 # (all users may run what is installed)
     begin_work
     gather "$room/files" || exit
     put_files "$room/files" "$prefix"
