@@ -14,10 +14,10 @@ start_page() {
     if [ $# -gt 1 ]; then refuse "$usage"; fi
     file=${1--}
     choose_program
-    if [ -z "$room" ]; then begin_work; fi
+    begin_work
     name=$(basename -- "$file")
     if [ "$file" = - ]; then
-        file=$room/netlist name="standard input"
+        file=$room/given name="standard input"
         if ! cat >"$file" 2>/dev/null; then fail_device read; fi
     fi
     (printf '%s\n' text "$divider" waves "$divider" check | run play -- "$file") >"$room/answers" || exit

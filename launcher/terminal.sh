@@ -34,9 +34,9 @@ fit() {
     file=$(file_of show "$@")
     if [ -n "$file" ] && [ "$file" != - ] && [ ! -f "$file" ]; then run show "$@"; fi # (a pipe can't be read twice)
     choose_program
-    if [ -z "$room" ]; then begin_work; fi
+    begin_work
     if [ -z "$file" ] || [ "$file" = - ]; then
-        input=$room/netlist file=$room/netlist
+        input=$room/given file=$room/given
         cat >"$input" 2>/dev/null || fail_device read
     fi
     columns=$((width - 2 - $(longest_name "$file" "$@")))

@@ -10,6 +10,7 @@ leash=() # stands before a command that ends with whoever has started it, where 
 find_leash() { if setpriv --pdeathsig KILL true 2>/dev/null; then leash=(setpriv --pdeathsig KILL); fi; }
 
 begin_work() {
+    if [ -n "$room" ]; then return; fi
     if ! room=$(mktemp -d 2>/dev/null); then
         room=""
         echo "mpwb: can't make a folder in ${TMPDIR:-/tmp}: the variable TMPDIR has to name a folder that takes files" >&2
