@@ -1,6 +1,7 @@
 """A live desk that the script `./mpwb desk` serves, and those who come to it by the script."""
 import contextlib
 import os
+import shutil
 import signal
 import subprocess
 import tempfile
@@ -20,6 +21,7 @@ KILLED = "mpwb: the desk was killed; its accepted edits are kept in {}\n"
 GREETING = "mpwb: {} is yours until Ctrl-D; ./mpwb play --help lists what to type\n"
 UTF8 = {**os.environ, "LC_ALL": "C.UTF-8"}
 BEGUN = "mpwb: {} edits of {}/edits are made again\n"
+CUT = "mpwb: the last line of {}/edits has no line feed and is cut off: nobody was told that it was accepted\n"
 
 
 def run(*words, given="", **how):
@@ -92,3 +94,17 @@ def started(*words, before=lambda: None):
 
     how = {"stdin": subprocess.PIPE, "stdout": subprocess.PIPE, "stderr": subprocess.PIPE}
     return subprocess.Popen([SCRIPT, *words], bufsize=0, start_new_session=True, preexec_fn=begin, **how)
+
+
+def begun(at, **how):
+    """A run of the script that serves a desk."""
+    desk = started("desk", NETLIST, "--at", at, **how)
+    desk.stdin.write(b"version\n")
+    expect("the desk", b"version 0\n", desk.stdout.readline())
+    return desk
+
+
+def edited(path):
+    """Puts a copy in the place of a file, as many editors do."""
+    shutil.copy(path, f"{path}.new")
+    os.rename(f"{path}.new", path)

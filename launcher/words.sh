@@ -33,7 +33,7 @@ value_of() {
         if [[ $word == "$option"=* ]]; then value=${word#*=}; fi
         before=$word
     done
-    echo "$value"
+    printf '%s\n' "$value"
 }
 
 # FILE of a command that reads a netlist, nothing where it isn't given; behind -- no word is an option
@@ -47,7 +47,7 @@ file_of() {
         elif [ "$values" -gt 0 ]; then
             values=$((values - 1))
         else
-            if [ "$others" = 0 ]; then echo "$word"; fi
+            if [ "$others" = 0 ]; then printf '%s\n' "$word"; fi
             others=$((others - 1))
         fi
     done
