@@ -61,11 +61,11 @@ class ScriptDesk:
 
     def program(self):
         """The process of the program."""
-        return ScriptDesk.program_of(self.terminal)
+        return ScriptDesk.program_of(self.terminal.run)
 
     @staticmethod
-    def program_of(terminal):
-        children = read(f"/proc/{terminal.run.pid}/task/{terminal.run.pid}/children").split()
+    def program_of(script):
+        children = read(f"/proc/{script.pid}/task/{script.pid}/children").split()
         return next(int(child) for child in children if os.path.basename(os.readlink(f"/proc/{child}/exe")) != "cat")
 
     def signal(self, number):
@@ -96,12 +96,17 @@ def started(*words, before=lambda: None):
     return subprocess.Popen([SCRIPT, *words], bufsize=0, start_new_session=True, preexec_fn=begin, **how)
 
 
+@contextlib.contextmanager
 def begun(at, **how):
-    """A run of the script that serves a desk."""
+    """A run of the script that serves a desk. It is killed when its `with` ends."""
     desk = started("desk", NETLIST, "--at", at, **how)
-    desk.stdin.write(b"version\n")
-    expect("the desk", b"version 0\n", desk.stdout.readline())
-    return desk
+    try:
+        desk.stdin.write(b"version\n")
+        expect("the desk", b"version 0\n", desk.stdout.readline())
+        yield desk
+    finally:
+        desk.kill()
+        desk.wait()
 
 
 def edited(path):
