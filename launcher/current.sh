@@ -48,7 +48,7 @@ is_current_by_folders() {
         for part in src specs proofs; do if [ -e "$top/crates/$crate/$part" ]; then places+=("crates/$crate/$part"); fi; done
     done
     [ -z "$(cd "$top" && find "${places[@]}" -newer "$1" -print -quit 2>/dev/null)" ] || return 1
-    write_names "${places[@]}"
+    if find -files0-from /dev/null 2>/dev/null; then write_names "${places[@]}"; fi # (an older find takes no names)
 }
 
 # (they are as old as what was looked at; where they can't be written, the sources are found anew the next time)

@@ -105,23 +105,22 @@ check_sum() {
     if [ ! -f "$1" ] || ! sum=$(cksum 2>/dev/null <"$1"); then return; fi
     if ! has_edits; then
         (umask "$own_mask" && rm -f "$kept" && echo "$sum" >"$kept.new" && mv "$kept.new" "$kept") 2>/dev/null || true
-    elif [ -e "$kept" ] && [ "$(cat "$kept")" != "$sum" ]; then
+    elif [ -s "$kept" ] && [ "$(cat "$kept")" != "$sum" ]; then
         fail_desk "the edits of $desk_at/edits were made on another netlist than $2: name that one, or another folder; to make them on $2 all the same, remove $kept"
     fi
 }
 
-# Cuts off what stands behind the last whole line of the edits. If the desk was killed while it wrote it, nobody was told that it is accepted.
+# Cuts off what stands behind the last whole line of the edits, and says what that may have been.
 cut_edits() {
-    local edits=$desk_at/edits
+    local edits=$desk_at/edits what
     if [ ! -s "$edits" ] || [ "$(tail -c 1 "$edits" | wc -l)" = 1 ]; then return; fi
     if [ "$(tail -c 1 "$edits" | tr -d '\0' | wc -c)" = 0 ]; then
-        cut_last_line && echo "mpwb: $edits ends in NUL bytes, as after a power cut, and is cut off behind its last whole line: accepted edits may be lost" >&2
+        what="$edits ends in NUL bytes, as after a power cut, and is cut off behind its last whole line: accepted edits may be lost"
     else
-        cut_last_line && echo "mpwb: the last line of $edits has no line feed and is cut off: nobody was told that it was accepted" >&2
+        what="the last line of $edits has no line feed and is cut off: nobody was told that it was accepted"
     fi
+    if truncate -s "-$(tail -n 1 "$edits" | wc -c)" "$edits" 2>/dev/null; then echo "mpwb: $what" >&2; fi
 }
-
-cut_last_line() { truncate -s "-$(tail -n 1 "$edits" | wc -c)" "$edits" 2>/dev/null; }
 
 # the program in the place of this process, which no interrupt of a terminal reaches
 become_program() {
@@ -224,8 +223,8 @@ read_once() {
     local at
     begin_work
     copy=$room/given
-    cat "$file" >"$copy" 2>/dev/null || fail_desk "read failed"
-    for at in "${!words[@]}"; do if [ "${words[at]}" = "$file" ]; then words[at]=$copy; fi; done
+    cat <"$file" >"$copy" 2>/dev/null || fail_desk "read failed"
+    for ((at = 1; at < ${#words[@]}; at++)); do if [ "${words[at]}" = "$file" ]; then words[at]=$copy; fi; done
 }
 
 # a live desk at a folder
