@@ -24,11 +24,6 @@ start_page() {
     write_page "$name" 2>/dev/null || fail_device write
 }
 
-fail_device() {
-    echo "mpwb: $1 failed" >&2
-    exit 3
-}
-
 write_page() {
     local script
     printf '<!DOCTYPE html>\n<html lang="en">\n<meta charset="utf-8">\n<meta name="viewport" content="width=device-width">\n' &&
