@@ -49,7 +49,7 @@ class Day:
             _, written, said = run(*self.here(typed)[1:])
             expect(what, shown, self.lines(written + said))
         elif typed == "(kill -9)":
-            os.kill(ScriptDesk.program_of(self.terminals["desk"]), signal.SIGKILL)
+            os.kill(ScriptDesk.program_of(self.terminals["desk"].run), signal.SIGKILL)
         elif typed == "(Ctrl-D)":
             self.terminals[where].end_input()
             expect(what, 0, self.terminals[where].end()[1])

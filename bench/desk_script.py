@@ -1,6 +1,7 @@
 """A live desk that the script `./mpwb desk` serves, and those who come to it by the script."""
 import contextlib
 import os
+import shutil
 import signal
 import subprocess
 import tempfile
@@ -20,6 +21,7 @@ KILLED = "mpwb: the desk was killed; its accepted edits are kept in {}\n"
 GREETING = "mpwb: {} is yours until Ctrl-D; ./mpwb play --help lists what to type\n"
 UTF8 = {**os.environ, "LC_ALL": "C.UTF-8"}
 BEGUN = "mpwb: {} edits of {}/edits are made again\n"
+CUT = "mpwb: the last line of {}/edits has no line feed and is cut off: nobody was told that it was accepted\n"
 
 
 def run(*words, given="", **how):
@@ -59,11 +61,11 @@ class ScriptDesk:
 
     def program(self):
         """The process of the program."""
-        return ScriptDesk.program_of(self.terminal)
+        return ScriptDesk.program_of(self.terminal.run)
 
     @staticmethod
-    def program_of(terminal):
-        children = read(f"/proc/{terminal.run.pid}/task/{terminal.run.pid}/children").split()
+    def program_of(script):
+        children = read(f"/proc/{script.pid}/task/{script.pid}/children").split()
         return next(int(child) for child in children if os.path.basename(os.readlink(f"/proc/{child}/exe")) != "cat")
 
     def signal(self, number):
@@ -92,3 +94,22 @@ def started(*words, before=lambda: None):
 
     how = {"stdin": subprocess.PIPE, "stdout": subprocess.PIPE, "stderr": subprocess.PIPE}
     return subprocess.Popen([SCRIPT, *words], bufsize=0, start_new_session=True, preexec_fn=begin, **how)
+
+
+@contextlib.contextmanager
+def begun(at, **how):
+    """A run of the script that serves a desk. It is killed when its `with` ends."""
+    desk = started("desk", NETLIST, "--at", at, **how)
+    try:
+        desk.stdin.write(b"version\n")
+        expect("the desk", b"version 0\n", desk.stdout.readline())
+        yield desk
+    finally:
+        desk.kill()
+        desk.wait()
+
+
+def edited(path):
+    """Puts a copy in the place of a file, as many editors do."""
+    shutil.copy(path, f"{path}.new")
+    os.rename(f"{path}.new", path)

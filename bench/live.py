@@ -131,7 +131,7 @@ def opened_to_write(path, seconds, holds=lambda: True):
 class Desk:
     """A desk on a netlist, with its pipes in a folder."""
 
-    def __init__(self, program, netlist, folder, designers, viewers, make=True, **how):
+    def __init__(self, program, netlist, folder, designers, viewers, make=True, more=(), **how):
         self.folder = folder
         self.names = [f"designer-{j + 1}" for j in range(designers)] + [f"viewer-{j + 1}" for j in range(viewers)]
         if make:
@@ -142,7 +142,7 @@ class Desk:
             os.mkdir(os.path.join(folder, ".desk"))
             for name in self.names:
                 os.mkfifo(os.path.join(folder, ".desk", f"{name}.spare"))
-        words = ["desk", netlist, "--at", folder, "--designers", str(designers), "--viewers", str(viewers)]
+        words = ["desk", netlist, "--at", folder, "--designers", str(designers), "--viewers", str(viewers), *more]
         self.log = []
         self.asking = threading.Lock()
         self.run = subprocess.Popen([program, *words], stdin=subprocess.PIPE, stdout=subprocess.PIPE, stderr=subprocess.PIPE, **how)
@@ -206,11 +206,11 @@ class Desk:
 class Meeting:
     """A desk on a netlist in a folder of its own, and what was said at its seats."""
 
-    def __init__(self, program, netlist, designers, viewers):
+    def __init__(self, program, netlist, designers, viewers, **how):
         self.program = program
         self.netlist = netlist
         self.folder = tempfile.TemporaryDirectory()
-        self.desk = Desk(program, netlist, self.folder.name, designers, viewers)
+        self.desk = Desk(program, netlist, self.folder.name, designers, viewers, **how)
         self.logs = {name: [] for name in self.desk.names}
 
     def seat(self, name):

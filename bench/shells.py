@@ -44,7 +44,7 @@ def offered_by_fish(path, lines):
 
 
 def offered_by_zsh(path, lines):
-    shell = Terminal("zsh", "-f", "-i", columns=200, rows=200, env={"PATH": os.environ["PATH"], "TERM": "dumb", "LC_ALL": "C.UTF-8"})
+    shell = Terminal("zsh", "-f", "-i", columns=200, rows=200, env={"PATH": os.environ["PATH"], "LC_ALL": "C.UTF-8"}, term="dumb")
     try:
         shell.type(ZSH.format(os.path.dirname(path)))
         shell.until("ready")

@@ -19,7 +19,7 @@ CLEAR = "\x1b[H\x1b[J"  # begins a screen
 class Terminal:
     """A run of a program at a terminal of its own, whose interrupts reach it."""
 
-    def __init__(self, *words, columns=80, rows=24, env=None):
+    def __init__(self, *words, columns=80, rows=24, env=None, term="xterm"):
         self.ours, theirs = pty.openpty()
         fcntl.ioctl(theirs, termios.TIOCSWINSZ, struct.pack("4H", rows, columns, 0, 0))
         settings = termios.tcgetattr(theirs)
@@ -31,6 +31,7 @@ class Terminal:
             fcntl.ioctl(0, termios.TIOCSCTTY, 0)
             signal.signal(signal.SIGINT, signal.SIG_DFL)
 
+        env = {**(os.environ if env is None else env), "TERM": term}
         self.run = subprocess.Popen(words, stdin=theirs, stdout=theirs, stderr=theirs, env=env, start_new_session=True, preexec_fn=take_terminal)
         os.close(theirs)
         self.shown = ""

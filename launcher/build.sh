@@ -46,7 +46,7 @@ build() {
     gate=$!
     while kill -0 "$gate" 2>/dev/null; do
         now="$((${#crates[@]} - $(count_done))) of ${#crates[@]} crates left, proving $(name_checked)"
-        if [ -t 2 ] || [ "$now" != "$said" ]; then say "$(time_taken), $now"; fi
+        if has_screen 2 || [ "$now" != "$said" ]; then say "$(time_taken), $now"; fi
         said=$now
         if grep -q 'NOT PROVED$' "$log"; then tell_failure "$(grep 'NOT PROVED$' "$log")"; fi
         sleep 1

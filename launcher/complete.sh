@@ -1,14 +1,16 @@
 # shellcheck shell=bash
 # Completions of the words of `mpwb` for bash, zsh and fish, made of what `write_help` has written to a folder.
 
-# what stands behind a command: files, folders, words that are explained, commands, or none
+# What stands behind a command, place by place: a folder, a file, a word that is explained, a command, or something that nobody can tell beforehand.
+# In all further places stands what stands in the last one.
 operands_of() {
     case $1 in
     explain) echo words ;;
     help) echo commands ;;
-    ask | install | join | watch) echo folders ;;
+    ask | join | watch) echo folders none ;;
+    install) echo folders ;;
     build | test) echo none ;;
-    *) echo files ;;
+    *) case $(words_before_file "$1") in 0) echo files ;; 1) echo none files ;; *) echo none none files ;; esac ;;
     esac
 }
 
@@ -43,7 +45,7 @@ complete_in_bash() {
 # completion of mpwb for bash
 
 _mpwb() {
-    local word=${COMP_WORDS[COMP_CWORD]} words="" operands=none
+    local word=${COMP_WORDS[COMP_CWORD]} words="" kind=none operands=(none) place=0 at
     COMPREPLY=()
     if [ "$COMP_CWORD" = 1 ]; then
 EOF
@@ -53,21 +55,30 @@ EOF
         case ${COMP_WORDS[1]} in
 EOF
     while read -r command _; do
-        echo "        $command) words='$(words_of "$1" "$command")' operands=$(operands_of "$command") ;;"
+        echo "        $command) words='$(words_of "$1" "$command")' operands=($(operands_of "$command")) ;;"
     done <"$1/commands"
     cat <<EOF
         esac
+        for ((at = 2; at < COMP_CWORD; at++)); do
+            case \${COMP_WORDS[at]} in
+            $(options_with "$1" second)) ((at += 2)) ;;
+            $(options_with "$1" folder) | $(options_with "$1" other)) ((at += 1)) ;;
+            -*) ;;
+            *) ((place += 1)) ;;
+            esac
+        done
+        kind=\${operands[place < \${#operands[@]} ? place : -1]}
         case \${COMP_WORDS[COMP_CWORD - 1]} in
-        $(options_with "$1" folder)) words="" operands=folders ;;
-        $(options_with "$1" other)) words="" operands=none ;;
+        $(options_with "$1" folder)) words="" kind=folders ;;
+        $(options_with "$1" other)) words="" kind=none ;;
         esac
         case \${COMP_WORDS[COMP_CWORD - 2]} in
-        $(options_with "$1" second)) words="" operands=none ;;
+        $(options_with "$1" second)) words="" kind=none ;;
         esac
     fi
 EOF
     cat <<'EOF'
-    case $operands in
+    case $kind in
     files) mapfile -t COMPREPLY < <(compgen -f -- "$word") ;;
     folders) mapfile -t COMPREPLY < <(compgen -d -- "$word") ;;
     esac
@@ -121,11 +132,25 @@ zsh_arguments() {
         # (an option may come more than once)
         quoted "*$option""[$text]$(zsh_values "$values")"
     done
-    case $(operands_of "$2") in
-    files) quoted '*:file:_files' ;;
-    folders) quoted '*:folder:_files -/' ;;
-    words) quoted "*:word:($(tr '\n' ' ' <"$1/words"))" ;;
-    commands) quoted "*:command:($(awk '{ print $1 }' "$1/commands" | tr '\n' ' '))" ;;
+    zsh_operands "$1" "$2"
+}
+
+zsh_operands() {
+    local kinds place
+    read -r -a kinds <<<"$(operands_of "$2")"
+    if [ "${kinds[*]}" = none ]; then return; fi
+    for ((place = 0; place < ${#kinds[@]}; place++)); do
+        quoted "$(if ((place + 1 < ${#kinds[@]})); then echo $((place + 1)); else echo '*'; fi)$(zsh_kind "$1" "${kinds[place]}")"
+    done
+}
+
+zsh_kind() {
+    case $2 in
+    files) echo ':file:_files' ;;
+    folders) echo ':folder:_files -/' ;;
+    words) echo ":word:($(tr '\n' ' ' <"$1/words"))" ;;
+    commands) echo ":command:($(awk '{ print $1 }' "$1/commands" | tr '\n' ' '))" ;;
+    none) echo ':word: ' ;; # (it is said that a word stands there)
     esac
 }
 
@@ -141,6 +166,7 @@ zsh_values() {
 complete_in_fish() {
     local command about option values text
     echo "# completion of mpwb for fish"
+    tell_place_in_fish "$1"
     echo "complete -c mpwb -n __fish_use_subcommand -f -l help -d 'Print help'"
     echo "complete -c mpwb -n __fish_use_subcommand -f -l version -d 'Print version'"
     while read -r command about; do
@@ -148,15 +174,52 @@ complete_in_fish() {
         { options_in "$1/$command" && echo '--help - Print help'; } | sort -u -k 1,1 | while read -r option values text; do
             fish_option "$command" "$option" "$values" "$text"
         done
-        case $(operands_of "$command") in
-        words) text=$(tr '\n' ' ' <"$1/words") ;;
-        commands) text=$(awk '{ print $1 }' "$1/commands" | tr '\n' ' ') ;;
-        folders) text='(__fish_complete_directories)' ;;
-        none) text="" ;;
-        files) continue ;;
-        esac
-        echo "complete -c mpwb -n '__fish_seen_subcommand_from $command' -f -a $(quoted "$text")"
+        fish_operands "$1" "$command"
     done <"$1/commands"
+}
+
+# a function that tells how many operands stand before a word
+tell_place_in_fish() {
+    cat <<EOF
+function __mpwb_place
+    set -l place 0
+    set -l values 0
+    for word in (commandline -opc)[3..-1]
+        if test \$values -gt 0
+            set values (math \$values - 1)
+            continue
+        end
+        switch \$word
+            case $(options_with "$1" second | tr '|' ' ')
+                set values 2
+            case $(options_with "$1" folder | tr '|' ' ') $(options_with "$1" other | tr '|' ' ')
+                set values 1
+            case '-*'
+            case '*'
+                set place (math \$place + 1)
+        end
+    end
+    echo \$place
+end
+EOF
+}
+
+fish_operands() {
+    local kinds place holds
+    read -r -a kinds <<<"$(operands_of "$2")"
+    for ((place = 0; place < ${#kinds[@]}; place++)); do
+        holds="__fish_seen_subcommand_from $2; and test (__mpwb_place) $(if ((place + 1 < ${#kinds[@]})); then echo -eq; else echo -ge; fi) $place"
+        if [ "${kinds[place]}" != files ]; then echo "complete -c mpwb -n '$holds' -f -a $(quoted "$(fish_kind "$1" "${kinds[place]}")")"; fi
+    done
+}
+
+fish_kind() {
+    case $2 in
+    folders) echo '(__fish_complete_directories)' ;;
+    words) tr '\n' ' ' <"$1/words" ;;
+    commands) awk '{ print $1 }' "$1/commands" | tr '\n' ' ' ;;
+    none) ;;
+    esac
 }
 
 # (fish knows of one value of an option: behind it nothing but the second one is looked for)

@@ -16,6 +16,7 @@ shows_fault() {
 run_showing() {
     local status=0
     is_showing=yes
+    choose_program # (what makes one ends with this process, and not with one below it)
     (run "$@") || status=$?
     if [ "$status" = 1 ]; then show_fault "$(file_of "$@")" >&2; fi
     exit "$status"

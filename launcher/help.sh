@@ -30,6 +30,7 @@ the program is built and no source is newer, it does nothing.
 Exit status:
   0   the program is built
   2   the command line was refused
+  3   TMPDIR names no folder that takes files
   70  the program was not built
 EOF
 }

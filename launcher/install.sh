@@ -5,11 +5,11 @@ start_install() {
     local prefix=${1-/usr/local}
     if [ $# -gt 1 ] || [[ $prefix == -* || -z $prefix ]]; then refuse "./mpwb install [PREFIX]"; fi
     need_sources
-    read_crates
     if ! is_current "$program"; then
         echo "mpwb: the program isn't built: run ./mpwb build first" >&2
         exit 70
     fi
+    umask 022 # (all users may run what is installed)
     begin_work
     gather "$room/files" || exit
     put_files "$room/files" "$prefix"
@@ -51,7 +51,7 @@ write_help() {
     (run --help) >"$1/all"
     { commands_in "$1/all" && tell_words | commands_in /dev/stdin; } >"$1/commands"
     while read -r command _; do
-        if is_own "$command"; then "tell_$command"; elif [ "$command" != help ]; then (run "$command" --help); fi >"$1/$command"
+        if is_own "$command"; then "tell_$command"; elif [ "$command" != help ]; then (answer "$command" --help); fi >"$1/$command"
     done <"$1/commands"
     (run explain) | awk '{ for (at = 2; at <= NF; at++) print $at }' | sort -u >"$1/words"
 }

@@ -4,6 +4,7 @@
 typing="" # the process that passes on what is typed
 
 start_join() {
+    if [[ ${1-} == -* ]]; then set -- "./$1" "${@:2}"; fi # (no command takes FOLDER for an option)
     if [ $# != 2 ]; then refuse "./mpwb join FOLDER SEAT, for example ./mpwb join meeting designer-1"; fi
     take_seat "$1" "$2"
     exec 3<&0

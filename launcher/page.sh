@@ -9,22 +9,19 @@ divider=---
 divided="unread 2 UnknownStatement"
 
 start_page() {
-    local file=${1--} name
-    if [ $# -gt 1 ] || [[ $file == -?* ]]; then refuse "./mpwb page [FILE] > page.html"; fi
-    read_crates
+    local file name usage="./mpwb page [FILE] > page.html"
+    case ${1-} in --) shift ;; -?*) refuse "$usage" ;; esac
+    if [ $# -gt 1 ]; then refuse "$usage"; fi
+    file=${1--}
+    choose_program
     begin_work
     name=$(basename -- "$file")
     if [ "$file" = - ]; then
-        file=$room/netlist name="standard input"
+        file=$room/given name="standard input"
         if ! cat >"$file" 2>/dev/null; then fail_device read; fi
     fi
-    (printf '%s\n' text "$divider" waves "$divider" check | run play "$file") >"$room/answers" || exit
+    (printf '%s\n' text "$divider" waves "$divider" check | run play -- "$file") >"$room/answers" || exit
     write_page "$name" 2>/dev/null || fail_device write
-}
-
-fail_device() {
-    echo "mpwb: $1 failed" >&2
-    exit 3
 }
 
 write_page() {

@@ -1,6 +1,6 @@
 # shellcheck shell=bash
-# At a terminal a run of more than two seconds says how far it is, in one line of standard error that is taken away before the answer: how many units of
-# the netlist's time are over, and how often wires have changed. The program writes that into a file with no name. Before it does, the line has only
+# At a terminal a run of more than two seconds says how far it is, in one line of standard error that is taken away before the answer: how many units
+# of the netlist's time are over, and how often wires have changed. The program writes that into a file with no name. Before it does, the line has only
 # how long the run takes. If the answer goes to a file, the line says how much of it is written, and of a dump up to which time.
 
 quiet_seconds=2
@@ -8,15 +8,16 @@ teller="" # the process that says it
 
 # whether a run with these words says it: somebody looks on, and doesn't type the netlist
 is_told() {
-    if [ ! -t 2 ]; then return 1; fi
+    if ! has_screen 2; then return 1; fi
     case ${1-} in waves | report | dump | show | why | path | waits | measure | check | graph | verilog) ;; *) return 1 ;; esac
     [ ! -t 0 ] || [ -n "$(file_of "$@")" ]
 }
 
-# runs a program with these words, and ends as it ends; what it says on standard error comes behind the answer
+# Runs a program with these words, and ends as it ends; what it says on standard error comes behind the answer. (FILE may be /dev/fd/6, so what is
+# opened here gets a number that nobody has.)
 run_told() {
-    local status=0 said before
-    exec 6>&1 7>&2
+    local status=0 said before answer terminal progress=""
+    exec {answer}>&1 {terminal}>&2
     before=$(bytes_written)
     open_progress
     tell_progress "$2" &
@@ -28,9 +29,9 @@ run_told() {
 }
 
 run_below() {
-    if [ ! -t 6 ]; then exec "$@" >&6 6>&- 7>&-; fi
+    if [ ! -t "$answer" ]; then exec "$@" >&"$answer" {answer}>&- {terminal}>&-; fi
     set +e
-    "$@" 6>&- 7>&- | pass_answer >&6
+    "$@" {answer}>&- {terminal}>&- | pass_answer >&"$answer"
     exit "${PIPESTATUS[0]}"
 }
 
@@ -48,9 +49,9 @@ pass_answer() {
 open_progress() {
     local file
     if file=$(mktemp 2>/dev/null); then
-        exec 8<>"$file"
+        exec {progress}<>"$file"
         rm -f "$file"
-        export MPWB_PROGRESS=/dev/fd/8
+        export MPWB_PROGRESS=/dev/fd/$progress
     fi
 }
 
@@ -73,10 +74,10 @@ tell_run() {
 }
 
 # the last line of the program, if it is whole, with a comma before each three digits
-tell_units() { tail -n 1 /dev/fd/8 2>/dev/null | sed -nE '/ changes$/!d; :again; s/([0-9])([0-9]{3})([ ,])/\1,\2\3/; t again; p'; }
+tell_units() { tail -n 1 "/dev/fd/$progress" 2>/dev/null | sed -nE '/ changes$/!d; :again; s/([0-9])([0-9]{3})([ ,])/\1,\2\3/; t again; p'; }
 
 # how many bytes the file has that the answer goes to, nothing where it is no file
-bytes_written() { if [ -f /dev/fd/6 ]; then stat -L -c %s /dev/fd/6; fi; }
+bytes_written() { if [ -f "/dev/fd/$answer" ]; then stat -L -c %s "/dev/fd/$answer"; fi; }
 
 # what is said of an answer of which a part is written
 tell_written() {
@@ -88,12 +89,12 @@ tell_written() {
 }
 
 # the last time of a dump that is being written, of whole lines alone
-last_time_written() { tail -c 4096 /dev/fd/6 2>/dev/null | sed -n '1d; $d; s/^#\([0-9][0-9]*\)$/\1/p' | tail -n 1; }
+last_time_written() { tail -c 4096 "/dev/fd/$answer" 2>/dev/null | sed -n '1d; $d; s/^#\([0-9][0-9]*\)$/\1/p' | tail -n 1; }
 
 wait_for() { read -r -t "$1" -u "$nothing" || true; }
 
 end_telling() {
     if ! kill "$teller" 2>/dev/null; then return; fi
     wait "$teller" 2>/dev/null || true
-    if [ "$SECONDS" -ge "$quiet_seconds" ]; then printf '\r\033[K' >&7; fi
+    if [ "$SECONDS" -ge "$quiet_seconds" ]; then printf '\r\033[K' >&"$terminal"; fi
 }

@@ -17,7 +17,11 @@ is_served() {
     [ "$status" = 9 ]
 }
 
-need_desk() { if ! is_served "$1"; then fail_seat "no desk at $1"; fi; }
+need_desk() {
+    if is_served "$1"; then return; fi
+    if [ -d "$1" ] && { [ ! -r "$1" ] || [ ! -x "$1" ]; }; then fail_seat "$1 isn't shared with you"; fi
+    fail_seat "no desk at $1"
+}
 
 # whether somebody sits there without the lock, or is gone and the desk hasn't left the seat yet: just then the desk reads there
 is_read() { dd if=/dev/null of="$seat.in" oflag=nonblock conv=nocreat,notrunc 2>/dev/null; }
@@ -104,6 +108,7 @@ fail_left() {
 # --- ./mpwb ask FOLDER SEAT LINE
 
 start_ask() {
+    if [[ ${1-} == -* ]]; then set -- "./$1" "${@:2}"; fi # (no command takes FOLDER for an option)
     local line=${*:3}
     if [ $# -lt 3 ] || [[ $line == *$'\n'* ]]; then refuse "./mpwb ask FOLDER SEAT LINE, for example ./mpwb ask meeting viewer-1 text"; fi
     take_seat "$1" "$2"

@@ -6,19 +6,19 @@ most_columns=10000
 most_looked_at=4194304 # of so many bytes of a netlist the names are looked at
 
 show() {
-    local width words=()
-    exec 4>&1
-    width=$(terminal_width)
-    exec 4>&-
+    local width screen words=()
+    exec {screen}>&1
+    width=$(terminal_width "$screen")
+    exec {screen}>&-
     if [ -z "$width" ] || is_given --svg "$@" || is_given --help "$@" || is_given -h "$@"; then run show "$@"; fi
     if ! is_utf8 && ! is_given --ascii "$@"; then words=(--ascii); fi
     if is_given --columns "$@"; then run show "${words[@]}" "$@"; fi
     fit "$width" "${words[@]}" "$@"
 }
 
-# the width of the terminal that 4 is, nothing where it is none
+# the width of the terminal that is open as a number, nothing where it is none
 terminal_width() {
-    if [ -t 4 ]; then stty size <&4 2>/dev/null | awk '$2 > 0 { print $2 }'; fi
+    if [ -t "$1" ]; then stty size <&"$1" 2>/dev/null | awk '$2 > 0 { print $2 }'; fi
 }
 
 is_utf8() {
@@ -33,9 +33,10 @@ fit() {
     shift
     file=$(file_of show "$@")
     if [ -n "$file" ] && [ "$file" != - ] && [ ! -f "$file" ]; then run show "$@"; fi # (a pipe can't be read twice)
-    if [ -z "$room" ]; then begin_work; fi
+    choose_program
+    begin_work
     if [ -z "$file" ] || [ "$file" = - ]; then
-        input=$room/netlist file=$room/netlist
+        input=$room/given file=$room/given
         cat >"$input" 2>/dev/null || fail_device read
     fi
     columns=$((width - 2 - $(longest_name "$file" "$@")))

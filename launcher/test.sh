@@ -1,7 +1,7 @@
 # shellcheck shell=bash
 # ./mpwb test. The quick test: the programs of examples/ that take a minute or so together, over the program that is there.
 
-quick_tests=(talk documents compare python script)
+quick_tests=(talk documents compare python script calls)
 
 start_test() {
     if [ $# != 0 ]; then refuse "./mpwb test takes no arguments but --help"; fi

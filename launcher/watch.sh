@@ -6,17 +6,15 @@ seconds_between_looks=0.2
 most_tries=10 # to have an answer of one version, while others edit
 
 start_watch() {
+    if [[ ${1-} == -* ]]; then set -- "./$1" "${@:2}"; fi # (no command takes FOLDER for an option)
     local question=${*:3}
     if [ $# -lt 2 ] || [[ $2 != viewer-* || $question == *$'\n'* ]]; then
         refuse "./mpwb watch FOLDER SEAT [QUESTION ..] with a viewer's seat, for example ./mpwb watch meeting viewer-1"
     fi
     need_desk "$1"
-    if [ -z "$question" ]; then
-        read_crates
-        choose_program
-    fi
+    if [ -z "$question" ]; then choose_program; fi
     take_seat "$1" "$2"
-    if [ -z "$room" ]; then begin_work; fi
+    begin_work
     exec 4>&1
     trap 'end_screen; end_beside' EXIT
     trap 'if [ -t 4 ]; then echo >&4; fi; exit 0' INT
@@ -68,13 +66,13 @@ see() {
         hear_answer "$question"
         return
     fi
-    hear_answer text >"$room/netlist"
-    width=$(terminal_width)
+    hear_answer text >"$room/given"
+    width=$(terminal_width 4)
     if [ -z "$width" ]; then
-        (run show "$room/netlist") || exit
+        (run show "$room/given") || exit
     else
         if ! is_utf8; then plain=(--ascii); fi
-        (fit "$width" "${plain[@]}" "$room/netlist") || exit
+        (fit "$width" "${plain[@]}" "$room/given") || exit
     fi
 }
 
@@ -83,7 +81,7 @@ see() {
 edits_at_terminal=5 # so many of the last ones are shown in place
 
 draw() {
-    if [ ! -t 4 ]; then
+    if ! has_screen 4; then
         echo "version $version" && cat "$room/seen" "$room/edits"
         return
     fi
@@ -108,4 +106,4 @@ fit_rows() {
         }' "$room/seen" "$room/edits"
 }
 
-end_screen() { if [ -t 4 ]; then printf '\033[?7h'; fi; }
+end_screen() { if has_screen 4; then printf '\033[?7h'; fi; }

@@ -2,7 +2,7 @@
 # The words of a command line of the program.
 
 takes_a_value() {
-    case $1 in --help | --version | --ascii | --svg | --hex | -- | --*=*) return 1 ;; --*) return 0 ;; *) return 1 ;; esac
+    case $1 in --help | --version | --ascii | --svg | --hex | --share | --sync | -- | --*=*) return 1 ;; --*) return 0 ;; *) return 1 ;; esac
 }
 
 # how many values an option takes
@@ -28,24 +28,26 @@ is_given() {
 value_of() {
     local option=$1 before="" value="" word
     for word in "${@:2}"; do
+        if [ "$word" = -- ]; then break; fi
         if [ "$before" = "$option" ]; then value=$word; fi
         if [[ $word == "$option"=* ]]; then value=${word#*=}; fi
         before=$word
     done
-    echo "$value"
+    printf '%s\n' "$value"
 }
 
-# FILE of a command that reads a netlist, nothing where it isn't given
+# FILE of a command that reads a netlist, nothing where it isn't given; behind -- no word is an option
 file_of() {
-    local word values=0 others
+    local word values=0 others options=yes
     others=$(words_before_file "$1")
     for word in "${@:2}"; do
-        if [[ $word != - && $word == -* ]]; then
+        if [[ -n $options && $word == -* && $word != - ]]; then
             values=$(values_of "$word")
+            if [ "$word" = -- ]; then options=""; fi
         elif [ "$values" -gt 0 ]; then
             values=$((values - 1))
         else
-            if [ "$others" = 0 ]; then echo "$word"; fi
+            if [ "$others" = 0 ]; then printf '%s\n' "$word"; fi
             others=$((others - 1))
         fi
     done

@@ -10,32 +10,41 @@ leash=() # stands before a command that ends with whoever has started it, where 
 find_leash() { if setpriv --pdeathsig KILL true 2>/dev/null; then leash=(setpriv --pdeathsig KILL); fi; }
 
 begin_work() {
-    room=$(mktemp -d)
+    if [ -n "$room" ]; then return; fi
+    if ! room=$(mktemp -d 2>/dev/null); then
+        room=""
+        echo "mpwb: can't make a folder in ${TMPDIR:-/tmp}: the variable TMPDIR has to name a folder that takes files" >&2
+        exit 3
+    fi
     trap end_work EXIT
     trap 'exit 130' INT TERM HUP
     touch "$room/began"
 }
 
+# (an interrupt while it ends would leave what it hasn't ended and removed yet)
 end_work() {
+    trap '' INT TERM HUP
     if [ -n "$taker" ]; then end_process "$taker"; fi
     if [ -n "$gate" ]; then end_group "$gate"; fi
     rm -rf "$room" "$program.$$" "$checked.$$"
 }
 
-# Ends a process that has nothing to remove. (One that has just begun would take another signal as the script does, and remove the room.)
+# Ends a process that has nothing to remove. (One that has just begun would take another signal as the script does, and remove the room. One that has
+# ended, as by the same Ctrl-C, isn't waited for: in a trap that may never return.)
 end_process() {
-    kill -KILL "$1" 2>/dev/null || true
+    kill -KILL "$1" 2>/dev/null || return 0
     wait "$1" 2>/dev/null || true
 }
 
-# (it first removes what it made)
+# Ends a group of processes. It first removes what it made; if that takes longer than two seconds it is killed.
 end_group() {
     local tenths
     kill -- "-$1" 2>/dev/null || true
     for ((tenths = 0; tenths < 20; tenths++)); do
-        if ! kill -0 "$1" 2>/dev/null; then break; fi
+        if ! kill -0 -- "-$1" 2>/dev/null; then return 0; fi
         sleep 0.1
     done
+    kill -KILL -- "-$1" 2>/dev/null || true
 }
 
 # puts a program in its place, which may be that of one that runs; it is as old as what it was made from
