@@ -1,0 +1,109 @@
+"""How much later one event can be than another, over all delays in their ranges, each occurrence of a delay by itself.
+
+The greatest `t(a) - t(b)` is the maximum over the paths P to a of P at its high ends, less the longest path to b with the delays of P high and all
+others low. So it is reached at a corner of the ranges, and one sweep finds it (McMillan and Dill, Algorithms for interface timing verification, 1992):
+let m(v) be the longest path from v to b at low ends; then `s(v) = min(max over causes u of (s(u) + high), -m(v))`, without the second term for a v that
+doesn't lead to b, bounds `t(v) - t(b)`. What a and b have in common behind them cancels. Hulgaard, Burns, Amon and Borriello (An algorithm for exact
+bounds on the time separation of events in concurrent systems, 1995) carry it on for ever in periodic systems; a run is finite.
+
+Where delays are the same all through the run, the sweep is a bound: a delay that stands more often in P than on the way to b, or on both, pulls both
+ways.
+"""
+
+from __future__ import annotations
+
+import heapq
+from typing import Dict, List, NamedTuple, Optional, Sequence, Set, Tuple
+
+from .graph import Cause, Graph
+from .orders import Order
+
+
+class Bound(NamedTuple):
+    """`margin` is at least this. `path` has the delays of the path that makes it, each as often as it stands there. `whole` says that no part of the
+    run was cut off."""
+
+    margin: int
+    path: Tuple[int, ...]
+    whole: bool
+
+
+class Ends(NamedTuple):
+    """The low and the high ends of delays, by place."""
+
+    low: Sequence[int]
+    high: Sequence[int]
+
+
+class _Cone:
+    """The events behind two others, the later numbers first, up to a number of them."""
+
+    def __init__(self, graph: Graph, order: Order, low: Sequence[int], most: Optional[int]) -> None:
+        self.graph, self.low = graph, low
+        # the longest path to the late event, and whether the early one is behind an event
+        self.to_late: Dict[int, int] = {order.late: 0}
+        self.to_early: Set[int] = {order.early}
+        self.inside: List[int] = []
+        self._left = sorted({-order.late, -order.early})
+        self._seen = {order.late, order.early}
+        while self._left and not (most is not None and len(self.inside) >= most and self._may_end()):
+            self._take(-heapq.heappop(self._left))
+        self.cut = [-event for event in self._left]
+
+    def _may_end(self) -> bool:
+        """Whether each event that is cut off and behind the early one is behind the late one too, which bounds it."""
+        return all(-event in self.to_late or -event not in self.to_early for event in self._left)
+
+    def _take(self, event: int) -> None:
+        self.inside.append(event)
+        longest, early, low = self.to_late.get(event), event in self.to_early, self.low
+        own = low[self.graph.delay[event]]
+        for cause, place in self.graph.causes[event]:
+            if longest is not None:
+                length = longest + own + low[place]
+                if length > self.to_late.get(cause, -1):
+                    self.to_late[cause] = length
+            if early:
+                self.to_early.add(cause)
+            if cause not in self._seen:
+                self._seen.add(cause)
+                heapq.heappush(self._left, -cause)
+
+
+def separation(graph: Graph, order: Order, ends: Ends, most: Optional[int] = None) -> Bound:
+    """The least margin of an order over the ranges, of a sweep over all events behind it, or over the last `most` of them."""
+    cone = _Cone(graph, order, ends.low, most)
+    latest: Dict[int, int] = {event: -cone.to_late[event] for event in cone.cut if event in cone.to_early}
+    back: Dict[int, Cause] = {}
+    high, delay, causes = ends.high, graph.delay, graph.causes
+    for event in reversed(cone.inside):
+        if event not in cone.to_early:
+            continue
+        if event == 0:
+            latest[0] = -cone.to_late[0] if 0 in cone.to_late else 0
+            continue
+        best, chosen = None, (0, 0)
+        for cause, place in causes[event]:
+            time = latest[cause] + high[place]
+            if best is None or time > best:
+                best, chosen = time, (cause, place)
+        assert best is not None
+        best += high[delay[event]]
+        longest = cone.to_late.get(event)
+        if longest is not None and -longest < best:
+            best = -longest
+        else:
+            back[event] = chosen
+        latest[event] = best
+    most_late = latest[order.early] + high[order.early_place] - ends.low[order.late_place] + order.slack
+    return Bound(-most_late, tuple(path_of(graph, order, back)), not cone.cut)
+
+
+def path_of(graph: Graph, order: Order, back: Dict[int, Cause]) -> List[int]:
+    """The places of the delays on the way to the early event."""
+    path, event = [order.early_place], order.early
+    while event in back:
+        cause, place = back[event]
+        path += [graph.delay[event], place]
+        event = cause
+    return [place for place in path if place]

@@ -1,0 +1,228 @@
+"""Bounds for all orders of a run, each local structure once.
+
+Orders whose events have the same causes at the same nominal distances some steps back are a class, and are bounded once, in a window: the events so
+many steps behind them. What is cut off and leads to the late event is bounded by that. Races, in which data have to come before a request or a capture,
+are taken in the order of time, and the bound of each is a lemma for those behind it: the data that an earlier race bounds aren't followed further back.
+Data never lead to control, and would go back to the source.
+"""
+
+from __future__ import annotations
+
+from typing import Dict, Hashable, List, NamedTuple, Sequence, Tuple
+
+from .graph import Graph
+from .orders import Order, Place
+from .separation import Ends, separation
+
+# how many steps back a window goes: first a short one, which is enough for most orders, then a long one; and how far back a lemma is looked for
+SHORT, LONG, _BEHIND = 4, 8, 4
+
+RACES = ("setup", "data-after-capture")
+
+_FAR = 1 << 60
+
+# what a lemma says of an event: it is at most so much later than another one
+Lemma = Tuple[int, int]
+
+
+class Entry(NamedTuple):
+    """A class of orders with the bound of its margin."""
+
+    margin: int
+    path: Tuple[int, ...]
+    members: Sequence[Order]
+
+
+class Structures:
+    """Numbers that tell how events came about: two events have the same if their causes, so many steps back, are alike."""
+
+    def __init__(self, graph: Graph) -> None:
+        time, causes = graph.time, graph.causes
+        kinds: Dict[Hashable, int] = {}
+        own = []
+        for event, before in enumerate(causes):
+            # (what begins at an absolute time is like nothing else)
+            key: Hashable = -event if graph.root[event] else (graph.wire[event], graph.lane[event], *[(time[event] - time[cause], place) for cause, place in before])
+            own.append(kinds.setdefault(key, len(kinds)))
+        self.short = self.long = own
+        for step in range(1, LONG + 1):
+            self.long = _next(graph, own, self.long)
+            if step == SHORT:
+                self.short = self.long
+
+
+def _next(graph: Graph, own: Sequence[int], before: Sequence[int]) -> List[int]:
+    numbers: Dict[Hashable, int] = {}
+    found = []
+    for event, causes in enumerate(graph.causes):
+        if len(causes) == 1 and not graph.root[event]:
+            key: Hashable = (own[event], before[causes[0][0]])
+        elif graph.root[event]:
+            key = own[event]
+        else:
+            key = (own[event], *[before[cause] for cause, _ in causes])
+        found.append(numbers.setdefault(key, len(numbers)))
+    return found
+
+
+class Windows:
+    """The classes of the orders of a graph, and their bounds for given ends."""
+
+    def __init__(self, graph: Graph, orders: Sequence[Order]) -> None:
+        self.graph = graph
+        self._numbers = Structures(graph)
+        self._races = sorted((order for order in orders if order.rule in RACES), key=lambda order: (order.early, order.late))
+        self._classes: Dict[Hashable, List[Order]] = {}
+        for order in orders:
+            if order.rule not in RACES:
+                self._classes.setdefault(self._key(order, self._numbers.short), []).append(order)
+        for members in self._classes.values():
+            members.sort(key=lambda order: max(order.early, order.late))
+        self._lemmas: Dict[int, List[Lemma]] = {}
+        self._paths: Dict[int, Tuple[int, ...]] = {}
+
+    def _key(self, order: Order, numbers: Sequence[int]) -> Tuple[Hashable, ...]:
+        time = self.graph.time
+        apart = time[order.late] - time[order.early]
+        return order.name, order.rule, numbers[order.early], numbers[order.late], apart, order.early_place, order.late_place
+
+    def bounds(self, ends: Ends, earliest: Sequence[int], last: int) -> Dict[Place, List[Entry]]:
+        """The classes of each place and rule with their bounds, of orders whose early event is nominally before `last`.
+
+        `earliest` has the least time of each event.
+        """
+        self._ends, self._earliest = ends, earliest
+        self._latest = self._latest_roots(ends.high)
+        found: Dict[Place, List[Entry]] = {}
+        self._bound_races(found, last)
+        nothing: Dict[int, List[Lemma]] = {}
+        for members in self._classes.values():
+            chosen = [order for order in members if self.graph.time[order.early] < last]
+            if chosen:
+                self._bound_class(found, chosen, nothing)
+        return found
+
+    def _latest_roots(self, high: Sequence[int]) -> Dict[int, int]:
+        """The greatest times of the origin and of the events of stimuli."""
+        latest = {0: 0}
+        for event, root in enumerate(self.graph.root):
+            if root and event:
+                latest[event] = latest[self.graph.causes[event][0][0]] + high[self.graph.delay[event]]
+        return latest
+
+    def _bound_class(self, found: Dict[Place, List[Entry]], members: Sequence[Order], nothing: Dict[int, List[Lemma]]) -> None:
+        place = members[0].place
+        margin, path, _ = self._window(members[0], SHORT, nothing)
+        if margin > 0:
+            found.setdefault(place, []).append(Entry(margin, path, members))
+            return
+        longer: Dict[Hashable, List[Order]] = {}
+        for order in members:
+            longer.setdefault(self._key(order, self._numbers.long), []).append(order)
+        for those in longer.values():
+            margin, path, _ = self._window(those[0], LONG, nothing)
+            found.setdefault(place, []).append(Entry(margin, path, those))
+
+    def _bound_races(self, found: Dict[Place, List[Entry]], last: int) -> None:
+        self._lemmas, self._paths = {}, {}
+        known: Dict[Hashable, Tuple[int, Tuple[int, ...], List[Order]]] = {}
+        low, high = self._ends
+        for order in self._races:
+            if self.graph.time[order.early] >= last:
+                continue
+            near, behind = self._behind(order.early)
+            key = (*self._key(order, self._numbers.long), behind)
+            if key not in known:
+                margin, path, met = self._window(order, LONG, near)
+                known[key] = margin, path + self._paths.get(met, ()), []
+            margin, path, members = known[key]
+            members.append(order)
+            later = -margin - order.slack - high[order.early_place] + low[order.late_place]
+            self._lemmas.setdefault(order.early, []).append((order.late, later))
+            self._paths.setdefault(order.early, path)
+        for margin, path, members in known.values():
+            found.setdefault(members[0].place, []).append(Entry(margin, path, members))
+
+    def _behind(self, event: int) -> Tuple[Dict[int, List[Lemma]], Hashable]:
+        """The lemmas that the window of a race may use, those of the data behind its early event, and what they are, as a part of the class's key."""
+        graph, time = self.graph, self.graph.time
+        near: Dict[int, List[Lemma]] = {}
+        key: List[Hashable] = []
+        queue = [(cause, 1) for cause, _ in graph.causes[event]]
+        for cause, steps in queue:
+            if steps >= 2 and cause in self._lemmas:
+                near[cause] = self._lemmas[cause]
+                key.append((steps, time[event] - time[cause], graph.wire[cause], *[(later, time[other] - time[cause], graph.wire[other]) for other, later in near[cause]]))
+            elif steps < _BEHIND:
+                queue += [(before, steps + 1) for before, _ in graph.causes[cause]]
+        return near, tuple(key)
+
+    def _window(self, order: Order, depth: int, lemmas: Dict[int, List[Lemma]]) -> Tuple[int, Tuple[int, ...], int]:
+        """The bound of a margin, its path, and the event at which the path meets a lemma, or -1."""
+        graph, (low, high) = self.graph, self._ends
+        causes, delay = graph.causes, graph.delay
+        inside, edge = self._inside(order, depth, lemmas)
+        to_late = {order.late: 0}
+        for event in inside:
+            longest = to_late.get(event)
+            if longest is not None:
+                longest += low[delay[event]]
+                for cause, place in causes[event]:
+                    length = longest + low[place]
+                    if length > to_late.get(cause, -1):
+                        to_late[cause] = length
+        latest = {event: self._at_edge(event, order, to_late, lemmas) for event in edge}
+        back: Dict[int, Tuple[int, int]] = {}
+        for event in reversed(inside):
+            best, chosen = -_FAR, (0, 0)
+            for cause, place in causes[event]:
+                time = latest[cause] + high[place]
+                if time > best:
+                    best, chosen = time, (cause, place)
+            best += high[delay[event]]
+            bounded = to_late.get(event)
+            if bounded is not None and -bounded < best:
+                best = -bounded
+            else:
+                back[event] = chosen
+            latest[event] = best
+        if latest[order.early] > _FAR // 2:
+            bound = separation(graph, order, self._ends)
+            return bound.margin, bound.path, -1
+        margin = -(latest[order.early] + high[order.early_place] - low[order.late_place] + order.slack)
+        path, event = [order.early_place], order.early
+        while event in back:
+            path.append(delay[event])
+            event, place = back[event]
+            path.append(place)
+        return margin, tuple([place for place in path if place]), event if event in lemmas else -1
+
+    def _inside(self, order: Order, depth: int, lemmas: Dict[int, List[Lemma]]) -> Tuple[List[int], List[int]]:
+        """The events of a window, the later ones first, and those at its edge."""
+        root, causes = self.graph.root, self.graph.causes
+        level = {order.late: 0, order.early: 0}
+        queue, inside, edge = [order.late, order.early], [], []
+        if order.late == order.early:
+            queue.pop()
+        for event in queue:
+            steps = level[event]
+            if steps == depth or root[event] or (steps >= 2 and event in lemmas):
+                edge.append(event)
+                continue
+            inside.append(event)
+            for cause, _ in causes[event]:
+                if cause not in level:
+                    level[cause] = steps + 1
+                    queue.append(cause)
+        inside.sort(reverse=True)
+        return inside, edge
+
+    def _at_edge(self, event: int, order: Order, to_late: Dict[int, int], lemmas: Dict[int, List[Lemma]]) -> int:
+        """By how much an event at the edge of a window can be later than the late one."""
+        latest = -to_late[event] if event in to_late else _FAR
+        if self.graph.root[event]:
+            latest = min(latest, self._latest[event] - self._earliest[order.late])
+        for other, later in lemmas.get(event, ()):
+            if other in to_late:
+                latest = min(latest, later - to_late[other])
+        return latest
