@@ -23,7 +23,7 @@ class Bound(NamedTuple):
     """`margin` is at least this. `path` has the delays of the path that makes it, each as often as it stands there. `whole` says that no part of the
     run was cut off."""
 
-    margin: int
+    margin: float
     path: Tuple[int, ...]
     whole: bool
 
@@ -31,17 +31,17 @@ class Bound(NamedTuple):
 class Ends(NamedTuple):
     """The low and the high ends of delays, by place."""
 
-    low: Sequence[int]
-    high: Sequence[int]
+    low: Sequence[float]
+    high: Sequence[float]
 
 
 class _Cone:
     """The events behind two others, the later numbers first, up to a number of them."""
 
-    def __init__(self, graph: Graph, order: Order, low: Sequence[int], most: Optional[int]) -> None:
+    def __init__(self, graph: Graph, order: Order, low: Sequence[float], most: Optional[int]) -> None:
         self.graph, self.low = graph, low
         # the longest path to the late event, and whether the early one is behind an event
-        self.to_late: Dict[int, int] = {order.late: 0}
+        self.to_late: Dict[int, float] = {order.late: 0}
         self.to_early: Set[int] = {order.early}
         self.inside: List[int] = []
         self._left = sorted({-order.late, -order.early})
@@ -73,7 +73,7 @@ class _Cone:
 def separation(graph: Graph, order: Order, ends: Ends, most: Optional[int] = None) -> Bound:
     """The least margin of an order over the ranges, of a sweep over all events behind it, or over the last `most` of them."""
     cone = _Cone(graph, order, ends.low, most)
-    latest: Dict[int, int] = {event: -cone.to_late[event] for event in cone.cut if event in cone.to_early}
+    latest: Dict[int, float] = {event: -cone.to_late[event] for event in cone.cut if event in cone.to_early}
     back: Dict[int, Cause] = {}
     high, delay, causes = ends.high, graph.delay, graph.causes
     for event in reversed(cone.inside):

@@ -32,6 +32,10 @@ class Timing:
         self.scale: Scale = scale_for(netlist, widest, until)
         self.horizon = self.scale.horizon(widest)
         self.corner = widest.corner
+        self.places: Dict[Tuple[str, int, bool], int] = {}
+        for place, delay in enumerate(self.delays, 1):
+            self.places[delay.module, delay.port, delay.is_input] = place
+        self.nominal = [0, *(delay.nominal * self.scale.units for delay in self.delays)]
         self.setups = {bundle.name: bundle.setup * self.scale.units for bundle in netlist.known_bundles.values()}
         with Session(self.text(self.horizon), netlist.program) as session:
             self.check: Check = session.check()
@@ -49,10 +53,6 @@ class Timing:
     def unfold(self) -> None:
         """Makes the graph, its orders and their classes. `Unfoldable` if there is no graph."""
         assert self._waves is not None
-        self.places: Dict[Tuple[str, int, bool], int] = {}
-        for place, delay in enumerate(self.delays, 1):
-            self.places[delay.module, delay.port, delay.is_input] = place
-        self.nominal = [0, *(delay.nominal * self.units for delay in self.delays)]
         run = Run(self.netlist, self._waves, self.places, self.units)
         if run.count > MOST_EVENTS:
             raise Unfoldable("run", "has too many events")
@@ -125,4 +125,8 @@ class Timing:
     def delay_at(self, place: int) -> Delay:
         """The delay of a place that varies."""
         return self.delays[place - 1]
+
+    def place_of(self, module: str, port: int, is_input: bool) -> int:
+        """The place of a port's delay; `NONE` if it doesn't vary."""
+        return self.places.get((module, port, is_input), NONE)
 

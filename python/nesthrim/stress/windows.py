@@ -22,13 +22,14 @@ RACES = ("setup", "data-after-capture")
 _FAR = 1 << 60
 
 # what a lemma says of an event: it is at most so much later than another one
-Lemma = Tuple[int, int]
+Lemma = Tuple[int, float]
+Lemmas = Dict[int, List[Lemma]]
 
 
 class Entry(NamedTuple):
     """A class of orders with the bound of its margin."""
 
-    margin: int
+    margin: float
     path: Tuple[int, ...]
     members: Sequence[Order]
 
@@ -52,16 +53,15 @@ class Structures:
 
 
 def _next(graph: Graph, own: Sequence[int], before: Sequence[int]) -> List[int]:
-    numbers: Dict[Hashable, int] = {}
-    found = []
-    for event, causes in enumerate(graph.causes):
-        if len(causes) == 1 and not graph.root[event]:
-            key: Hashable = (own[event], before[causes[0][0]])
-        elif graph.root[event]:
-            key = own[event]
-        else:
-            key = (own[event], *[before[cause] for cause, _ in causes])
-        found.append(numbers.setdefault(key, len(numbers)))
+    """The numbers one step further back."""
+    numbers: Dict[int, int] = {}
+    found, base = [], len(own) + 1
+    for number, root, causes in zip(own, graph.root, graph.causes):
+        # (a number for each row of numbers below the base)
+        if not root:
+            for cause, _ in causes:
+                number = number * base + before[cause] + 1
+        found.append(numbers.setdefault(number, len(numbers)))
     return found
 
 
@@ -78,7 +78,7 @@ class Windows:
                 self._classes.setdefault(self._key(order, self._numbers.short), []).append(order)
         for members in self._classes.values():
             members.sort(key=lambda order: max(order.early, order.late))
-        self._lemmas: Dict[int, List[Lemma]] = {}
+        self._lemmas: Lemmas = {}
         self._paths: Dict[int, Tuple[int, ...]] = {}
 
     def _key(self, order: Order, numbers: Sequence[int]) -> Tuple[Hashable, ...]:
@@ -95,24 +95,30 @@ class Windows:
         self._latest = self._latest_roots(ends.high)
         found: Dict[Place, List[Entry]] = {}
         self._bound_races(found, last)
-        nothing: Dict[int, List[Lemma]] = {}
+        nothing: Lemmas = {}
         for members in self._classes.values():
             chosen = [order for order in members if self.graph.time[order.early] < last]
             if chosen:
                 self._bound_class(found, chosen, nothing)
         return found
 
-    def _latest_roots(self, high: Sequence[int]) -> Dict[int, int]:
+    def bound_in(self, order: Order, ends: Ends) -> Tuple[float, Tuple[int, ...]]:
+        """The bound of an order in its long window for narrower ends than those of `bounds`, and its path."""
+        lemmas = self._behind(order.early)[0] if order.rule in RACES else {}
+        margin, path, met = self._window(order, LONG, lemmas, ends)
+        return margin, path + self._paths.get(met, ())
+
+    def _latest_roots(self, high: Sequence[float]) -> Dict[int, float]:
         """The greatest times of the origin and of the events of stimuli."""
-        latest = {0: 0}
+        latest: Dict[int, float] = {0: 0}
         for event, root in enumerate(self.graph.root):
             if root and event:
                 latest[event] = latest[self.graph.causes[event][0][0]] + high[self.graph.delay[event]]
         return latest
 
-    def _bound_class(self, found: Dict[Place, List[Entry]], members: Sequence[Order], nothing: Dict[int, List[Lemma]]) -> None:
+    def _bound_class(self, found: Dict[Place, List[Entry]], members: Sequence[Order], nothing: Lemmas) -> None:
         place = members[0].place
-        margin, path, _ = self._window(members[0], SHORT, nothing)
+        margin, path, _ = self._window(members[0], SHORT, nothing, self._ends)
         if margin > 0:
             found.setdefault(place, []).append(Entry(margin, path, members))
             return
@@ -120,12 +126,12 @@ class Windows:
         for order in members:
             longer.setdefault(self._key(order, self._numbers.long), []).append(order)
         for those in longer.values():
-            margin, path, _ = self._window(those[0], LONG, nothing)
+            margin, path, _ = self._window(those[0], LONG, nothing, self._ends)
             found.setdefault(place, []).append(Entry(margin, path, those))
 
     def _bound_races(self, found: Dict[Place, List[Entry]], last: int) -> None:
         self._lemmas, self._paths = {}, {}
-        known: Dict[Hashable, Tuple[int, Tuple[int, ...], List[Order]]] = {}
+        known: Dict[Hashable, Tuple[float, Tuple[int, ...], List[Order]]] = {}
         low, high = self._ends
         for order in self._races:
             if self.graph.time[order.early] >= last:
@@ -133,7 +139,7 @@ class Windows:
             near, behind = self._behind(order.early)
             key = (*self._key(order, self._numbers.long), behind)
             if key not in known:
-                margin, path, met = self._window(order, LONG, near)
+                margin, path, met = self._window(order, LONG, near, self._ends)
                 known[key] = margin, path + self._paths.get(met, ()), []
             margin, path, members = known[key]
             members.append(order)
@@ -143,10 +149,10 @@ class Windows:
         for margin, path, members in known.values():
             found.setdefault(members[0].place, []).append(Entry(margin, path, members))
 
-    def _behind(self, event: int) -> Tuple[Dict[int, List[Lemma]], Hashable]:
+    def _behind(self, event: int) -> Tuple[Lemmas, Hashable]:
         """The lemmas that the window of a race may use, those of the data behind its early event, and what they are, as a part of the class's key."""
         graph, time = self.graph, self.graph.time
-        near: Dict[int, List[Lemma]] = {}
+        near: Lemmas = {}
         key: List[Hashable] = []
         queue = [(cause, 1) for cause, _ in graph.causes[event]]
         for cause, steps in queue:
@@ -157,12 +163,12 @@ class Windows:
                 queue += [(before, steps + 1) for before, _ in graph.causes[cause]]
         return near, tuple(key)
 
-    def _window(self, order: Order, depth: int, lemmas: Dict[int, List[Lemma]]) -> Tuple[int, Tuple[int, ...], int]:
+    def _window(self, order: Order, depth: int, lemmas: Lemmas, ends: Ends) -> Tuple[float, Tuple[int, ...], int]:
         """The bound of a margin, its path, and the event at which the path meets a lemma, or -1."""
-        graph, (low, high) = self.graph, self._ends
+        graph, (low, high) = self.graph, ends
         causes, delay = graph.causes, graph.delay
         inside, edge = self._inside(order, depth, lemmas)
-        to_late = {order.late: 0}
+        to_late: Dict[int, float] = {order.late: 0}
         for event in inside:
             longest = to_late.get(event)
             if longest is not None:
@@ -174,7 +180,7 @@ class Windows:
         latest = {event: self._at_edge(event, order, to_late, lemmas) for event in edge}
         back: Dict[int, Tuple[int, int]] = {}
         for event in reversed(inside):
-            best, chosen = -_FAR, (0, 0)
+            best, chosen = float(-_FAR), (0, 0)
             for cause, place in causes[event]:
                 time = latest[cause] + high[place]
                 if time > best:
@@ -186,8 +192,8 @@ class Windows:
             else:
                 back[event] = chosen
             latest[event] = best
-        if latest[order.early] > _FAR // 2:
-            bound = separation(graph, order, self._ends)
+        if latest[order.early] > _FAR // 2 and order.rule in RACES:
+            bound = separation(graph, order, ends)
             return bound.margin, bound.path, -1
         margin = -(latest[order.early] + high[order.early_place] - low[order.late_place] + order.slack)
         path, event = [order.early_place], order.early
@@ -197,7 +203,7 @@ class Windows:
             path.append(place)
         return margin, tuple([place for place in path if place]), event if event in lemmas else -1
 
-    def _inside(self, order: Order, depth: int, lemmas: Dict[int, List[Lemma]]) -> Tuple[List[int], List[int]]:
+    def _inside(self, order: Order, depth: int, lemmas: Lemmas) -> Tuple[List[int], List[int]]:
         """The events of a window, the later ones first, and those at its edge."""
         root, causes = self.graph.root, self.graph.causes
         level = {order.late: 0, order.early: 0}
@@ -217,9 +223,9 @@ class Windows:
         inside.sort(reverse=True)
         return inside, edge
 
-    def _at_edge(self, event: int, order: Order, to_late: Dict[int, int], lemmas: Dict[int, List[Lemma]]) -> int:
+    def _at_edge(self, event: int, order: Order, to_late: Dict[int, float], lemmas: Lemmas) -> float:
         """By how much an event at the edge of a window can be later than the late one."""
-        latest = -to_late[event] if event in to_late else _FAR
+        latest = -to_late[event] if event in to_late else float(_FAR)
         if self.graph.root[event]:
             latest = min(latest, self._latest[event] - self._earliest[order.late])
         for other, later in lemmas.get(event, ()):

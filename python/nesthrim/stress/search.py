@@ -1,0 +1,78 @@
+"""Points of the ranges at which an order has a small margin: the corner of the path that makes its bound, followed along the critical chains."""
+
+from __future__ import annotations
+
+from typing import Dict, List, NamedTuple, Sequence, Tuple
+
+from .graph import Graph
+from .orders import Order
+from .space import Point, Space
+
+_ROUNDS = 12
+
+
+class Reached(NamedTuple):
+    """A margin, in finer units, and the delays at which an order has it."""
+
+    margin: int
+    point: Point
+
+
+def chains(graph: Graph, order: Order, times: Sequence[int], delays: Sequence[int]) -> Tuple[List[int], List[int], int]:
+    """The critical chains of both events of an order, back to the last event that both have, which isn't in them, and that event."""
+    early, late, of_early, of_late = order.early, order.late, [], []
+    while early != late:
+        if early > late:
+            of_early.append(early)
+            early = graph.last_cause(early, times, delays)[0]
+        else:
+            of_late.append(late)
+            late = graph.last_cause(late, times, delays)[0]
+    return of_early, of_late, early
+
+
+def weights(graph: Graph, order: Order, times: Sequence[int], delays: Sequence[int]) -> Dict[int, int]:
+    """How much more often each delay stands on the critical chain of the early event than on that of the late one."""
+    of_early, of_late, _ = chains(graph, order, times, delays)
+    found = {order.early_place: 1}
+    found[order.late_place] = found.get(order.late_place, 0) - 1
+    for chain, sign in ((of_early, 1), (of_late, -1)):
+        for event in chain:
+            for place in (graph.delay[event], graph.last_cause(event, times, delays)[1]):
+                found[place] = found.get(place, 0) + sign
+    found.pop(0, None)
+    return found
+
+
+def margin_at(graph: Graph, order: Order, point: Point) -> int:
+    """The margin of an order at a point."""
+    return order.margin(graph.times(point, max(order.early, order.late)), point)
+
+
+def descend(space: Space, order: Order, path: Sequence[int], bound: int) -> Reached:
+    """The least margin that is found from the corner of a path on; one that isn't above `bound` is the least of all."""
+    count: Dict[int, int] = {}
+    for place in path:
+        count[place] = count.get(place, 0) + 1
+    best = Reached(margin_at(space.timing.graph, order, space.nominal), space.nominal)
+    for factor in space.factors:
+        best = min(best, _follow(space, order, space.corner(count, factor), factor, bound))
+        if best.margin <= bound:
+            break
+    return best
+
+
+def _follow(space: Space, order: Order, point: Point, factor: float, bound: int) -> Reached:
+    graph = space.timing.graph
+    best = None
+    for _ in range(_ROUNDS):
+        times = graph.times(point, max(order.early, order.late))
+        margin = order.margin(times, point)
+        if best is not None and margin >= best.margin:
+            break
+        best = Reached(margin, point)
+        if margin <= bound:
+            break
+        point = space.moved(point, weights(graph, order, times, point), factor)
+    assert best is not None
+    return best
