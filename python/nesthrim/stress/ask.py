@@ -4,11 +4,12 @@ from __future__ import annotations
 
 from typing import TYPE_CHECKING, Dict, List, Optional
 
-from .answer import Limit, Moved, Stress, Worst
+from .answer import BundleStress, Limit, Moved, Stress, Worst
 from .confirm import Fault, Runs, moved
 from .delays import Ranges, Spread
 from .graph import Unfoldable
 from .judge import Judge, Tell, Verdict
+from .margins import Margins
 from .refine import Deadline, until
 from .samples import sampled
 from .scale import UNITS
@@ -126,11 +127,19 @@ class _Answer:
             if not self.timing.check.ok:
                 return self._broken()
             worst = self._worst(found.fault) if found and found.fault else None
-        bundles = self.judge.bundles() if self.judge else []
+        bundles = self._bundles()
         left = self.judge.open_orders(found.undecided) if self.judge and found else []
         verdict = "nothing found" if found is None else _word(found)
         until_time, units = self.question.netlist.horizon, self.timing.units
         return Stress(verdict, self.spread.percent, until_time, tuple(bundles), tuple(left), worst, "", self.runs.count, units, tuple(self.notes))
+
+    def _bundles(self) -> List[BundleStress]:
+        if self.judge is None:
+            return []
+        self.question.tell("bounds the margins of bundles")
+        margins = Margins(self.judge)
+        margins.sharpen()
+        return margins.known()
 
     def _broken(self) -> Stress:
         check = self.question.netlist.check()

@@ -11,10 +11,12 @@ The graph is the run as long as the order constraints of `orders` hold.
 from __future__ import annotations
 
 from dataclasses import dataclass, field
-from typing import Dict, List, Optional, Sequence, Tuple
+from typing import Dict, List, Optional, Sequence, Tuple, TypeVar
 
 # an event, and the place of the delay of the input that it reaches
 Cause = Tuple[int, int]
+
+Time = TypeVar("Time", int, float)
 
 # the place of a delay that is 0 and doesn't vary
 NONE = 0
@@ -57,9 +59,9 @@ class Graph:
         """The wire that changes; `None` for the origin."""
         return self.wires[self.wire[event]] if event else None
 
-    def times(self, delays: Sequence[int], last: Optional[int] = None) -> List[int]:
+    def times(self, delays: Sequence[Time], last: Optional[int] = None) -> List[Time]:
         """The times of the events up to `last`, or of all, for given delays by place."""
-        found = [0]
+        found: List[Time] = [delays[NONE]]
         add = found.append
         stop = len(self.time) if last is None else last + 1
         for delay, causes in zip(self.delay[1:stop], self.causes[1:stop]):

@@ -3,9 +3,9 @@
 from __future__ import annotations
 
 from dataclasses import dataclass
-from typing import Callable, Dict, List, NamedTuple, Optional, Sequence, Tuple
+from typing import Callable, Dict, List, NamedTuple, Optional, Sequence, Set, Tuple
 
-from .answer import BundleStress, OpenOrder
+from .answer import OpenOrder
 from .confirm import Fault, Runs
 from .delays import Ranges, Spread
 from .orders import Order, Place
@@ -51,10 +51,11 @@ class Judge:
     def __init__(self, timing: Timing, spread: Spread, runs: Runs, over: Deadline, tell: Tell, each: bool = False) -> None:
         self.timing, self.spread, self.runs, self.tell, self.each = timing, spread, runs, tell, each
         self.space = Space(timing, Ranges(timing.netlist, timing.delays, spread, timing.units))
-        self.refiner = Refiner(self.space, over)
-        earliest = timing.graph.times(self.space.ends.low)
+        self.refiner, self.over = Refiner(self.space, over), over
+        earliest = timing.graph.times(list(self.space.ends.low))
         self.entries = timing.windows.bounds(self.space.ends, earliest, timing.last(spread))
-        self._closed: Dict[Place, float] = {}
+        # places whose orders were shown to hold though their windows' bounds didn't
+        self.closed: Set[Place] = set()
 
     # ---- the verdict
 
@@ -67,7 +68,7 @@ class Judge:
             if bound > 0:
                 break
             self.tell(f"looks for a fault at {place[0]} {place[1]}")
-            found = self._try(min(self.entries[place], key=lambda entry: entry.margin))
+            found = self.try_class(min(self.entries[place], key=lambda entry: entry.margin))
             reached[place] = found
             fault = self.runs.fault(found.reached.point) if found.reached.margin <= 0 else None
             if fault is not None and fault.lines:
@@ -77,7 +78,7 @@ class Judge:
             return Verdict(differs, [])
         return self._close([place for bound, place in weak if bound <= 0], reached)
 
-    def _try(self, entry: Entry) -> Undecided:
+    def try_class(self, entry: Entry) -> Undecided:
         """The least margin that is found for a class."""
         order = self.timing.real(entry.members[0])
         bound = self.timing.real_margin(entry.members[0], entry.margin)
@@ -96,7 +97,7 @@ class Judge:
                 return Verdict(fault, [])
             undecided += left[:1]
             if not left:
-                self._closed[place] = 0
+                self.closed.add(place)
         return Verdict(None, undecided)
 
     def _close_place(self, entries: Sequence[Entry]) -> Tuple[Optional[Fault], List[Undecided]]:
@@ -105,7 +106,7 @@ class Judge:
         left = self.refiner.deepen(left, 0)
         undecided: List[Undecided] = []
         for number, entry in enumerate(sorted(left, key=lambda entry: entry.margin)):
-            found = self._try(entry) if number < _TRIED or self.each else None
+            found = self.try_class(entry) if number < _TRIED or self.each else None
             if found is None or (found.reached.margin > 0 and not self.each):
                 closed = self._branch(entry)
                 if closed.bound > 0:
@@ -129,49 +130,11 @@ class Judge:
         """What is known of an order after branch and bound."""
         order = entry.members[0]
         known = [each for each in (closed.reached, found.reached if found else None) if each is not None]
-        best = min(known) if known else self._try(entry).reached
+        best = min(known) if known else self.try_class(entry).reached
         return Undecided(self.timing.real(order), self.timing.real_margin(order, closed.bound), best)
 
-    # ---- margins of bundles
-
-    def bundles(self) -> List[BundleStress]:
-        """The margins of all bundles."""
-        nominal: Dict[str, int] = {}
-        graph, last = self.timing.graph, self.timing.last(self.spread)
-        for order in self.timing.orders:
-            if order.rule == "setup" and graph.time[order.early] < last:
-                margin = order.margin(graph.time, self.timing.nominal)
-                nominal[order.name] = min(margin, nominal.get(order.name, margin))
-        found = []
-        for name in self.timing.netlist.known_bundles:
-            self.tell(f"bounds the margin of {name}")
-            found.append(self._bundle(name, nominal.get(name)))
-        return found
-
-    def _bundle(self, name: str, nominal: Optional[int]) -> BundleStress:
-        entries = self.entries.get((name, "setup"))
-        if nominal is None or not entries:
-            return BundleStress(name, None, None, None)
-        bound, reached = self._tightened(entries)
-        units = self.timing.units
-        least = max(bound, self._closed.get((name, "setup"), bound))
-        return BundleStress(name, nominal / units, reached / units, min(least, reached) / units)
-
-    def _tightened(self, entries: Sequence[Entry]) -> Tuple[float, float]:
-        """The least bound of a bundle's margin and the least margin that is found."""
-        first = self._try(min(entries, key=lambda entry: entry.margin))
-        bound, reached = first.bound, float(first.reached.margin)
-        if bound >= reached or self.each:
-            return self._real(entries), reached if not self.each else self._real(entries)
-        left = self.refiner.deepen([entry for entry in entries if self._bound_of(entry) < reached], reached)
-        for entry in left[:_TRIED]:
-            reached = min(reached, self._try(entry).reached.margin)
-        return min([self._bound_of(entry) for entry in left], default=reached), reached
-
-    def _real(self, entries: Sequence[Entry]) -> float:
-        return min(self._bound_of(entry) for entry in entries)
-
-    def _bound_of(self, entry: Entry) -> float:
+    def bound_of(self, entry: Entry) -> float:
+        """The bound of a class, in finer units."""
         return self.timing.real_margin(entry.members[0], entry.margin)
 
     # ---- what is open

@@ -67,10 +67,10 @@ class Refiner:
 
     # ---- longer windows
 
-    def deepen(self, entries: Sequence[Entry], goal: float) -> List[Entry]:
+    def deepen(self, entries: Sequence[Entry], goal: float, steps: int = len(WINDOWS)) -> List[Entry]:
         """The orders of classes whose bounds aren't above `goal` in longer and longer windows, each by itself."""
         left = list(entries)
-        for size in WINDOWS:
+        for size in WINDOWS[:steps]:
             sharper: List[Entry] = []
             for number, entry in enumerate(left):
                 if self.over():

@@ -8,6 +8,7 @@ from .graph import Graph
 from .orders import Order
 from .space import Point, Space
 
+# how often a point is moved
 _ROUNDS = 12
 
 
@@ -44,17 +45,13 @@ def weights(graph: Graph, order: Order, times: Sequence[int], delays: Sequence[i
     return found
 
 
-def margin_at(graph: Graph, order: Order, point: Point) -> int:
-    """The margin of an order at a point."""
-    return order.margin(graph.times(point, max(order.early, order.late)), point)
-
-
-def descend(space: Space, order: Order, path: Sequence[int], bound: int) -> Reached:
+def descend(space: Space, order: Order, path: Sequence[int], bound: float) -> Reached:
     """The least margin that is found from the corner of a path on; one that isn't above `bound` is the least of all."""
     count: Dict[int, int] = {}
     for place in path:
         count[place] = count.get(place, 0) + 1
-    best = Reached(margin_at(space.timing.graph, order, space.nominal), space.nominal)
+    graph = space.timing.graph
+    best = Reached(order.margin(graph.time, space.nominal), space.nominal)
     for factor in space.factors:
         best = min(best, _follow(space, order, space.corner(count, factor), factor, bound))
         if best.margin <= bound:
@@ -62,7 +59,7 @@ def descend(space: Space, order: Order, path: Sequence[int], bound: int) -> Reac
     return best
 
 
-def _follow(space: Space, order: Order, point: Point, factor: float, bound: int) -> Reached:
+def _follow(space: Space, order: Order, point: Point, factor: float, bound: float) -> Reached:
     graph = space.timing.graph
     best = None
     for _ in range(_ROUNDS):

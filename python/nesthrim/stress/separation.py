@@ -46,27 +46,29 @@ class _Cone:
         self.inside: List[int] = []
         self._left = sorted({-order.late, -order.early})
         self._seen = {order.late, order.early}
-        while self._left and not (most is not None and len(self.inside) >= most and self._may_end()):
+        # how many events that aren't taken yet are behind the early one, and not behind the late one, which would bound them
+        self._loose = 0 if order.early == order.late else 1
+        while self._left and not (most is not None and len(self.inside) >= most and not self._loose):
             self._take(-heapq.heappop(self._left))
         self.cut = [-event for event in self._left]
 
-    def _may_end(self) -> bool:
-        """Whether each event that is cut off and behind the early one is behind the late one too, which bounds it."""
-        return all(-event in self.to_late or -event not in self.to_early for event in self._left)
-
     def _take(self, event: int) -> None:
         self.inside.append(event)
-        longest, early, low = self.to_late.get(event), event in self.to_early, self.low
+        low, to_late, to_early, seen = self.low, self.to_late, self.to_early, self._seen
+        longest, early = to_late.get(event), event in to_early
+        self._loose -= early and longest is None
         own = low[self.graph.delay[event]]
         for cause, place in self.graph.causes[event]:
+            was_loose = cause in to_early and cause not in to_late
             if longest is not None:
                 length = longest + own + low[place]
-                if length > self.to_late.get(cause, -1):
-                    self.to_late[cause] = length
+                if length > to_late.get(cause, -1):
+                    to_late[cause] = length
             if early:
-                self.to_early.add(cause)
-            if cause not in self._seen:
-                self._seen.add(cause)
+                to_early.add(cause)
+            self._loose += (cause in to_early and cause not in to_late) - was_loose
+            if cause not in seen:
+                seen.add(cause)
                 heapq.heappush(self._left, -cause)
 
 

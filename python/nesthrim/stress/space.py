@@ -47,18 +47,18 @@ class Space:
     def _scaled(self, places: Iterable[int], own: float, factor: float) -> Tuple[int, ...]:
         return tuple(self._at(place, min(max(round(self.nominal[place] * own), self.ends.low[place]), self.ends.high[place]), factor) for place in places)
 
-    def _at(self, place: int, value: int, factor: float) -> int:
+    def _at(self, place: int, value: float, factor: float) -> int:
         if factor == 100:
-            return value
+            return round(value)
         return max(0 if self.timing.delay_at(place).is_input else 1, round(value * factor / 100))
 
-    def corner(self, weights: Mapping[int, int], factor: float = 100, others_high: bool = False) -> Point:
+    def corner(self, weights: Mapping[int, int], factor: float) -> Point:
         """The point at which each unit is at its high end if its delays have a positive weight, by place, and at its low one if not."""
         point = list(self.nominal)
         sums = self.sums(weights)
         for unit, places in enumerate(self.units):
             low, high = self.ends_of(unit, factor)
-            for place, value in zip(places, high if sums.get(unit, others_high) > 0 else low):
+            for place, value in zip(places, high if sums.get(unit, 0) > 0 else low):
                 point[place] = value
         return tuple(point)
 

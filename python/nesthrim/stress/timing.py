@@ -105,7 +105,7 @@ class Timing:
         """An order of `in_corner` in times as they are."""
         return order._replace(slack=self.setups[order.name]) if order.rule == "setup" else order
 
-    def real_margin(self, order: Order, margin: int) -> float:
+    def real_margin(self, order: Order, margin: float) -> float:
         """The least margin, in finer units, that a bound of `in_corner` stands for."""
         apart = margin + order.slack
         slack = self.real(order).slack

@@ -86,7 +86,7 @@ class Windows:
         apart = time[order.late] - time[order.early]
         return order.name, order.rule, numbers[order.early], numbers[order.late], apart, order.early_place, order.late_place
 
-    def bounds(self, ends: Ends, earliest: Sequence[int], last: int) -> Dict[Place, List[Entry]]:
+    def bounds(self, ends: Ends, earliest: Sequence[float], last: int) -> Dict[Place, List[Entry]]:
         """The classes of each place and rule with their bounds, of orders whose early event is nominally before `last`.
 
         `earliest` has the least time of each event.
