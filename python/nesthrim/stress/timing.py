@@ -61,6 +61,7 @@ class Timing:
 
     def _build(self, run: Run) -> None:
         changes, soft = Changes(run), settling_wires(run)
+        self.settling = soft
         run.number(soft)
         driven = {wire: (module, port, delay) for module, port, wire, delay in run.outputs()}
         for name, times in run.times.items():
