@@ -5,8 +5,10 @@ from __future__ import annotations
 from typing import TYPE_CHECKING, Mapping, Optional, Sequence, Tuple, cast
 
 from .stress.answer import Limit, Stress
-from .stress.ask import Question
+from .stress.ask import Question, say_nothing
 from .stress.delays import Spread
+from .stress.fit import Fit, fit
+from .stress.races import Races, races
 
 if TYPE_CHECKING:
     from .netlist import Netlist
@@ -53,6 +55,22 @@ class Stressed:
         """The greatest spread, in whole per cents and at most `most`, at which it works, and the least one at which it doesn't."""
         asked = Spread(0, dict(ranges or {}), together, corner)
         return Question(self._own(), asked, reading, seconds).limit(most)
+
+    def races(self) -> Races:
+        """For each bundle the transfer that tolerates least: both chains of delays from their last common cause, and the spread up to which it holds."""
+        return races(self._own())
+
+    def fit(
+        self,
+        spread: float = 10,
+        *,
+        ranges: Optional[Ranges] = None,
+        together: Groups = (),
+        corner: Tuple[float, float] = (100, 100),
+        seconds: float = 60,
+    ) -> Fit:
+        """A netlist whose matched delays, each a BUF that drives the request of a bundle, are lengthened until all bundles hold, and the price."""
+        return fit(self._own(), Spread(spread, dict(ranges or {}), together, corner), seconds, say_nothing)
 
     def _own(self) -> Netlist:
         return cast("Netlist", self)

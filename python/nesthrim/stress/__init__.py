@@ -12,5 +12,7 @@ from .answer import BundleStress, Limit, Moved, OpenOrder, Stress, Worst
 from .ask import Question
 from .confirm import Differs
 from .delays import Delay, Spread
+from .fit import Fit, Fitted
+from .races import Link, Race, Races
 
-__all__ = ["BundleStress", "Delay", "Differs", "Limit", "Moved", "OpenOrder", "Question", "Spread", "Stress", "Worst"]
+__all__ = ["BundleStress", "Delay", "Differs", "Fit", "Fitted", "Limit", "Link", "Moved", "OpenOrder", "Question", "Race", "Races", "Spread", "Stress", "Worst"]

@@ -2,6 +2,7 @@
 
 from __future__ import annotations
 
+import heapq
 from typing import Dict, List, NamedTuple, Sequence, Tuple
 
 from .graph import Graph
@@ -30,6 +31,36 @@ def chains(graph: Graph, order: Order, times: Sequence[int], delays: Sequence[in
             of_late.append(late)
             late = graph.last_cause(late, times, delays)[0]
     return of_early, of_late, early
+
+
+def nearest(graph: Graph, order: Order) -> Tuple[List[int], List[int], int]:
+    """As `chains`, in the nominal run. Where several causes decide together, those are followed that meet soonest."""
+    sides: Dict[int, int] = {order.early: 1}
+    sides[order.late] = sides.get(order.late, 0) | 2
+    effects: Dict[Tuple[int, int], int] = {}
+    left = [-event for event in sides]
+    heapq.heapify(left)
+    while sides[-left[0]] != 3:
+        event = -heapq.heappop(left)
+        decided = graph.time[event] - graph.nominal[graph.delay[event]]
+        for cause, place in graph.causes[event]:
+            if graph.time[cause] + graph.nominal[place] == decided:
+                if cause not in sides:
+                    heapq.heappush(left, -cause)
+                for side in (1, 2):
+                    if sides[event] & side:
+                        effects.setdefault((cause, side), event)
+                sides[cause] = sides.get(cause, 0) | sides[event]
+    common = -left[0]
+    return _way(effects, common, order.early, 1), _way(effects, common, order.late, 2), common
+
+
+def _way(effects: Dict[Tuple[int, int], int], event: int, last: int, side: int) -> List[int]:
+    way = []
+    while event != last:
+        event = effects[event, side]
+        way.append(event)
+    return way[::-1]
 
 
 def weights(graph: Graph, order: Order, times: Sequence[int], delays: Sequence[int]) -> Dict[int, int]:

@@ -8,9 +8,9 @@ Data never lead to control, and would go back to the source.
 
 from __future__ import annotations
 
-from typing import Dict, Hashable, List, NamedTuple, Sequence, Tuple
+from typing import Dict, Hashable, List, NamedTuple, Optional, Sequence, Tuple
 
-from .graph import Graph
+from .graph import Cause, Graph
 from .orders import Order, Place
 from .separation import Ends, separation
 
@@ -32,6 +32,16 @@ class Entry(NamedTuple):
     margin: float
     path: Tuple[int, ...]
     members: Sequence[Order]
+
+
+class Sweep(NamedTuple):
+    """What the sweep of a window gives: by how much the early event can be later than the late one; the longest ways from events to the late one; the next
+    event of such a way; and the cause that makes the bound of an event, each with the place of the input's delay."""
+
+    later: float
+    to_late: Dict[int, float]
+    effect: Dict[int, Cause]
+    back: Dict[int, Cause]
 
 
 class Structures:
@@ -79,12 +89,17 @@ class Windows:
         for members in self._classes.values():
             members.sort(key=lambda order: max(order.early, order.late))
         self._lemmas: Lemmas = {}
+        self._lemma_orders: Dict[Tuple[int, int], Order] = {}
         self._paths: Dict[int, Tuple[int, ...]] = {}
 
     def _key(self, order: Order, numbers: Sequence[int]) -> Tuple[Hashable, ...]:
         time = self.graph.time
         apart = time[order.late] - time[order.early]
         return order.name, order.rule, numbers[order.early], numbers[order.late], apart, order.early_place, order.late_place
+
+    def structure(self, order: Order) -> Hashable:
+        """What is the same for two orders whose events came about in the same way."""
+        return self._key(order, self._numbers.long)
 
     def bounds(self, ends: Ends, earliest: Sequence[float], last: int) -> Dict[Place, List[Entry]]:
         """The classes of each place and rule with their bounds, of orders whose early event is nominally before `last`.
@@ -130,7 +145,7 @@ class Windows:
             found.setdefault(place, []).append(Entry(margin, path, those))
 
     def _bound_races(self, found: Dict[Place, List[Entry]], last: int) -> None:
-        self._lemmas, self._paths = {}, {}
+        self._lemmas, self._lemma_orders, self._paths = {}, {}, {}
         known: Dict[Hashable, Tuple[float, Tuple[int, ...], List[Order]]] = {}
         low, high = self._ends
         for order in self._races:
@@ -145,6 +160,7 @@ class Windows:
             members.append(order)
             later = -margin - order.slack - high[order.early_place] + low[order.late_place]
             self._lemmas.setdefault(order.early, []).append((order.late, later))
+            self._lemma_orders[order.early, order.late] = order
             self._paths.setdefault(order.early, path)
         for margin, path, members in known.values():
             found.setdefault(members[0].place, []).append(Entry(margin, path, members))
@@ -165,10 +181,24 @@ class Windows:
 
     def _window(self, order: Order, depth: int, lemmas: Lemmas, ends: Ends) -> Tuple[float, Tuple[int, ...], int]:
         """The bound of a margin, its path, and the event at which the path meets a lemma, or -1."""
-        graph, (low, high) = self.graph, ends
-        causes, delay = graph.causes, graph.delay
+        latest, _, _, back = self._sweep(order, depth, lemmas, ends)
+        if latest > _FAR // 2 and order.rule in RACES:
+            bound = separation(self.graph, order, ends)
+            return bound.margin, bound.path, -1
+        margin = -(latest + ends.high[order.early_place] - ends.low[order.late_place] + order.slack)
+        path, event = [order.early_place], order.early
+        while event in back:
+            path.append(self.graph.delay[event])
+            event, place = back[event]
+            path.append(place)
+        return margin, tuple([place for place in path if place]), event if event in lemmas else -1
+
+    def _sweep(self, order: Order, depth: int, lemmas: Lemmas, ends: Ends) -> Sweep:
+        """The sweep of an order's window."""
+        causes, delay, (low, high) = self.graph.causes, self.graph.delay, ends
         inside, edge = self._inside(order, depth, lemmas)
         to_late: Dict[int, float] = {order.late: 0}
+        effect: Dict[int, Cause] = {}
         for event in inside:
             longest = to_late.get(event)
             if longest is not None:
@@ -177,8 +207,9 @@ class Windows:
                     length = longest + low[place]
                     if length > to_late.get(cause, -1):
                         to_late[cause] = length
+                        effect[cause] = event, place
         latest = {event: self._at_edge(event, order, to_late, lemmas) for event in edge}
-        back: Dict[int, Tuple[int, int]] = {}
+        back: Dict[int, Cause] = {}
         for event in reversed(inside):
             best, chosen = float(-_FAR), (0, 0)
             for cause, place in causes[event]:
@@ -187,21 +218,30 @@ class Windows:
                     best, chosen = time, (cause, place)
             best += high[delay[event]]
             bounded = to_late.get(event)
-            if bounded is not None and -bounded < best:
+            if bounded is not None and -bounded <= best:
                 best = -bounded
             else:
                 back[event] = chosen
             latest[event] = best
-        if latest[order.early] > _FAR // 2 and order.rule in RACES:
-            bound = separation(graph, order, ends)
-            return bound.margin, bound.path, -1
-        margin = -(latest[order.early] + high[order.early_place] - low[order.late_place] + order.slack)
-        path, event = [order.early_place], order.early
+        return Sweep(latest[order.early], to_late, effect, back)
+
+    def race(self, order: Order) -> Optional[Tuple[List[int], List[int], int]]:
+        """The events behind both events of a race that make its bound, the later ones first, and the last event that both have; `None` if that isn't in
+        a window."""
+        near = self._behind(order.early)[0]
+        _, to_late, effect, back = self._sweep(order, LONG, near, self._ends)
+        early, event = [], order.early
         while event in back:
-            path.append(delay[event])
-            event, place = back[event]
-            path.append(place)
-        return margin, tuple([place for place in path if place]), event if event in lemmas else -1
+            early.append(event)
+            event = back[event][0]
+        if event in to_late:
+            return early, _way(effect, event, order.late), event
+        known = [(later - to_late[other], other) for other, later in near.get(event, ()) if other in to_late]
+        if not known or self.graph.root[event]:
+            return None
+        other = min(known)[1]
+        more = self.race(self._lemma_orders[event, other])
+        return more and (early + more[0], _way(effect, other, order.late) + more[1], more[2])
 
     def _inside(self, order: Order, depth: int, lemmas: Lemmas) -> Tuple[List[int], List[int]]:
         """The events of a window, the later ones first, and those at its edge."""
@@ -232,3 +272,12 @@ class Windows:
             if other in to_late:
                 latest = min(latest, later - to_late[other])
         return latest
+
+
+def _way(effect: Dict[int, Cause], event: int, last: int) -> List[int]:
+    """The events on the longest way from an event, which isn't in it, to the last one, the later ones first."""
+    way = []
+    while event != last:
+        event = effect[event][0]
+        way.append(event)
+    return way[::-1]
