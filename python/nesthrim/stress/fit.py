@@ -11,7 +11,8 @@ from dataclasses import dataclass, replace
 from typing import TYPE_CHECKING, Dict, List, Optional, Set, Tuple
 
 from .answer import Stress, number
-from .ask import Question, Tell
+from .ask import Question
+from .judge import Tell
 from .delays import Spread
 
 if TYPE_CHECKING:
@@ -38,7 +39,7 @@ class Fit:
     """A netlist that was sized for a spread.
 
     `stress` is the answer for `netlist`: it holds, unless something else than a bundle's margin doesn't, or a request isn't driven by a BUF. `period` and
-    `period_before` are the mean gap of the slowest request in the second half of the run; `None` if no request comes twice there.
+    `period_before` are the mean gap of the slowest request in the second half of the run, or in all of it if none comes twice there; `None` if none does.
     """
 
     netlist: Netlist
@@ -147,9 +148,13 @@ def _named(check: str) -> Set[str]:
 
 def period_of(netlist: Netlist) -> Optional[float]:
     """The mean gap of the slowest request in the second half of the run."""
-    measure = netlist.measure(netlist.horizon // 2)
-    periods = [measure.wire(bundle.req).period for bundle in netlist.known_bundles.values()]
-    return max((period for period in periods if period is not None), default=None)
+    for start in (netlist.horizon // 2, 0):
+        measure = netlist.measure(start)
+        periods = [measure.wire(bundle.req).period for bundle in netlist.known_bundles.values()]
+        known = [period for period in periods if period is not None]
+        if known:
+            return max(known)
+    return None
 
 
 def fit(netlist: Netlist, spread: Spread, seconds: float, tell: Tell) -> Fit:
