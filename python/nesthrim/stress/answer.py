@@ -203,6 +203,8 @@ class Limit:
     @property
     def line(self) -> str:
         """What is known, in a line."""
+        if "interrupted" in self.at.notes and self.holds is not None:
+            return f"holds up to {self.holds} so far" + (f", and not known at {self.fails}" if self.fails is not None else "")
         if self.fails is None:
             return f"holds up to {self.holds}, the most that was asked"
         return f"holds up to {self.holds}, {self.at.verdict} at {self.fails}" if self.holds is not None else f"{self.at.verdict} at {self.fails}"

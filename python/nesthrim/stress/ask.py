@@ -2,11 +2,12 @@
 
 from __future__ import annotations
 
-from typing import TYPE_CHECKING, Dict, List, Optional
+from contextlib import contextmanager
+from typing import TYPE_CHECKING, Dict, Iterator, List, Optional
 
 from .answer import BundleStress, Limit, Moved, Stress, Worst
 from .confirm import Fault, Runs, moved
-from .delays import Ranges, Spread
+from .delays import Ranges, Spread, delays_of
 from .graph import Unfoldable
 from .judge import Judge, Tell, Verdict
 from .margins import Margins
@@ -39,10 +40,20 @@ class Question:
         if reading == "each" and spread.together:
             raise ValueError("delays that vary together are the same all through the run, and so have the reading 'same'")
         self.netlist, self.spread, self.each, self.seconds, self.tell = netlist, spread, reading == "each", seconds, tell
+        # whether an interrupt gives what is known so far, and isn't passed on
+        self.keeps = False
         self._timings: Dict[float, Timing] = {}
         self._reasons: Dict[float, Optional[Unfoldable]] = {}
 
+    def check_names(self) -> None:
+        """`UnknownName` if a range or a group names nothing, `ValueError` if groups don't fit."""
+        Ranges(self.netlist, delays_of(self.netlist), self.spread, 1)
+
     # ---- answers
+
+    def bundles(self, percent: float, widest: float) -> List[BundleStress]:
+        """The margins of the bundles at a spread, without a verdict; none if there is no graph."""
+        return _Answer(self, percent, widest).bundles()
 
     def at(self, percent: float, widest: Optional[float] = None) -> Stress:
         """The answer at a spread. The graph serves spreads up to `widest`."""
@@ -54,23 +65,15 @@ class Question:
 
     def limit(self, most: int = 60) -> Limit:
         """The greatest spread in whole per cents, up to `most`, at which it holds, and the least one at which it doesn't."""
-        if self.verdict(0, LADDER[0]) != "holds":
-            return Limit(None, 0, self.at(0, LADDER[0]))
-        holds, fails, step = 0, None, LADDER_FROM
-        while fails is None and holds < most:
-            step = min(step, most)
-            if self.verdict(step, _widest(step)) == "holds":
-                holds, step = step, step * 2
-            else:
-                fails = step
-        while fails is not None and fails - holds > 1:
-            middle = (holds + fails) // 2
-            if self.verdict(middle, _widest(middle)) == "holds":
-                holds = middle
-            else:
-                fails = middle
-        asked = holds if fails is None else fails
-        return Limit(holds, fails, self.at(asked, _widest(asked)))
+        known = _Known(self)
+        try:
+            known.search(most)
+            asked = known.least
+            return Limit(known.holds, known.fails, self.at(asked, _widest(asked)))
+        except KeyboardInterrupt:
+            if not self.keeps:
+                raise
+            return Limit(known.holds, known.fails, Stress("nothing found", known.least, self.netlist.horizon, notes=("interrupted",)))
 
     # ---- what answers share
 
@@ -93,6 +96,37 @@ class Question:
                 reason = found
             self._reasons = {widest: reason}
         return self._reasons[widest]
+
+
+class _Known:
+    """What is known of the limit of a question: it holds at `holds`, and not at `fails`."""
+
+    def __init__(self, question: Question) -> None:
+        self.question = question
+        self.holds: Optional[int] = None
+        self.fails: Optional[int] = None
+
+    @property
+    def least(self) -> int:
+        """The spread to tell about."""
+        return self.fails if self.fails is not None else self.holds or 0
+
+    def search(self, most: int) -> None:
+        """Doubles the spread up to `most` as long as it holds, and then halves the range between."""
+        self._try(0)
+        step = LADDER_FROM
+        while self.fails is None and self.holds is not None and self.holds < most:
+            self._try(min(step, most))
+            step *= 2
+        while self.fails is not None and self.holds is not None and self.fails - self.holds > 1:
+            self._try((self.holds + self.fails) // 2)
+
+    def _try(self, percent: int) -> None:
+        self.question.tell(f"tries {percent} %")
+        if self.question.verdict(percent, _widest(percent)) == "holds":
+            self.holds = percent
+        else:
+            self.fails = percent
 
 
 def _widest(percent: float) -> float:
@@ -122,8 +156,10 @@ class _Answer:
 
     def full(self) -> Stress:
         """The whole answer."""
+        found: Optional[Verdict] = None
         with self.runs:
-            found = self._decide()
+            with self._kept():
+                found = self._decide()
             if not self.timing.check.ok:
                 return self._broken()
             worst = self._worst(found.fault) if found and found.fault else None
@@ -133,12 +169,32 @@ class _Answer:
         until_time, units = self.question.netlist.horizon, self.timing.units
         return Stress(verdict, self.spread.percent, until_time, tuple(bundles), tuple(left), worst, "", self.runs.count, units, tuple(self.notes))
 
+    @contextmanager
+    def _kept(self) -> Iterator[None]:
+        """Ends a part of the work at an interrupt, if what is known then is wanted."""
+        try:
+            yield
+        except KeyboardInterrupt:
+            if not self.question.keeps:
+                raise
+            if "interrupted" not in self.notes:
+                self.notes.append("interrupted")
+
+    def bundles(self) -> List[BundleStress]:
+        """The margins of the bundles alone."""
+        if not self.timing.check.ok or self.question.unfolded(self.timing_key) is not None:
+            return []
+        self.judge = self._judge()
+        return self._bundles()
+
     def _bundles(self) -> List[BundleStress]:
         if self.judge is None:
             return []
-        self.question.tell("bounds the margins of bundles")
+        self.question.tell(f"bounds the margins of bundles at {self.spread.percent:g} %")
         margins = Margins(self.judge)
-        margins.sharpen()
+        if not self.notes or self.notes[-1] != "interrupted":
+            with self._kept():
+                margins.sharpen()
         return margins.known()
 
     def _broken(self) -> Stress:
@@ -157,13 +213,17 @@ class _Answer:
             fault = sampled(Space(self.timing, Ranges(self.timing.netlist, self.timing.delays, self.spread, self.timing.units)), self.runs, self.over)
             return Verdict(fault, []) if fault else None
         self.question.tell("bounds all orders")
-        self.judge = Judge(self.timing, self.spread, self.runs, self.over, self.question.tell, self.question.each)
+        self.judge = self._judge()
         return self.judge.decide()
+
+    def _judge(self) -> Judge:
+        return Judge(self.timing, self.spread, self.runs, self.over, self.question.tell, self.question.each)
 
     def _worst(self, fault: Fault) -> Worst:
         self.question.tell("puts delays back")
         space = Space(self.timing, Ranges(self.timing.netlist, self.timing.delays, self.spread, self.timing.units))
-        fault = shrink(space, self.runs, fault, self.over)
+        with self._kept():
+            fault = shrink(space, self.runs, fault, self.over)
         units = self.timing.units
         changes = tuple(Moved(delay, value, units) for delay, value in moved(self.timing, fault.point))
         return Worst(self.runs.text, units, changes, len(self.timing.delays), fault.lines, fault.differs)
