@@ -57,7 +57,7 @@ class OpenOrder:
         if self.early and self.late:
             text += f" {self.early[0]} {number(self.early[1])} before {self.late[0]} {number(self.late[1])}"
         if self.reached is not None and self.bound is not None:
-            text += f" worst {number(self.reached)} not below {number(self.bound)}"
+            text += f" worst {number(self.reached)}" + (f" not below {number(self.bound)}" if self.bound < self.reached - 1e-9 else "")
         return text
 
 

@@ -145,5 +145,7 @@ class Judge:
         found = []
         for order, bound, reached in undecided:
             early, late = ((graph.wire_of(event) or "", graph.time[event] / units) for event in (order.early, order.late))
-            found.append(OpenOrder(order.name, order.rule, early, late, reached.margin / units, min(bound, reached.margin) / units))
+            # (where both may come at once, the margin has one finer unit more)
+            both = min(order.slack, 0)
+            found.append(OpenOrder(order.name, order.rule, early, late, (reached.margin + both) / units, (min(bound, reached.margin) + both) / units))
         return found

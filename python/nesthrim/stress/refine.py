@@ -9,11 +9,12 @@ from __future__ import annotations
 
 import heapq
 import time as clock
+from collections import Counter
 from typing import Callable, Dict, Iterator, List, NamedTuple, Optional, Sequence, Tuple
 
 from .orders import Order
-from .search import Reached, chains, descend
-from .separation import Ends, separation
+from .search import Reached, descend
+from .separation import Bound, Ends, separation
 from .space import Space
 from .windows import Entry
 
@@ -43,19 +44,19 @@ class Closed(NamedTuple):
 
 
 class Part(NamedTuple):
-    """A part of the ranges with the bound of a margin in it, and the path that makes it. `number` tells parts of one bound apart.
+    """A part of the ranges with the bound of a margin in it, and the delays on both sides. `number` tells parts of one bound apart.
 
     `ends` are those of all delays, `groups` those of the factors of groups.
     """
 
     bound: float
     number: int
-    path: Tuple[int, ...]
+    sides: Bound
     ends: Ends
     groups: Tuple[Tuple[float, float], ...]
 
 
-Sweep = Callable[[Ends], Tuple[float, Tuple[int, ...]]]
+Sweep = Callable[[Ends], Bound]
 
 
 class Refiner:
@@ -94,18 +95,12 @@ class Refiner:
 
     def by_order(self, order: Order, size: Optional[int]) -> Closed:
         """Branch and bound for one order, over so many events behind it."""
-
-        def sweep(ends: Ends) -> Tuple[float, Tuple[int, ...]]:
-            bound = separation(self.graph, order, ends, size)
-            return bound.margin, bound.path
-
-        return self._branch(order, sweep, self.nodes, True)
+        return self._branch(order, lambda ends: separation(self.graph, order, ends, size), self.nodes, True)
 
     def _branch(self, order: Order, sweep: Sweep, most: int, looks: bool) -> Closed:
-        beside = self._beside(order)
         groups = tuple((1 + group.low, 1 + group.high) for group in self.space.ranges.groups)
-        bound, path = sweep(self.space.ends)
-        queue, nodes = [Part(bound, 0, path, self.space.ends, groups)], 1
+        sides = sweep(self.space.ends)
+        queue, nodes = [Part(sides.margin, 0, sides, self.space.ends, groups)], 1
         best: Optional[Reached] = None
         while queue[0].bound <= 0 and nodes < most and not self.over():
             part = queue[0]
@@ -113,43 +108,42 @@ class Refiner:
                 best = self._look(order, part, best)
                 if best.margin <= 0:
                     break
-            unit = self._widest(part, beside)
+            unit = self._widest(part)
             if unit is None:
                 break
             heapq.heappop(queue)
             for ends, factors in self._halves(part, unit):
-                bound, path = sweep(ends)
+                sides = sweep(ends)
                 nodes += 1
-                heapq.heappush(queue, Part(max(bound, part.bound), nodes, path, ends, factors))
+                heapq.heappush(queue, Part(max(sides.margin, part.bound), nodes, sides, ends, factors))
         return Closed(queue[0].bound, best)
 
     def _look(self, order: Order, part: Part, best: Optional[Reached]) -> Reached:
-        """The least margin that is found from the corner of a part on, or the one before."""
+        """The least margin that is found at the corner of a part, and at first from that of the whole on, or the one before."""
         real = self.space.timing.real(order)
-        found = descend(self.space, real, part.path, 0)
-        return found if best is None else min(best, found)
+        if best is None:
+            best = descend(self.space, real, part.sides.path, 0)
+        on_path = set(part.sides.path)
+        for factor in self.space.factors:
+            values = [high if place in on_path else low for place, (low, high) in enumerate(zip(*part.ends))]
+            for unit in {self.space.units_of[place] for place in part.sides.path if place in self.space.units_of}:
+                for place in self.space.units[unit]:
+                    values[place] = part.ends.high[place]
+            point = self.space.point(values, factor)
+            times = self.graph.times(point, max(order.early, order.late))
+            best = min(best, Reached(real.margin(times, point), point))
+        return best
 
-    def _beside(self, order: Order) -> Dict[int, int]:
-        """How often each delay stands on the critical chain of the late event of the nominal run."""
-        graph, nominal = self.graph, self.space.nominal
-        found: Dict[int, int] = {}
-        for event in chains(graph, order, graph.time, nominal)[1]:
-            for place in (graph.delay[event], graph.last_cause(event, graph.time, nominal)[1]):
-                found[place] = found.get(place, 0) + 1
-        return found
-
-    def _widest(self, part: Part, beside: Dict[int, int]) -> Optional[int]:
-        """The unit whose range makes the bound weakest: the one that stands most on both sides, by its width; else on the path alone."""
-        on_path: Dict[int, int] = {}
-        for place in part.path:
-            on_path[place] = on_path.get(place, 0) + 1
+    def _widest(self, part: Part) -> Optional[int]:
+        """The unit whose range makes the bound weakest: the one that stands most on both sides, by its width; else on one of them alone."""
+        on_path, beside = Counter(part.sides.path), Counter(part.sides.beside)
         space = self.space
         weigh = {place: space.nominal[place] for place in {*on_path, *beside} if place in space.units_of}
         sums: Dict[int, Tuple[float, float]] = {}
         for place, units in weigh.items():
             unit = space.units_of[place]
             early, late = sums.get(unit, (0.0, 0.0))
-            sums[unit] = early + on_path.get(place, 0) * units, late + beside.get(place, 0) * units
+            sums[unit] = early + on_path[place] * units, late + beside[place] * units
         best, chosen = 0.0, None
         for unit, (early, late) in sums.items():
             gain = self._width(part, unit) * (min(early, late) + (early + late) / 100)

@@ -108,6 +108,6 @@ def save(worst: Worst, base: str) -> List[str]:
 
 
 def _drawn(worst: Worst, scene: Scene, change: Change) -> str:
-    words = ["show", "--svg", f"--from={scene.start}", f"--to={scene.end}", *(f"--wire={wire}" for wire in scene.wires)]
+    words = ["show", "--svg", "--columns=120", f"--from={scene.start}", f"--to={scene.end}", *(f"--wire={wire}" for wire in scene.wires)]
     unit = f"time in units, {worst.units} for one of the netlist" if worst.units > 1 else "time in units"
     return find_program().run([*words, f"--unit={unit}", "--causes", change.wire, str(change.time)], str(worst.netlist)).written

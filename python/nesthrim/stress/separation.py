@@ -20,12 +20,12 @@ from .orders import Order
 
 
 class Bound(NamedTuple):
-    """`margin` is at least this. `path` has the delays of the path that makes it, each as often as it stands there. `whole` says that no part of the
-    run was cut off."""
+    """`margin` is at least this. `path` has the delays on the way to the early event that makes it, and `beside` those on the longest way to the late event
+    from the same event on, each as often as it stands there."""
 
     margin: float
     path: Tuple[int, ...]
-    whole: bool
+    beside: Tuple[int, ...]
 
 
 class Ends(NamedTuple):
@@ -42,6 +42,7 @@ class _Cone:
         self.graph, self.low = graph, low
         # the longest path to the late event, and whether the early one is behind an event
         self.to_late: Dict[int, float] = {order.late: 0}
+        self.effect: Dict[int, Cause] = {}
         self.to_early: Set[int] = {order.early}
         self.inside: List[int] = []
         self._left = sorted({-order.late, -order.early})
@@ -64,6 +65,7 @@ class _Cone:
                 length = longest + own + low[place]
                 if length > to_late.get(cause, -1):
                     to_late[cause] = length
+                    self.effect[cause] = event, place
             if early:
                 to_early.add(cause)
             self._loose += (cause in to_early and cause not in to_late) - was_loose
@@ -98,14 +100,24 @@ def separation(graph: Graph, order: Order, ends: Ends, most: Optional[int] = Non
             back[event] = chosen
         latest[event] = best
     most_late = latest[order.early] + high[order.early_place] - ends.low[order.late_place] + order.slack
-    return Bound(-most_late, tuple(path_of(graph, order, back)), not cone.cut)
+    path, event = path_of(graph, order, back)
+    return Bound(-most_late, path, beside_of(graph, order, cone.effect, event))
 
 
-def path_of(graph: Graph, order: Order, back: Dict[int, Cause]) -> List[int]:
-    """The places of the delays on the way to the early event."""
+def path_of(graph: Graph, order: Order, back: Dict[int, Cause]) -> Tuple[Tuple[int, ...], int]:
+    """The places of the delays on the way to the early event, and the event at which the way begins."""
     path, event = [order.early_place], order.early
     while event in back:
         cause, place = back[event]
         path += [graph.delay[event], place]
         event = cause
-    return [place for place in path if place]
+    return tuple([place for place in path if place]), event
+
+
+def beside_of(graph: Graph, order: Order, effect: Dict[int, Cause], event: int) -> Tuple[int, ...]:
+    """The places of the delays on the longest way from an event to the late one; none if it doesn't lead there."""
+    beside = [order.late_place]
+    while event in effect:
+        event, place = effect[event]
+        beside += [graph.delay[event], place]
+    return tuple([place for place in beside if place])

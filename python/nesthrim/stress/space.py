@@ -52,6 +52,11 @@ class Space:
             return round(value)
         return max(0 if self.timing.delay_at(place).is_input else 1, round(value * factor / 100))
 
+    def point(self, values: Sequence[float], factor: float) -> Point:
+        """The point with these values before the corner's factor; gaps of stimuli stay."""
+        free = len(self.timing.delays)
+        return (0, *(self._at(place, values[place], factor) for place in range(1, free + 1)), *self.nominal[free + 1 :])
+
     def corner(self, weights: Mapping[int, int], factor: float) -> Point:
         """The point at which each unit is at its high end if its delays have a positive weight, by place, and at its low one if not."""
         point = list(self.nominal)

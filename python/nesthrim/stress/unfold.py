@@ -226,13 +226,14 @@ def graph_of(changes: Changes, numbers: Sequence[int], delays: Sequence[int]) ->
 
 
 def _chain_stimuli(graph: Graph) -> None:
-    """Gives each event of a stimulus the one before it as its cause, and the gap between them as its delay."""
-    before, since, now = 0, 0, 0
+    """Gives each event of a stimulus the one before it as its cause, and the gap between them as its delay; it is none if both come at once."""
+    before = 0
     for event, root in enumerate(graph.root):
         if not root or event == 0:
             continue
-        if graph.time[event] > graph.time[now]:
-            before, since, now = now, graph.time[now], event
+        gap = graph.time[event] - graph.time[before]
         graph.causes[event] = ((before, NONE),)
-        graph.delay[event] = len(graph.nominal)
-        graph.nominal.append(graph.time[event] - since)
+        if gap:
+            graph.delay[event] = len(graph.nominal)
+            graph.nominal.append(gap)
+        before = event

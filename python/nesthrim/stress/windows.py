@@ -12,7 +12,7 @@ from typing import Dict, Hashable, List, NamedTuple, Optional, Sequence, Tuple
 
 from .graph import Cause, Graph
 from .orders import Order, Place
-from .separation import Ends, separation
+from .separation import Bound, Ends, beside_of, path_of, separation
 
 # how many steps back a window goes: first a short one, which is enough for most orders, then a long one; and how far back a lemma is looked for
 SHORT, LONG, _BEHIND = 4, 8, 4
@@ -117,11 +117,15 @@ class Windows:
                 self._bound_class(found, chosen, nothing)
         return found
 
-    def bound_in(self, order: Order, ends: Ends) -> Tuple[float, Tuple[int, ...]]:
-        """The bound of an order in its long window for narrower ends than those of `bounds`, and its path."""
+    def bound_in(self, order: Order, ends: Ends) -> Bound:
+        """The bound of an order in its long window for narrower ends than those of `bounds`."""
         lemmas = self._behind(order.early)[0] if order.rule in RACES else {}
-        margin, path, met = self._window(order, LONG, lemmas, ends)
-        return margin, path + self._paths.get(met, ())
+        sweep = self._sweep(order, LONG, lemmas, ends)
+        path, event = path_of(self.graph, order, sweep.back)
+        return Bound(self._margin(order, sweep.later, ends), path + self._paths.get(event, ()), beside_of(self.graph, order, sweep.effect, event))
+
+    def _margin(self, order: Order, later: float, ends: Ends) -> float:
+        return -(later + ends.high[order.early_place] - ends.low[order.late_place] + order.slack)
 
     def _latest_roots(self, high: Sequence[float]) -> Dict[int, float]:
         """The greatest times of the origin and of the events of stimuli."""
@@ -185,13 +189,8 @@ class Windows:
         if latest > _FAR // 2 and order.rule in RACES:
             bound = separation(self.graph, order, ends)
             return bound.margin, bound.path, -1
-        margin = -(latest + ends.high[order.early_place] - ends.low[order.late_place] + order.slack)
-        path, event = [order.early_place], order.early
-        while event in back:
-            path.append(self.graph.delay[event])
-            event, place = back[event]
-            path.append(place)
-        return margin, tuple([place for place in path if place]), event if event in lemmas else -1
+        path, event = path_of(self.graph, order, back)
+        return self._margin(order, latest, ends), path, event if event in lemmas else -1
 
     def _sweep(self, order: Order, depth: int, lemmas: Lemmas, ends: Ends) -> Sweep:
         """The sweep of an order's window."""
