@@ -183,11 +183,11 @@ Options:
       --together <GROUPS>
           Delays of one line of the file GROUPS, names of modules, vary as one
 
-      --range <NAME> <LOW> <HIGH>
-          Another range for a module or a kind, in per cent, as sink -50 200
+      --range <RANGE>
+          Another range for a module or a kind, as sink=-50..200, in per cent
 
-      --corner <LOW> <HIGH>
-          The ends, in per cent, of one more factor of all delays, as 70 140
+      --corner <ENDS>
+          The ends, in per cent, of one more factor of all delays, as 70..140
 
       --each
           A delay may be another one at each event
@@ -226,7 +226,8 @@ Usage: ./mpwb install [PREFIX]
 PREFIX is a folder, by default /usr/local. Build the program first, with
 `./mpwb build`. These files are put there, in place of older ones:
 
-  PREFIX/lib/nesthrim      the program and the script, with its parts
+  PREFIX/lib/nesthrim      the program, the script with its parts, and the
+                           Python package that `stress` and `races` need
   PREFIX/bin/mpwb          a link to the script
   PREFIX/share/man/man1/mpwb.1
   PREFIX/share/bash-completion/completions/mpwb

@@ -2,7 +2,7 @@
 # The words of a command line of the program.
 
 takes_a_value() {
-    case $1 in --help | --version | --ascii | --svg | --hex | -- | --*=*) return 1 ;; --*) return 0 ;; *) return 1 ;; esac
+    case $1 in --help | --version | --ascii | --svg | --hex | --limit | --fit | --each | -- | --*=*) return 1 ;; --*) return 0 ;; *) return 1 ;; esac
 }
 
 # how many values an option takes

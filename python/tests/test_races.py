@@ -118,14 +118,16 @@ class Commands(Case):
         with open(f"{base}.csv", encoding="utf-8") as table:
             rows = table.read().splitlines()
         self.assertEqual(("spread,b1,b2,b3,b4", "0,2,4,6,8", "10,1.2,2.4,0,1.2"), (rows[0], rows[1], rows[-1]))
-        self.assertEqual(0, told("stress", path, "--range", "a3", "-10", "10", "--spread", "4", "--corner", "90", "110", "--each")[0])
-        self.assertEqual((0, "delay m3 0 23  # of 22\nholds\n"), tuple(told("stress", path, "--fit")[:2])[:1] + ("".join(told("stress", path, "--fit")[1].splitlines(True)[:2]),))
+        self.assertEqual(0, told("stress", path, "--range", "a3=-10..10", "--spread", "4", "--corner", "90..110", "--each")[0])
+        status, text, _ = told("stress", path, "--fit", "--out", base)
+        self.assertEqual((0, ["delay m3 0 23  # of 22", "holds"]), (status, text.splitlines()[:2]))
+        self.assertEqual("holds", Netlist.load(f"{base}.net").stress(10).verdict)
 
     def test_wrong_words_and_netlists(self) -> None:
-        for words in (["stress", "--flip"], ["stress", "--spread", "x"], ["stress", "a", "b"], ["races", "--spread", "3"], ["stress", self.file(ADDED), "--spread", "100"]):
+        for words in (["stress", "--flip"], ["stress", "--spread", "x"], ["stress", "a", "b"], ["races", "--spread", "3"], ["stress", self.file(ADDED), "--spread", "100"], ["stress", self.file(ADDED), "--corner", "70"]):
             self.assertEqual(2, told(*words)[0], words)
         self.assertEqual((3, ""), told("stress", "/nothing/there")[:2])
         status, _, said = told("races", self.file("horizon 10\nmodule b BUF : x > -\n"))
         self.assertEqual((1, "mpwb: line 2: 7 Refused: 3 NoSuchWire"), (status, said.splitlines()[0]))
-        self.assertEqual(1, told("stress", self.file(ADDED), "--range", "nothing", "-1", "1")[0])
+        self.assertEqual(1, told("stress", self.file(ADDED), "--range", "nothing=-1..1")[0])
         self.assertEqual(3, told("stress", self.file(ADDED), "--spread", "12", "--out", "/nothing/there")[0])

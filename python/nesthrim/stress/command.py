@@ -6,7 +6,7 @@ import argparse
 import os
 import sys
 import time
-from typing import Callable, List, NoReturn, Optional, Sequence, Union
+from typing import Callable, List, NoReturn, Optional, Sequence, Tuple, Union
 
 from ..errors import NesthrimError, ProgramFailed, ProgramMissing
 from ..netlist import Netlist
@@ -72,8 +72,8 @@ def _words(command: str) -> Words:
         words.add_argument("--fit", action="store_true")
         words.add_argument("--each", action="store_true")
         words.add_argument("--together")
-        words.add_argument("--range", nargs=3, action="append", default=[], dest="ranges")
-        words.add_argument("--corner", nargs=2, type=float, default=[100, 100])
+        words.add_argument("--range", action="append", default=[], dest="ranges")
+        words.add_argument("--corner", default="100..100")
         words.add_argument("--seconds", type=float, default=60)
         words.add_argument("--out")
         words.add_argument("--plot")
@@ -99,11 +99,19 @@ def _netlist(path: str) -> Netlist:
     return Netlist.read(text)
 
 
+def _ends(text: str) -> Tuple[float, float]:
+    """Two numbers, as 70..140. `ValueError` for another text."""
+    low, dots, high = text.partition("..")
+    if not dots:
+        raise ValueError(f"{text!r} has no two ends, as 70..140")
+    return float(low), float(high)
+
+
 def _question(words: argparse.Namespace, netlist: Netlist, progress: Progress) -> Question:
     try:
         groups = read_groups(_read(words.together)) if words.together else []
-        ranges = {name: (float(low), float(high)) for name, low, high in words.ranges}
-        spread = Spread(words.spread, ranges, groups, (words.corner[0], words.corner[1]))
+        ranges = {name: _ends(ends) for name, _, ends in (given.partition("=") for given in words.ranges)}
+        spread = Spread(words.spread, ranges, groups, _ends(words.corner))
         question = Question(netlist, spread, "each" if words.each else "same", words.seconds, progress.tell)
         question.keeps = True
         question.check_names()
