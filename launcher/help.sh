@@ -4,12 +4,14 @@
 tell_words() {
     cat <<'EOF'
 
-The script ./mpwb has seven more commands, which `./mpwb COMMAND --help` describes:
+The script ./mpwb has nine more commands, which `./mpwb COMMAND --help` describes:
   ask      Sends a line to a seat of a live desk and shows the answer
   build    Proves and builds the program
   install  Installs the program with a man page and completions for shells
   join     Takes a seat of a live desk
   page     Writes a page for a browser that shows the waveforms
+  races    Shows for each bundle the transfer that tolerates least
+  stress   Finds out whether bundles hold while delays vary
   test     Tests the program, in a minute or two
   watch    Shows the netlist of a live desk, again after each edit
 EOF
@@ -145,6 +147,98 @@ Exit status:
 EOF
 }
 
+tell_races() {
+    cat <<'EOF'
+Shows for each bundle the transfer that tolerates least.
+
+Usage: ./mpwb races [FILE]
+
+Reads a netlist from FILE, or from standard input if FILE is `-` or isn't given.
+Writes a line for each bundle whose data come before a request, that which
+tolerates least first. It has the last change that both the data and the request
+come from, the delays of both chains from there with their sums, by how much the
+data come before the request and its setup, and by how many per cent these
+delays, all the others being as they are, may vary. It needs Python 3.9 or later.
+
+Exit status:
+  0    the races were shown
+  1    the netlist has a fault
+  2    the command line was refused
+  3    a read failed
+  4    memory ran out
+  5    `check` finds something wrong; its lines are shown
+  6    the run of the netlist can't be followed
+  70   there is no Python 3.9, or no program, or it has a fault
+  130  it was interrupted
+EOF
+}
+
+tell_stress() {
+    cat <<'EOF'
+Finds out whether bundles hold while delays vary.
+
+Usage: ./mpwb stress [OPTIONS] [FILE]
+
+Reads a netlist from FILE, or from standard input if FILE is `-` or isn't given.
+Looks for delays in their ranges with which `check` writes a line or a datum
+differs, and bounds the margin of each bundle over all delays in the ranges. It
+writes a line for each bundle, with its margin above the setup as the netlist
+stands and the worst one, and then `holds`, `breaks` or `differs` with the delays
+that do it, `open` with what isn't known, or `nothing found`. What it finds is the
+program's answer; what holds is computed by a package that is tested, and isn't
+proved. docs/STRESS.md says more. Ctrl-C gives what is known so far. It needs
+Python 3.9 or later.
+
+Options:
+      --spread <PERCENT>
+          By how much each delay varies to both sides, by default 10
+
+      --limit
+          Find the greatest spread, in whole per cents, at which it holds
+
+      --most <PERCENT>
+          The greatest spread that --limit tries, by default 60
+
+      --fit
+          Lengthen matched delays, each a BUF on a request, until it holds
+
+      --together <GROUPS>
+          Delays of one line of the file GROUPS, names of modules, vary as one
+
+      --range <RANGE>
+          Another range for a module or a kind, as sink=-50..200, in per cent
+
+      --corner <ENDS>
+          The ends, in per cent, of one more factor of all delays, as 70..140
+
+      --each
+          A delay may be another one at each event
+
+      --seconds <N>
+          After about so many seconds bounds are sharpened no more, by default 60
+
+      --out <BASE>
+          Write the worst netlist to BASE.net, a script that shows the fault to
+          BASE.play, and pictures of both chains of causes to BASE-data.svg and
+          BASE-request.svg; with --fit the netlist that holds to BASE.net
+
+      --plot <FILE>
+          Draw the margins against the spread to FILE, as margins.svg, with a
+          table beside it, as margins.csv
+
+Exit status:
+  0    it holds
+  1    the netlist has a fault
+  2    the command line was refused
+  3    a read or a write failed
+  4    memory ran out
+  5    it breaks or differs, or `check` finds something wrong as it stands
+  6    it isn't known
+  70   there is no Python 3.9, or no program, or it has a fault
+  130  it was interrupted before anything was known
+EOF
+}
+
 tell_install() {
     cat <<'EOF'
 Installs the program with a man page and completions for shells.
@@ -154,7 +248,8 @@ Usage: ./mpwb install [PREFIX]
 PREFIX is a folder, by default /usr/local. Build the program first, with
 `./mpwb build`. These files are put there, in place of older ones:
 
-  PREFIX/lib/nesthrim      the program and the script, with its parts
+  PREFIX/lib/nesthrim      the program, the script with its parts, and the
+                           Python package that `stress` and `races` need
   PREFIX/bin/mpwb          a link to the script
   PREFIX/share/man/man1/mpwb.1
   PREFIX/share/bash-completion/completions/mpwb

@@ -22,6 +22,9 @@ gather() {
     mkdir -p "$lib/bin" "$1/bin" "$share"/{man/man1,bash-completion/completions,zsh/site-functions,fish/vendor_completions.d}
     cp "$program" "$lib/bin/mpwb"
     cp -R "$top/mpwb" "$top/launcher" "$top/viewer" "$lib"
+    mkdir "$lib/python"
+    cp -R "$top/python/nesthrim" "$lib/python"
+    find "$lib/python" -name __pycache__ -prune -exec rm -r {} +
     ln -s ../lib/nesthrim/mpwb "$1/bin/mpwb"
     mkdir "$room/help"
     write_help "$room/help"

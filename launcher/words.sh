@@ -2,7 +2,11 @@
 # The words of a command line of the program.
 
 takes_a_value() {
-    case $1 in --help | --version | --ascii | --svg | --hex | --share | --sync | -- | --*=*) return 1 ;; --*) return 0 ;; *) return 1 ;; esac
+    case $1 in
+    --help | --version | --ascii | --svg | --hex | --share | --sync | --limit | --fit | --each | -- | --*=*) return 1 ;;
+    --*) return 0 ;;
+    *) return 1 ;;
+    esac
 }
 
 # how many values an option takes

@@ -39,6 +39,7 @@ from .program import Program, find_program
 from .questions import END
 from .seat import Desk, Seat
 from .session import Session
+from .stress import BundleStress, Differs, Fit, Limit, Moved, OpenOrder, Race, Races, Stress, Worst
 from .sweep import sweep
 from .variants import Variant
 from .wires import Bundle, Module, Port, Stimulus, Wire
@@ -46,8 +47,9 @@ from .wires import Bundle, Module, Port, Stimulus, Wire
 __version__ = "0.1.0"
 
 __all__ = [
-    "END", "AnswerError", "BrokenPipe", "Bundle", "BundleMeasure", "Check", "Closed", "Deadlock", "Desk", "Event", "Fault", "FifoStage",
-    "Finding", "Late", "MadeEdit", "Measure", "Module", "NesthrimError", "Netlist", "NoSeat", "Note", "OutOfMemory", "Outcome", "Part",
-    "PathPart", "Picture", "Port", "Program", "ProgramFailed", "ProgramMissing", "Refused", "Report", "Seat", "Session", "Step", "Stimulus",
-    "UnknownName", "Unread", "Variant", "Wait", "Wave", "Waves", "Wire", "WireMeasure", "Work", "find_program", "sweep",
+    "END", "AnswerError", "BrokenPipe", "Bundle", "BundleMeasure", "BundleStress", "Check", "Closed", "Deadlock", "Desk", "Differs", "Event",
+    "Fault", "FifoStage", "Finding", "Fit", "Late", "Limit", "MadeEdit", "Measure", "Module", "Moved", "NesthrimError", "Netlist", "NoSeat", "Note",
+    "OpenOrder", "OutOfMemory", "Outcome", "Part", "PathPart", "Picture", "Port", "Program", "ProgramFailed", "ProgramMissing", "Race",
+    "Races", "Refused", "Report", "Seat", "Session", "Step", "Stimulus", "Stress", "UnknownName", "Unread", "Variant", "Wait", "Wave", "Waves", "Wire",
+    "WireMeasure", "Work", "Worst", "find_program", "sweep",
 ]  # fmt: skip

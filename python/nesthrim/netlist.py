@@ -16,6 +16,7 @@ from .program import Program, find_program
 from .questions import END, AnyWire, Path, Questions, wire_name, write_file
 from .reading import statement_of
 from .session import Session
+from .stressed import Stressed
 from .variants import Variant, Workspace
 from .wires import Bundle, Module, Statement, Stimulus, Wire, whole
 
@@ -28,7 +29,7 @@ _SHORT, _LONG, _WIRES, _MODULES, _BUNDLES, _BYTES = 65_536, 1_048_576, 8_192, 4_
 _FOUND = 5
 
 
-class Netlist(Builder, Questions):
+class Netlist(Builder, Questions, Stressed):
     """A netlist with a horizon: the waves are those of the times from 0 to `horizon - 1`.
 
     Wires, modules, stimuli and bundles are added in any order. `str` of it is its text, and each question runs the program on this text.
