@@ -31,6 +31,7 @@ from .errors import (
     ProgramFailed,
     ProgramMissing,
     Refused,
+    SystemFailed,
     UnknownName,
     Unread,
 )
@@ -49,5 +50,5 @@ __all__ = [
     "END", "AnswerError", "BrokenPipe", "Bundle", "BundleMeasure", "Check", "Closed", "Deadlock", "Desk", "Event", "Fault", "FifoStage",
     "Finding", "Late", "MadeEdit", "Measure", "Module", "NesthrimError", "Netlist", "NoSeat", "Note", "OutOfMemory", "Outcome", "Part",
     "PathPart", "Picture", "Port", "Program", "ProgramFailed", "ProgramMissing", "Refused", "Report", "Seat", "Session", "Step", "Stimulus",
-    "UnknownName", "Unread", "Variant", "Wait", "Wave", "Waves", "Wire", "WireMeasure", "Work", "find_program", "sweep",
+    "SystemFailed", "UnknownName", "Unread", "Variant", "Wait", "Wave", "Waves", "Wire", "WireMeasure", "Work", "find_program", "sweep",
 ]  # fmt: skip
