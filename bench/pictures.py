@@ -244,7 +244,7 @@ def arrows(netlist, columns, wires, left, wire, time):
     place = lambda change: (left + PITCH * ((change[1] - columns.begin) // columns.units) + (0 if columns.units == 1 else 4), 28 * wires.index(change[0]) + 48)
     is_in = lambda change: change[0] in wires and columns.begin <= change[1] < columns.end
     lines = [(*place(cause), *place(effect)) for cause, effect in links if is_in(cause) and is_in(effect)]
-    return ARROWS + "".join(f'<path d="M{x} {y}L{to} {below}"/>' for x, y, to, below in lines) + "</g>\n" if links else ""
+    return ARROWS + "".join(f'<path d="M{x} {y}L{to} {below}"/>' for x, y, to, below in lines) + "</g>\n" if lines else ""
 
 
 def svg(netlist, begin=0, end=None, most=72, names=None, title="time in units", digits=decimal, causes=None):

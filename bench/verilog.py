@@ -109,16 +109,17 @@ def text(netlist):
     lines += [line for number in present for line in instance(netlist, number)]
     for bundle in filter(None, netlist.bundles):
         lines.append(f"  // bundle {bundle[0]}: request {name(bundle[1])}, acknowledge {name(bundle[2])}, data {name(bundle[3])}, setup {bundle[4]}")
-    lines += ["endmodule", "", "module bench;", *(register(name(number), netlist.wires[number]) for number in outside)]
+    lines += ["endmodule", "", "module bench;", "  reg last$ = 1'd0;", *(register(name(number), netlist.wires[number]) for number in outside)]
     lines += [f"  netlist netlist$ ({items(f'    .{name(number)}({name(number)})' for number in outside)}", "  );"]
     lines += ["  initial begin", '    $dumpfile("waves.vcd");', "    $dumpvars(1, netlist$);"]
     for number in sorted(netlist.stimuli):
         lines += [f"    {name(number)} <= #{time} {level_text(netlist.wires[number][1], level)};" for time, level in netlist.stimuli[number]]
-    return "\n".join([*lines, f"    #{netlist.horizon} $finish;", "  end", "endmodule", ""])
+    end = [f"    last$ <= #({netlist.horizon} - 1) 1'd1;", "    @(last$) #0 $finish;", "  end", "endmodule", ""]
+    return "\n".join([*lines, *end])
 
 
-def dumped(dump, horizon):
-    """The waves of a dump of `vvp`, by name: the level at each time below the horizon at which one is told."""
+def dumped(dump):
+    """The waves of a dump of `vvp`, by name: the level at each time at which one is told."""
     names, waves, time = {}, {}, 0
     words = iter(dump.split())
     for word in words:
@@ -134,7 +135,7 @@ def dumped(dump, horizon):
             time = int(word[1:])
         elif word[0] != "$":
             level, code = (word[1:], next(words)) if word[0] == "b" else (word[0], word[1:])
-            for name in names[code] if time < horizon else []:
+            for name in names[code]:
                 waves.setdefault(name, {})[time] = int(level, 2)
     return waves
 

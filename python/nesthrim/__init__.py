@@ -31,6 +31,7 @@ from .errors import (
     ProgramFailed,
     ProgramMissing,
     Refused,
+    SystemFailed,
     UnknownName,
     Unread,
 )
@@ -50,6 +51,6 @@ __all__ = [
     "END", "AnswerError", "BrokenPipe", "Bundle", "BundleMeasure", "BundleStress", "Check", "Closed", "Deadlock", "Desk", "Differs", "Event",
     "Fault", "FifoStage", "Finding", "Fit", "Late", "Limit", "MadeEdit", "Measure", "Module", "Moved", "NesthrimError", "Netlist", "NoSeat", "Note",
     "OpenOrder", "OutOfMemory", "Outcome", "Part", "PathPart", "Picture", "Port", "Program", "ProgramFailed", "ProgramMissing", "Race",
-    "Races", "Refused", "Report", "Seat", "Session", "Step", "Stimulus", "Stress", "UnknownName", "Unread", "Variant", "Wait", "Wave", "Waves", "Wire",
-    "WireMeasure", "Work", "Worst", "find_program", "sweep",
+    "Races", "Refused", "Report", "Seat", "Session", "Step", "Stimulus", "Stress", "SystemFailed", "UnknownName", "Unread", "Variant", "Wait", "Wave",
+    "Waves", "Wire", "WireMeasure", "Work", "Worst", "find_program", "sweep",
 ]  # fmt: skip

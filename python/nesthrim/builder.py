@@ -57,7 +57,7 @@ class Builder(Circuits):
         self.stim(found, [(time, (found.level + place) % 2) for place, time in enumerate(times, 1)])
 
     def bundle(self, name: str, req: Union[str, Wire], ack: Union[str, Wire], data: Union[str, Wire], setup: int = 0) -> Bundle:
-        """A request, an acknowledge and data that belong together; the data have to stand `setup` units before each request."""
+        """A request, an acknowledge and data that belong together; the data have to stand more than `setup` units before each request."""
         wires = [self._wire_name(wire) for wire in (req, ack, data)]
         bundle = Bundle(self._full_name(name), wires[0], wires[1], wires[2], whole(setup))
         self._add(bundle)

@@ -12,6 +12,7 @@ import weakref
 from typing import Optional
 
 from .errors import AnswerError, Closed, Unread
+from .system import as_bytes, asking_the_system
 
 # Two questions follow each line, and their two answers end the answer to the line. No wire has the name `.`. Within an answer the first of these
 # two lines is never followed by the second one.
@@ -30,8 +31,21 @@ class Silent(Exception):
     """The other end doesn't answer in time."""
 
 
+def _poll(end: int, event: int) -> select.poll:
+    poll = select.poll()
+    poll.register(end, event)
+    return poll
+
+
+def _wait_for(poll: select.poll, until: Optional[float]) -> None:
+    """Waits for an event of a pipe. `Silent` if none comes in time."""
+    left = None if until is None else max(0.0, until - time.monotonic()) * 1000
+    if not poll.poll(left):
+        raise Silent
+
+
 class Channel:
-    """A way to write lines, by the file descriptor `to`, and to read answers, by `back`. Each answer comes within `seconds`, if they are given.
+    """A way to write lines, by the file descriptor `to`, and to read answers, by `back`. Each line is written and answered within `seconds`, if they are given.
 
     Threads may share it: one line is answered after the other. It keeps `lock` open as long as `back`, if it is given.
     """
@@ -41,8 +55,10 @@ class Channel:
         self._back: Optional[int] = back
         self._kept = lock
         self._seconds = seconds
-        self._poll = select.poll()
-        self._poll.register(back, select.POLLIN)
+        # (whoever writes more than a pipe has room for waits no longer than for an answer)
+        os.set_blocking(to, False)
+        self._room = _poll(to, select.POLLOUT)
+        self._answers = _poll(back, select.POLLIN)
         self._lock = threading.Lock()
         _open.add(self)
 
@@ -50,7 +66,8 @@ class Channel:
     def of(cls, process: subprocess.Popen[bytes]) -> Channel:
         """The channel to a program with pipes for its input and its output, which are the channel's then."""
         assert process.stdin is not None and process.stdout is not None
-        channel = cls(os.dup(process.stdin.fileno()), os.dup(process.stdout.fileno()))
+        with asking_the_system():
+            channel = cls(os.dup(process.stdin.fileno()), os.dup(process.stdout.fileno()))
         process.stdin.close()
         process.stdout.close()
         return channel
@@ -62,30 +79,34 @@ class Channel:
 
     def ask(self, line: str) -> str:
         """The answer to a line. `Ended` if the other end goes away before it, `Silent` if it takes too long; the channel is closed then."""
+        text = as_bytes(line) + _QUESTIONS
         if "\n" in line:
             raise Unread(1, "NotAscii", statement=line, meaning="a line has no line feed in it: ask one line after the other")
         with self._lock:
             if self._to is None:
                 raise Closed("this was closed before: open another session, or take the seat again")
+            until = None if self._seconds is None else time.monotonic() + self._seconds
             try:
-                self._write(self._to, line.encode("utf-8", "surrogateescape") + _QUESTIONS)
-                return self._read().decode("utf-8", "replace")
+                self._write(self._to, text, until)
+                return self._read(until).decode("utf-8", "replace")
             except BaseException:
                 # (what comes still would be taken for the answer to the next line)
                 self._close()
                 raise
 
-    def _write(self, to: int, text: bytes) -> None:
+    def _write(self, to: int, text: bytes, until: Optional[float]) -> None:
         rest = memoryview(text)
-        try:
-            while rest:
+        while rest:
+            _wait_for(self._room, until)
+            try:
                 rest = rest[os.write(to, rest) :]
-        except BrokenPipeError as error:
-            raise Ended from error
+            except BlockingIOError:
+                continue
+            except BrokenPipeError as error:
+                raise Ended from error
 
-    def _read(self) -> bytes:
+    def _read(self, until: Optional[float]) -> bytes:
         answer = bytearray()
-        until = None if self._seconds is None else time.monotonic() + self._seconds
         while True:
             answer += self.take(until)
             end = _END.search(answer, max(0, len(answer) - _LONGEST_END))
@@ -98,9 +119,7 @@ class Channel:
         """Some bytes of what is answered. `Ended` if there are no more."""
         assert self._back is not None
         while True:
-            left = None if until is None else max(0.0, until - time.monotonic()) * 1000
-            if not self._poll.poll(left):
-                raise Silent
+            _wait_for(self._answers, until)
             try:
                 more = os.read(self._back, 65_536)
             except BlockingIOError:

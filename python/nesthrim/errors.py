@@ -5,6 +5,15 @@ from __future__ import annotations
 from typing import Any, Dict, Optional, Tuple
 
 
+# of a line so much is shown
+_MOST_SHOWN = 300
+
+
+def shortened(line: str) -> str:
+    """A line as a text of an exception shows it."""
+    return line if len(line) <= _MOST_SHOWN else line[:_MOST_SHOWN] + "..."
+
+
 class NesthrimError(Exception):
     """Any exception of this package."""
 
@@ -43,6 +52,10 @@ class BrokenPipe(ProgramFailed):
 
 class NoSeat(NesthrimError):
     """Nobody serves a seat, or it doesn't answer."""
+
+
+class SystemFailed(NesthrimError, OSError):
+    """The system refuses a file, a folder or a process. It is an `OSError` too, with its `errno` and its `filename`."""
 
 
 class Closed(NesthrimError):
@@ -107,14 +120,15 @@ class Fault(NesthrimError):
         if self.line is not None:
             text += f", line {self.line} of the netlist"
         if self.statement is not None:
-            text += f": `{self.statement}`"
+            text += f": `{shortened(self.statement)}`"
         if self.word is not None:
             text += f", at {self.word!r}" if self.word else ", at the end of the line"
         if self.meaning:
             text += f": {self.meaning}"
         if self.made_at is not None:
             text += f" (made at {self.made_at[0]}:{self.made_at[1]})"
-        return text
+        # (what no file can have, as half of a character, is shown by its number)
+        return text.encode("utf-8", "backslashreplace").decode("utf-8")
 
 
 def _fault_again(kind: type, code: int, name: str, details: Dict[str, Any]) -> Fault:

@@ -17,6 +17,7 @@ from .questions import END, AnyWire, Path, Questions, wire_name, write_file
 from .reading import statement_of
 from .session import Session
 from .stressed import Stressed
+from .system import asking_the_system
 from .variants import Variant, Workspace
 from .wires import Bundle, Module, Statement, Stimulus, Wire, whole
 
@@ -153,8 +154,9 @@ class Netlist(Builder, Questions, Stressed):
     @classmethod
     def load(cls, path: Path, *, program: Optional[Program] = None) -> Netlist:
         """The netlist of a file."""
-        with open(path, encoding="utf-8", errors="surrogateescape", newline="") as file:
-            return cls.read(file.read(), program=program)
+        with asking_the_system(), open(path, encoding="utf-8", errors="surrogateescape", newline="") as file:
+            text = file.read()
+        return cls.read(text, program=program)
 
     @classmethod
     def written(cls, text: str, *, program: Optional[Program] = None) -> Netlist:

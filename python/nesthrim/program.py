@@ -2,17 +2,19 @@
 
 from __future__ import annotations
 
+import errno
 import os
 import re
 import shutil
 import subprocess
 import sys
-import tempfile
 import threading
 from dataclasses import dataclass
-from typing import IO, Any, FrozenSet, List, Sequence, Set
+from typing import IO, Any, FrozenSet, List, Mapping, Optional, Sequence, Set, Tuple
 
+from .built import command_line
 from .errors import OutOfMemory, ProgramFailed, ProgramMissing
+from .system import as_bytes, asking_the_system, text_file
 
 # what the script `./mpwb` says of which program answers; each line is passed on once
 _NOTICE = re.compile(r"mpwb: .*(isn't proved|not proved|isn't kept)")
@@ -20,22 +22,30 @@ _noticed: Set[str] = set()
 
 
 def find_program() -> Program:
-    """The program that answers: that of MPWB, or else `mpwb` of the checkout that this package is in, of the current folder, or of PATH.
+    """The program that answers: that of MPWB, or else `mpwb` of the checkout that this package is in, or of PATH.
 
     `ProgramMissing` if there is none.
     """
     named = os.environ.get("MPWB")
     if named:
         return Program(named)
-    checkout = os.path.dirname(os.path.dirname(os.path.dirname(os.path.abspath(__file__))))
-    for folder in (checkout, os.getcwd()):
-        path = os.path.join(folder, "mpwb")
-        if os.path.isfile(path) and os.access(path, os.X_OK):
-            return Program(path)
+    python = os.path.dirname(os.path.dirname(os.path.abspath(__file__)))
+    path = os.path.join(os.path.dirname(python), "mpwb")
+    # (of a package that is installed, the folder has another name)
+    if os.path.basename(python) == "python" and _is_program(path):
+        return Program(path)
     found = shutil.which("mpwb")
     if found:
         return Program(found)
     raise ProgramMissing("there is no program mpwb: set MPWB to the path of the script ./mpwb of a checkout of Nesthrim, as MPWB=/home/me/nesthrim/mpwb")
+
+
+def _is_program(path: str) -> bool:
+    return os.path.isfile(path) and os.access(path, os.X_OK)
+
+
+# how the system says that nothing can be run at a path
+_NOT_RUN = {errno.ENOENT, errno.EACCES, errno.ENOTDIR, errno.ENOEXEC}
 
 
 @dataclass(frozen=True)
@@ -48,11 +58,14 @@ class Output:
 
 
 class Program:
-    """The program at a path: the script `./mpwb` of a checkout, or the compiled program. `ProgramMissing` if nothing can be run there."""
+    """The program at a path: the script `./mpwb` of a checkout, or the compiled program. `ProgramMissing` if nothing can be run there.
+
+    Where the script would have its proved program answer, that one is run in its place.
+    """
 
     def __init__(self, path: str) -> None:
         self.path = os.path.abspath(path)
-        if not (os.path.isfile(self.path) and os.access(self.path, os.X_OK)):
+        if not _is_program(self.path):
             raise ProgramMissing(f"{self.path} is no program: set MPWB to the path of the script ./mpwb of a checkout of Nesthrim")
 
     def __repr__(self) -> str:
@@ -60,10 +73,19 @@ class Program:
 
     def start(self, words: Sequence[str], **how: Any) -> subprocess.Popen[bytes]:
         """Starts a run of the program, with standard output and standard error to read. `ProgramMissing` if the system can't run it."""
-        try:
-            return subprocess.Popen([self.path, *words], stdout=subprocess.PIPE, stderr=subprocess.PIPE, bufsize=0, **how)
-        except OSError as error:
-            raise ProgramMissing(f"{self.path} can't be run: {error.strerror}; set MPWB to the path of the script ./mpwb") from error
+        line, how["env"] = self._command_line(words, how.get("env"))
+        with asking_the_system():
+            try:
+                return subprocess.Popen([as_bytes(word) for word in line], stdout=subprocess.PIPE, stderr=subprocess.PIPE, bufsize=0, **how)
+            except OSError as error:
+                if error.errno not in _NOT_RUN:
+                    raise
+                raise ProgramMissing(f"{self.path} can't be run: {error.strerror}; set MPWB to the path of the script ./mpwb") from error
+
+    def _command_line(self, words: Sequence[str], environment: Optional[Mapping[str, str]]) -> Tuple[Sequence[str], Mapping[str, str]]:
+        environment = os.environ if environment is None else environment
+        found = command_line(self.path, words, environment) if self.is_script() else None
+        return found or ([self.path, *words], environment)
 
     def start_on(self, words: Sequence[str], text: str, kept: Sequence[int] = (), **how: Any) -> subprocess.Popen[bytes]:
         """Starts a run whose last word, FILE, is a file with this text. It has the file descriptors `kept` too."""
@@ -73,8 +95,11 @@ class Program:
 
     def is_script(self) -> bool:
         """Whether this is the script, and not the compiled program."""
-        with open(self.path, "rb") as file:
-            return file.read(2) == b"#!"
+        try:
+            with open(self.path, "rb") as file:
+                return file.read(2) == b"#!"
+        except OSError:
+            return False
 
     def run(self, words: Sequence[str], text: str = "", as_file: bool = False) -> Output:
         """Runs the program to its end, on a text as its standard input, or as FILE."""
@@ -137,14 +162,6 @@ class Complaints:
             if stream is not None:
                 stream.close()
         return status, "\n".join(self._said)
-
-
-def text_file(text: str) -> IO[bytes]:
-    """A file without a name that has this text, to be read from its begin."""
-    file = tempfile.TemporaryFile()
-    file.write(text.encode("utf-8", "surrogateescape"))
-    file.seek(0)
-    return file
 
 
 def failure(status: int, said: str) -> ProgramFailed:

@@ -13,6 +13,7 @@ from .answers.report import Check, Report, read_check, read_report
 from .answers.waves import Wave, Waves, read_wave, read_waves
 from .answers.work import MadeEdit, Work, read_edits, read_version, read_work
 from .names import plain_name
+from .system import asking_the_system
 from .wires import Wire
 
 # a time above all horizons: the program reads it as the last time, and at the end of a range as the horizon
@@ -66,7 +67,7 @@ def wire_name(wire: AnyWire) -> str:
 def write_file(path: Optional[Path], text: str) -> None:
     """Writes a text to a file, if one is named."""
     if path is not None:
-        with open(path, "w", encoding="utf-8", newline="\n") as file:
+        with asking_the_system(), open(path, "w", encoding="utf-8", newline="\n") as file:
             file.write(text)
 
 

@@ -14,6 +14,7 @@ from .errors import AnswerError, BrokenPipe, NesthrimError, NoSeat
 from .faults import fault_of
 from .program import Complaints, Output, Program, find_program
 from .questions import Path
+from .system import asking_the_system
 from .talk import Talk
 
 if TYPE_CHECKING:
@@ -23,26 +24,35 @@ if TYPE_CHECKING:
 # how long a seat may take to be free when somebody is gone
 _LONGEST_LEAVE = 2.0
 
+# how long somebody who looks for a desk may hold the lock of its folder
+_LONGEST_LOOK = 0.5
+
+# the status by which the script says that it doesn't get that lock
+_NO_LOCK = 3
+
 
 class Seat(Talk):
     """Somebody at a seat of a live desk, as "designer-1" or "viewer-2", that was started by `mpwb desk FILE --at FOLDER`.
 
-    A designer edits and asks; a viewer asks, and edits are refused (22 NotADesigner). `NoSeat` if the seat is taken, nobody serves it within
-    `seconds`, or a line isn't answered within them.
+    A designer edits and asks; a viewer asks, and edits are refused (22 NotADesigner). `NoSeat` if no desk runs at the folder, the seat is taken,
+    nobody serves it within `seconds`, or a line isn't written and answered within them.
     """
 
     def __init__(self, folder: Path, name: str, seconds: float = 60.0, program: Optional[Program] = None) -> None:
         self.name = name
         self.program = program
         path = os.path.join(os.fspath(folder), name)
-        lock = _locked(f"{path}.lock", name)
-        try:
-            _wait_until_free(path, name)
-            to, back = _sit_down(path, time.monotonic() + seconds)
-        except BaseException:
-            if lock is not None:
-                os.close(lock)
-            raise
+        until = time.monotonic() + seconds
+        with asking_the_system():
+            _need_desk(path)
+            lock = _locked(f"{path}.lock", name)
+            try:
+                _wait_until_free(path, name)
+                to, back = _sit_down(path, until)
+            except BaseException:
+                if lock is not None:
+                    os.close(lock)
+                raise
         super().__init__(Channel(to, back, seconds, lock))
         # (the desk knows that the seat is taken once it answers)
         self.version()
@@ -74,6 +84,29 @@ def _drawn(program: Program, words: Sequence[str], text: str) -> str:
     if output.status != 0:
         raise fault_of(output, program, text, lambda line: None)
     return output.written
+
+
+def _need_desk(path: str) -> None:
+    """`NoSeat` if no desk runs at the folder of a seat. A desk holds the folder's lock as long as it runs."""
+    folder = os.path.dirname(path) or "."
+    try:
+        lock = os.open(folder, os.O_RDONLY | os.O_DIRECTORY)
+    except (FileNotFoundError, NotADirectoryError):
+        lock = None
+    if lock is not None and _is_held(lock):
+        return
+    raise NoSeat(f"there is no desk at {folder}: start one by ./mpwb desk FILE --at FOLDER")
+
+
+def _is_held(lock: int) -> bool:
+    """Whether somebody holds a lock alone; what was opened for it is closed."""
+    try:
+        fcntl.flock(lock, fcntl.LOCK_SH | fcntl.LOCK_NB)
+    except BlockingIOError:
+        return True
+    finally:
+        os.close(lock)
+    return False
 
 
 def _locked(path: str, name: str) -> Optional[int]:
@@ -139,8 +172,9 @@ def _opened_to_write(path: str, back: int, until: float) -> Optional[int]:
             os.close(end)
             return None
         except OSError as error:
+            _need_desk(path)
             if time.monotonic() > until:
-                raise NoSeat(f"nobody serves {path}: start the desk by ./mpwb desk FILE --at FOLDER, and take a seat that is free") from error
+                raise NoSeat(f"nobody serves {path}: the desk hasn't come to this seat in time") from error
             if not _is_at(back, path):
                 return None
             time.sleep(0.002)
@@ -162,14 +196,17 @@ class Desk(Talk):
         self.names = [f"designer-{number + 1}" for number in range(designers)] + [f"viewer-{number + 1}" for number in range(viewers)]
         self._text = str(netlist)
         self._origin = (lambda line: None) if isinstance(netlist, str) else netlist.origin
-        os.makedirs(self.folder, exist_ok=True)
-        locks = self._folder_locked()
-        if locks:
-            self._make_files()
         words = ["desk", f"--at={self.folder}", f"--designers={designers}", f"--viewers={viewers}"]
-        self._process = self.program.start_on(words, self._text, locks, stdin=subprocess.PIPE)
-        for lock in locks:
-            os.close(lock)
+        with asking_the_system():
+            os.makedirs(self.folder, exist_ok=True)
+            locks = self._folder_locked()
+            try:
+                if locks:
+                    self._make_files()
+                self._process = self.program.start_on(words, self._text, locks, stdin=subprocess.PIPE)
+            finally:
+                for lock in locks:
+                    os.close(lock)
         self._complaints = Complaints(self._process)
         super().__init__(Channel.of(self._process))
         self.version()
@@ -198,12 +235,20 @@ class Desk(Talk):
         if self.program.is_script():
             return []
         lock = os.open(self.folder, os.O_RDONLY)
-        try:
-            fcntl.flock(lock, fcntl.LOCK_EX | fcntl.LOCK_NB)
-        except BlockingIOError as error:
-            os.close(lock)
-            raise NoSeat(f"there is a desk at {self.folder}: take a seat of it, or choose another folder") from error
-        return [lock]
+        # (whoever looks for a desk has the lock for a moment)
+        until = time.monotonic() + _LONGEST_LOOK
+        while True:
+            try:
+                fcntl.flock(lock, fcntl.LOCK_EX | fcntl.LOCK_NB)
+                return [lock]
+            except BlockingIOError as error:
+                if time.monotonic() > until:
+                    os.close(lock)
+                    raise self._taken() from error
+            time.sleep(0.01)
+
+    def _taken(self) -> NoSeat:
+        return NoSeat(f"there is a desk at {self.folder}: take a seat of it, or choose another folder")
 
     def seat(self, name: str, seconds: float = 60.0) -> Seat:
         """Takes a seat, as "designer-1"."""
@@ -221,6 +266,8 @@ class Desk(Talk):
 
     def _gone(self) -> NesthrimError:
         status, said = self._complaints.end()
+        if status == _NO_LOCK and said.startswith("mpwb: there is a desk at "):
+            return self._taken()
         if status <= 0:
             return BrokenPipe("the desk has gone away before it answered; start it again", status, said)
         return fault_of(Output(status, "", said), self.program, self._text, self._origin)

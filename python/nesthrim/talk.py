@@ -8,7 +8,8 @@ from typing import TYPE_CHECKING, Any, Dict, Optional, Sequence, Type, TypeVar
 
 from .answers.work import Outcome
 from .channel import Channel, Ended, Silent
-from .errors import Fault, NesthrimError, NoSeat, Refused, UnknownName, Unread
+from .errors import Fault, NesthrimError, NoSeat, Refused, UnknownName, Unread, shortened
+from .lines import without_comment
 from .program import Program
 from .questions import EditQuestions
 
@@ -66,7 +67,7 @@ class Talk(EditQuestions):
             raise self._gone() from error
         except Silent as error:
             self.close()
-            raise NoSeat(f"{line!r} isn't answered in time: is the desk running, and does somebody else read at this seat?") from error
+            raise NoSeat(f"{shortened(line)!r} isn't answered in time: is the desk running, and does somebody else read at this seat?") from error
 
     @property
     def is_open(self) -> bool:
@@ -111,5 +112,8 @@ class Talk(EditQuestions):
         return outcome.number
 
     def batch(self, *lines: str) -> int:
-        """Makes 1 to 256 edits as one: all, or none and `Refused` (21 InBatch), whose `place` and `reason` tell of the first that is refused."""
-        return self.edit("batch " + " ; ".join(lines))
+        """Makes 1 to 256 edits as one: all, or none and `Refused` (21 InBatch), whose `place` and `reason` tell of the first that is refused.
+
+        A comment of an edit is left out.
+        """
+        return self.edit("batch " + " ; ".join(map(without_comment, lines)))

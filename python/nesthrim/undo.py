@@ -4,6 +4,8 @@ from __future__ import annotations
 
 from typing import TYPE_CHECKING, Dict, List, Optional, Sequence, Tuple
 
+from .lines import parts_of
+
 if TYPE_CHECKING:
     from .netlist import Netlist
 
@@ -62,11 +64,3 @@ class Undo:
         ports = module.inputs if key[0] in ("input", "indelay") else module.outputs
         wire, delay = ports[int(key[2])]
         return (str(delay),) if key[0] in ("delay", "indelay") else (wire or "-",)
-
-
-def parts_of(line: str) -> List[str]:
-    """The edits of a line: those of a batch, else the line itself, without its comment."""
-    words = line.split("#")[0].split()
-    if words[:1] != ["batch"]:
-        return [" ".join(words)]
-    return [part.strip() for part in f" {' '.join(words[1:])} ".split(" ; ")]

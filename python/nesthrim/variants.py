@@ -6,9 +6,10 @@ from contextlib import contextmanager
 from typing import TYPE_CHECKING, Iterator, List, Optional, Sequence, Tuple
 
 from .errors import Closed, Fault
+from .lines import parts_of
 from .questions import Questions
 from .session import Session
-from .undo import Undo, parts_of
+from .undo import Undo
 
 if TYPE_CHECKING:
     from .netlist import Netlist

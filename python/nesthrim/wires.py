@@ -81,7 +81,7 @@ class Stimulus:
 
 @dataclass(frozen=True)
 class Bundle:
-    """A request, an acknowledge and data that belong together; the data have to stand `setup` units before each request."""
+    """A request, an acknowledge and data that belong together; the data have to stand more than `setup` units before each request."""
 
     name: str
     req: str

@@ -10,7 +10,7 @@ import tempfile
 import unittest
 from typing import Any, Callable, List, Optional
 
-from nesthrim import AnswerError, BrokenPipe, Netlist, NoSeat, OutOfMemory, Program, ProgramFailed, ProgramMissing, Refused, Session
+from nesthrim import AnswerError, BrokenPipe, Netlist, NoSeat, OutOfMemory, Program, ProgramFailed, ProgramMissing, Refused, Session, SystemFailed
 from nesthrim import UnknownName, Unread, find_program
 from tests.support import TOP, Case, commands
 from tests.test_sessions import two_stages
@@ -119,7 +119,7 @@ class StandIns(Case):
         self.assertEqual(os.path.join(TOP, "mpwb"), find_program().path)
 
     def test_a_package_that_is_elsewhere(self) -> None:
-        """Installed, the package finds `./mpwb` of the present folder, or that of PATH, and else says what to do."""
+        """Installed, the package finds the program of PATH, and else says what to do. It doesn't run one that is in the present folder."""
         code = "import nesthrim\ntry:\n    print(nesthrim.find_program().path)\nexcept nesthrim.ProgramMissing as error:\n    print(error)"
         place = os.path.join(self.room, "lib", "python3", "nesthrim")
         os.makedirs(os.path.dirname(place))
@@ -127,7 +127,7 @@ class StandIns(Case):
         self.stand_in("exit 0")
         empty = os.path.join(self.room, "empty")
         os.mkdir(empty)
-        for folder, path, wanted in [(self.room, "/usr/bin:/bin", "/mpwb"), (empty, f"{self.room}:/usr/bin:/bin", "/mpwb"), (empty, "/usr/bin:/bin", "set MPWB")]:
+        for folder, path, wanted in [(self.room, "/usr/bin:/bin", "set MPWB"), (empty, f"{self.room}:/usr/bin:/bin", "/mpwb"), (empty, "/usr/bin:/bin", "set MPWB")]:
             env = {"PATH": path, "PYTHONPATH": os.path.dirname(place), "HOME": self.room}
             run = subprocess.run([sys.executable, "-c", code], env=env, cwd=folder, stdout=subprocess.PIPE, text=True, check=True)
             self.assertIn(wanted, run.stdout)
@@ -159,6 +159,7 @@ class Exceptions(Case):
             AnswerError("waves", "what"),
             OutOfMemory("it ran out", 4, "mpwb: out of memory"),
             BrokenPipe("it has gone"),
+            SystemFailed(2, "No such file or directory", "nothing.net"),
             NoSeat("nobody"),
         ]
         for fault in faults:

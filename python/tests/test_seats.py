@@ -2,12 +2,15 @@
 
 from __future__ import annotations
 
+import fcntl
 import os
+import signal
 import tempfile
 import threading
 import time
+import unittest
 
-from nesthrim import BrokenPipe, Closed, Desk, NoSeat, ProgramFailed, Refused, Seat, UnknownName, Unread
+from nesthrim import BrokenPipe, Closed, Desk, NoSeat, Program, ProgramFailed, Refused, Seat, UnknownName, Unread, find_program
 from tests.support import Case
 from tests.test_sessions import two_stages
 
@@ -66,16 +69,80 @@ class Seats(Case):
                 thread.join()
             self.assertEqual(40, desk.version())
 
-    def test_nobody_serves_a_seat(self) -> None:
-        fault = self.fault(NoSeat, lambda: Seat(self.folder, "designer-1"))
-        self.assertIn("there is no seat", str(fault))
+    def make_pipes(self) -> None:
         os.makedirs(self.folder)
         for end in ("in", "out"):
             os.mkfifo(os.path.join(self.folder, f"designer-1.{end}"))
+
+    def lock_folder(self, how: int, seconds: float) -> None:
+        """Has a lock of the folder for some time, or until the test ends."""
+        os.makedirs(self.folder, exist_ok=True)
+        lock = os.open(self.folder, os.O_RDONLY)
+        self.addCleanup(os.close, lock)
+        fcntl.flock(lock, how)
+        timer = threading.Timer(seconds, fcntl.flock, [lock, fcntl.LOCK_UN])
+        timer.start()
+        self.addCleanup(timer.join)
+        self.addCleanup(timer.cancel)
+
+    def seconds_until_no_seat(self, wanted: str, seconds: float) -> float:
         begin = time.monotonic()
-        fault = self.fault(NoSeat, lambda: Seat(self.folder, "designer-1", seconds=0.05))
-        self.assertIn("start the desk by ./mpwb desk FILE --at FOLDER", str(fault))
-        self.assertLess(time.monotonic() - begin, 10)
+        self.assertIn(wanted, str(self.fault(NoSeat, lambda: Seat(self.folder, "designer-1", seconds=seconds))))
+        return time.monotonic() - begin
+
+    def test_no_desk(self) -> None:
+        self.assertLess(self.seconds_until_no_seat("there is no desk at", 60), 10)
+        self.make_pipes()
+        self.assertLess(self.seconds_until_no_seat("start one by ./mpwb desk FILE --at FOLDER", 60), 10)
+
+    def test_a_desk_that_never_comes_to_a_seat(self) -> None:
+        self.make_pipes()
+        self.lock_folder(fcntl.LOCK_EX, 60)
+        self.assertLess(self.seconds_until_no_seat("nobody serves", 0.05), 10)
+
+    def test_a_desk_that_ends_before_it_comes_to_a_seat(self) -> None:
+        self.make_pipes()
+        self.lock_folder(fcntl.LOCK_EX, 0.3)
+        self.assertLess(self.seconds_until_no_seat("there is no desk at", 60), 10)
+
+    def test_a_desk_that_begins_while_somebody_looks_for_it(self) -> None:
+        self.lock_folder(fcntl.LOCK_SH, 0.1)
+        with Desk(two_stages(), self.folder) as desk:
+            self.assertEqual(0, desk.version())
+
+    def test_a_desk_without_that_seat(self) -> None:
+        with Desk(two_stages(), self.folder, designers=1) as desk:
+            self.assertIn("there is no seat", str(self.fault(NoSeat, lambda: desk.seat("designer-2"))))
+
+    @unittest.skipIf(find_program().is_script(), "what is stopped would be the script: MPWB names the compiled program")
+    def test_a_desk_that_doesn_t_read(self) -> None:
+        with Desk(two_stages(), self.folder) as desk, desk.seat("viewer-1", seconds=0.5) as seat:
+            desk._process.send_signal(signal.SIGSTOP)
+            wake = threading.Timer(20, desk._process.send_signal, [signal.SIGCONT])
+            wake.start()
+            # (a pipe has room for 65,536 bytes)
+            line = "wave " + "x" * 200_000
+            begin = time.monotonic()
+            self.assertLess(len(str(self.fault(NoSeat, lambda: seat.ask(line)))), 1000)
+            self.assertLess(time.monotonic() - begin, 10)
+            self.assertFalse(seat.is_open)
+            wake.cancel()
+            desk._process.send_signal(signal.SIGCONT)
+
+    def test_a_long_line(self) -> None:
+        with Desk(two_stages(), self.folder) as desk, desk.seat("viewer-1") as seat:
+            self.assertEqual(8, self.fault(Unread, lambda: seat.ask("wave " + "x" * 200_000)).code)
+            self.assertEqual("q2 0 5=1 12=0", str(seat.wave("q2")))
+
+    def test_a_desk_of_the_script_on_a_folder_that_is_taken(self) -> None:
+        os.makedirs(self.folder)
+        script = os.path.join(self.folder, "mpwb")
+        with open(script, "w", encoding="utf-8") as file:
+            file.write(f"#!/bin/sh\necho 'mpwb: there is a desk at {self.folder}' >&2\nexit 3\n")
+        os.chmod(script, 0o755)
+        n = two_stages()
+        n.program = Program(script)
+        self.assertIn("take a seat of it", str(self.fault(NoSeat, lambda: Desk(n, self.folder))))
 
     def test_a_seat_and_a_folder_are_one_s_own(self) -> None:
         with Desk(two_stages(), self.folder) as desk:

@@ -11,7 +11,8 @@ import time
 from typing import List
 
 from nesthrim import BrokenPipe, Closed, FifoStage, Netlist, Refused, Session, UnknownName, Unread, Work
-from nesthrim.undo import Undo, parts_of
+from nesthrim.lines import parts_of
+from nesthrim.undo import Undo
 from tests.support import Case, example
 from tests.test_netlist import ALL_KINDS
 

@@ -1,4 +1,5 @@
 pub mod Asking
+pub mod Labels
 pub mod Wires
 pub mod WordErrors
 pub mod explain

@@ -26,8 +26,6 @@ pub(crate) enum ArgumentKind {
     NumberWith(&'static str),
     /// An option with a word, which requires another argument.
     WordWith(&'static str),
-    /// An option with a word.
-    OptionalWord,
     /// An option with two values of these names, which requires another argument.
     PairWith(&'static [&'static str], &'static str),
     /// An option with a time.
@@ -49,7 +47,6 @@ impl ArgumentForm {
             ArgumentKind::NumberWith(other) => self.count(alloc).requires_arg(other),
             ArgumentKind::WordWith(other) => self.valued(alloc).requires_arg(other),
             ArgumentKind::PairWith(names, other) => self.pair(alloc, names).requires_arg(other),
-            ArgumentKind::OptionalWord => Ok(self.valued(alloc)),
             ArgumentKind::Time => self.time(alloc),
             ArgumentKind::Words => self.words(alloc),
             ArgumentKind::Nothing => self.flag(alloc),

@@ -109,7 +109,7 @@ static DRAWING: [ArgumentForm; 7] = [
         name: "unit",
         value: "TEXT",
         help: "The label of the times in an SVG file, by default `time in units`",
-        takes: ArgumentKind::OptionalWord,
+        takes: ArgumentKind::WordWith("svg"),
     },
     ArgumentForm {
         name: "causes",

@@ -12,6 +12,7 @@ pub mod explain;
 mod faults;
 mod help;
 mod help_editing;
+mod label;
 mod parser;
 mod picture_words;
 mod reading;

@@ -1,10 +1,12 @@
 //! Reads the words of the command line.
-ghost use Rattle.std.specs.Prelude.{◌≡◌, ◌≢◌, IfOk, IfSome, codes};
+ghost use Rattle.std.specs.Prelude.{◌≡◌, ◌≢◌, IfOk, IfSome, IsTrue, None, codes};
 ghost use Rattle.clap.specs.Values.{kind_of};
 ghost use Rattle.clap.specs.declared.error.kind.ErrorKind.TheVariants as kinds;
-ghost use Rattle.mp_request.specs.Asking.{file_of};
+ghost use Rattle.mp_request.specs.Asking.{file_of, label_in, label_of};
+ghost use Rattle.mp_request.specs.Labels.{is_label};
 
 use crate::command_line::CommandLine;
+use crate::label::is_label;
 use crate::parser::{explain, parser};
 use crate::picture_words::PictureWords;
 use crate::request::{Command, Request};
@@ -18,7 +20,8 @@ const STANDARD_INPUT: &str = "-";
 /// Reads the words of the command line, the program's name first. The error is what to print instead of a run: help, the version, or what is wrong
 /// with the words; or that memory ran out.
 pub fn read_words<'a>(alloc: Global, words: &'a [String]) -> Result<CommandLine<'a>, Error>
-    ensures { IfOk result (λ asked. IfSome (file_of asked) (λ path. path.now ≢ codes "-")) }
+    ensures file { IfOk result (λ asked. IfSome (file_of asked) (λ path. path.now ≢ codes "-")) }
+    ensures label { IfOk result (λ asked. IfSome (label_of asked) (λ label. IsTrue (is_label label.now))) }
 {
     let matches = parser(alloc)?.try_get_matches_from(words)?;
     asked(alloc, &matches)
@@ -26,7 +29,8 @@ pub fn read_words<'a>(alloc: Global, words: &'a [String]) -> Result<CommandLine<
 
 /// The request of these matches.
 fn asked<'a>(alloc: Global, matches: &ArgMatches<'a>) -> Result<CommandLine<'a>, Error>
-    ensures { IfOk result (λ asked. IfSome (file_of asked) (λ path. path.now ≢ codes "-")) }
+    ensures file { IfOk result (λ asked. IfSome (file_of asked) (λ path. path.now ≢ codes "-")) }
+    ensures label { IfOk result (λ asked. IfSome (label_of asked) (λ label. IsTrue (is_label label.now))) }
 {
     let Some((word, found)) = matches.subcommand() else {
         return Err(no_command(alloc));
@@ -85,7 +89,9 @@ fn command_of<'a>(
     alloc: Global,
     word: &str,
     found: &ArgMatches<'a>,
-) -> Result<Option<Command<'a>>, Error> {
+) -> Result<Option<Command<'a>>, Error>
+    ensures { IfOk result (λ command. IfSome command (λ c. IfSome (label_in c) (λ label. IsTrue (is_label label.now)))) }
+{
     if word == "show" {
         let picture = picture_words(alloc, found)?;
         return Ok(Some(Command::Show(picture)));
@@ -97,7 +103,9 @@ fn command_of<'a>(
 }
 
 /// The command without arguments of its own that a word names; `None` if it names none.
-fn plain_command<'a>(word: &str) -> Option<Command<'a>> {
+fn plain_command<'a>(word: &str) -> Option<Command<'a>>
+    ensures { IfSome result (λ c. label_in c ≡ None) }
+{
     Some(match word {
         "waves" => Command::Waves,
         "report" => Command::Report,
@@ -111,7 +119,9 @@ fn plain_command<'a>(word: &str) -> Option<Command<'a>> {
 }
 
 /// The command other than `show`, with arguments of its own, that a word names; `None` if it names none.
-fn command_with_arguments<'a>(word: &str, found: &ArgMatches<'a>) -> Option<Command<'a>> {
+fn command_with_arguments<'a>(word: &str, found: &ArgMatches<'a>) -> Option<Command<'a>>
+    ensures { IfSome result (λ c. label_in c ≡ None) }
+{
     Some(match word {
         "why" => Command::Why {
             wire: wire(found),
@@ -133,7 +143,9 @@ fn command_with_arguments<'a>(word: &str, found: &ArgMatches<'a>) -> Option<Comm
 }
 
 /// A desk that serves people at a folder if there is `--at`, and otherwise one whose lines are in its input.
-fn desk_command<'a>(found: &ArgMatches<'a>) -> Command<'a> {
+fn desk_command<'a>(found: &ArgMatches<'a>) -> Command<'a>
+    ensures { label_in result ≡ None }
+{
     match found.get_str("at") {
         None => Command::Desk,
         Some(folder) => Command::LiveDesk {
@@ -144,7 +156,10 @@ fn desk_command<'a>(found: &ArgMatches<'a>) -> Command<'a> {
 }
 
 /// The options of a timing diagram.
-fn picture_words<'a>(alloc: Global, found: &ArgMatches<'a>) -> Result<PictureWords<'a>, Error> {
+fn picture_words<'a>(alloc: Global, found: &ArgMatches<'a>) -> Result<PictureWords<'a>, Error>
+    ensures { IfOk result (λ words. IsTrue (is_label words.unit.now)) }
+{
+    let unit = unit(alloc, found)?;
     let caused = pair(found, "causes");
     let causes = causes_time(alloc, caused)?;
     let wires = shown_wires(alloc, found, caused)?;
@@ -157,8 +172,21 @@ fn picture_words<'a>(alloc: Global, found: &ArgMatches<'a>) -> Result<PictureWor
         ascii: found.get_flag("ascii"),
         hex: found.get_flag("hex"),
         svg: found.get_flag("svg"),
-        unit: found.get_str("unit").unwrap_or("time in units"),
+        unit,
     })
+}
+
+/// What the times of a picture are. The error comes if an SVG doesn't show one of its characters.
+fn unit<'a>(alloc: Global, found: &ArgMatches<'a>) -> Result<&'a str, Error>
+    ensures { IfOk result (λ label. IsTrue (is_label label.now)) }
+{
+    let label = found.get_str("unit").unwrap_or("time in units");
+    if is_label(label) {
+        return Ok(label);
+    }
+    let message =
+        "invalid value for '--unit <TEXT>': control characters, U+FFFE and U+FFFF aren't allowed";
+    Err(told_by(parser(alloc), ErrorKind::InvalidValue, message)?)
 }
 
 /// The time in the words of `--causes`; `None` if they aren't given.
@@ -224,7 +252,8 @@ fn to(found: &ArgMatches<'_>) -> u64 {
 }
 
 fn request<'a>(command: Command<'a>, found: &ArgMatches<'a>) -> Request<'a>
-    ensures { IfSome result.file (λ path. path.now ≢ codes "-") }
+    ensures file { IfSome result.file (λ path. path.now ≢ codes "-") }
+    ensures command { result.command ≡ command.entry }
 {
     Request {
         command,

@@ -6,6 +6,8 @@ import os
 from dataclasses import dataclass
 from typing import Union
 
+from ..system import asking_the_system
+
 
 @dataclass(frozen=True)
 class Picture:
@@ -18,7 +20,7 @@ class Picture:
 
     def save(self, path: Union[str, "os.PathLike[str]"]) -> None:
         """Writes the file."""
-        with open(path, "w", encoding="utf-8", newline="\n") as file:
+        with asking_the_system(), open(path, "w", encoding="utf-8", newline="\n") as file:
             file.write(self.text)
 
     def __str__(self) -> str:

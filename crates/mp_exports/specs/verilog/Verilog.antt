@@ -65,13 +65,14 @@ abbrev pub stimulus_lines : Option WireRecord → List ℕ
 stimulus_lines None = []
 stimulus_lines (Some r) = changes_text r r.stimulus
 
+-- the bench ends once the changes of the last unit below the horizon have occurred
 unfoldable pub bench_text : Circuit → List ℕ
 bench_text n =
-    codes "\nmodule bench;\n" ++ (flat_map (register_line n) (numbers n.wires)
+    codes "\nmodule bench;\n  reg last$ = 1'd0;\n" ++ (flat_map (register_line n) (numbers n.wires)
     ++ (codes "  netlist netlist$ (" ++ (without_first (flat_map (connection_item n) (numbers n.wires)) ++ (codes "\n  );\n"
     ++ (codes "  initial begin\n    $dumpfile(\"waves.vcd\");\n    $dumpvars(1, netlist$);\n"
     ++ (flat_map (λ w. stimulus_lines (wire_at n w)) (numbers n.wires)
-    ++ (codes "    #" ++ (decimal n.horizon ++ codes " $finish;\n  end\nendmodule\n"))))))))
+    ++ (codes "    last$ <= #(" ++ (decimal n.horizon ++ codes " - 1) 1'd1;\n    @(last$) #0 $finish;\n  end\nendmodule\n"))))))))
 
 -- the modules of its kinds, its own, and a test bench
 unfoldable pub verilog : Circuit → List ℕ

@@ -16,7 +16,9 @@ use mp_streams::{Failed, Out, Sink, Text};
 const DUMPING: &str =
     "  initial begin\n    $dumpfile(\"waves.vcd\");\n    $dumpvars(1, netlist$);\n";
 
-const END: &str = " $finish;\n  end\nendmodule\n";
+const START: &str = "\nmodule bench;\n  reg last$ = 1'd0;\n";
+
+const END: &str = " - 1) 1'd1;\n    @(last$) #0 $finish;\n  end\nendmodule\n";
 
 /// The registers of the wires that come from outside.
 #[derive(Clone, Copy)]
@@ -141,7 +143,8 @@ impl<'a> Numbered for StimulusItems<'a> {
     }
 }
 
-/// A test bench: it drives what comes from outside, and dumps the waves up to the horizon.
+/// A test bench: it drives what comes from outside, and dumps the waves. It ends in the last unit below the horizon, once that unit's changes have
+/// occurred.
 #[derive(Clone, Copy)]
 pub(crate) struct Bench<'a> {
     pub(crate) wires: Wires<'a>,
@@ -168,9 +171,8 @@ impl<'a> Text for Bench<'a> {
             items: StimulusItems { netlist },
             count: netlist.wire_slots(),
         };
-        let end = (stimuli, "    #", netlist.horizon(), END);
+        let end = (stimuli, "    last$ <= #(", netlist.horizon(), END);
         let instance = (connections, "\n  );\n", DUMPING, end);
-        let start = "\nmodule bench;\n";
-        (start, registers, "  netlist netlist$ (", instance).put_to(out)
+        (START, registers, "  netlist netlist$ (", instance).put_to(out)
     }
 }

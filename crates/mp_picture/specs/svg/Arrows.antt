@@ -1,6 +1,6 @@
 -- Arrows between wires at times.
-use Rattle.std.specs.Prelude.{ℕ, ◌==◌, nat_le, nat_lt, ◌&&◌, Bool, List, [], ◌∷◌, ◌++◌, length, Option, Some, None, codes, if◌then◌else◌}
-use Rattle.std.specs.List.{flat_map}
+use Rattle.std.specs.Prelude.{ℕ, nat_le, nat_lt, ◌&&◌, Bool, List, [], ◌∷◌, ◌++◌, length, Option, Some, None, codes, if◌then◌else◌}
+use Rattle.std.specs.List.{flat_map, list_any}
 use Rattle.mp_records.specs.declared.ids.WireId.{WireId}
 use Rattle.mp_picture.specs.Columns.{column_of}
 use Rattle.mp_picture.specs.declared.svg.arrow.Arrow.{Arrow}
@@ -67,6 +67,9 @@ arrows_start = arrow_style ++ (arrow_head ++ (codes "<g" ++ (attribute (codes "c
 abbrev pub arrow_list : Frame → List WireId → List Arrow → List ℕ
 arrow_list frame wires arrows = arrows_start ++ (flat_map (arrow_text frame wires) arrows ++ (codes "</g>" ++ (10 ∷ [])))
 
--- and nothing where there are no arrows
+abbrev pub is_drawn : Frame → List WireId → Arrow → Bool
+is_drawn frame wires a = is_shown frame wires a.from && is_shown frame wires a.to
+
+-- and nothing where none is
 abbrev pub arrow_group : Frame → List WireId → List Arrow → List ℕ
-arrow_group frame wires arrows = if length arrows == 0 then [] else arrow_list frame wires arrows
+arrow_group frame wires arrows = if list_any (is_drawn frame wires) arrows then arrow_list frame wires arrows else []

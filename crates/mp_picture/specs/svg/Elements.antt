@@ -13,7 +13,7 @@ number name value = attribute name (decimal value)
 abbrev pub title : List ℕ → List ℕ
 title text = codes "<title>" ++ (text ++ codes "</title>")
 
--- a byte of any text, as it stands in an element: what begins a tag or a reference is named, and a control character is a blank
+-- a byte of any text, as it stands in an element: what begins a tag or a reference is named, and what is below 32 is a blank
 abbrev pub escaped_byte : ℕ → List ℕ
 escaped_byte b =
     if b == 38 then codes "&amp;" else if b == 60 then codes "&lt;" else if b == 62 then codes "&gt;" else if nat_lt b 32 then codes " " else b ∷ []

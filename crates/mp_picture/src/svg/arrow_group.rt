@@ -1,12 +1,12 @@
 //! The arrows of an SVG.
 ghost use Rattle.std.specs.Prelude.{◌≡◌, ◌<◌, ◌^◌, length};
-ghost use Rattle.std.specs.List.{flat_map};
+ghost use Rattle.std.specs.List.{flat_map, list_any};
 ghost use Rattle.mp_streams.specs.Outgoing.{Writes};
-ghost use Rattle.mp_picture.specs.svg.Arrows.{spot_of, arrow_text, arrows_start, arrow_list, arrow_group};
+ghost use Rattle.mp_picture.specs.svg.Arrows.{is_shown, spot_of, arrow_text, arrows_start, arrow_list, is_drawn, arrow_group};
 
 use crate::svg::arrow::{Arrow, WirePoint};
 use crate::svg::frame::Frame;
-use crate::svg::leads::{lead_x, wire_among};
+use crate::svg::leads::{lead_x, place_among, wire_among};
 use mp_netlist::WireId;
 use mp_streams::{Failed, Out, Sink, Text};
 
@@ -29,7 +29,7 @@ pub(crate) struct Spot {
     y: u64,
 }
 
-/// Writes the arrows of which both ends are in the picture; if there are no arrows at all, nothing is written.
+/// Writes the arrows of which both ends are in the picture; if there are none, nothing is written.
 pub(crate) fn put_arrow_group<S: Sink>(
     out: &mut Out<S>,
     frame: Frame,
@@ -39,11 +39,34 @@ pub(crate) fn put_arrow_group<S: Sink>(
     requires { length wires.now < 2 ^ 32 }
     ensures { Writes result out.old out.new (arrow_group frame wires.now arrows.now) }
 {
-    if arrows.is_empty() {
-        Ok(())
-    } else {
+    if is_one_drawn(frame, wires, arrows) {
         put_arrow_list(out, frame, wires, arrows)
+    } else {
+        Ok(())
     }
+}
+
+/// Whether an arrow has both its ends in the picture.
+fn is_one_drawn(frame: Frame, wires: &[WireId], arrows: &[Arrow]) -> bool
+    ensures { result ≡ list_any (is_drawn frame wires.now) arrows.now }
+{
+    arrows.iter().any(|arrow| is_drawn(frame, wires, *arrow))
+}
+
+/// Whether both ends of an arrow are in the picture.
+fn is_drawn(frame: Frame, wires: &[WireId], arrow: Arrow) -> bool
+    ensures { result ≡ is_drawn frame wires.now arrow }
+{
+    is_shown(frame, wires, arrow.from) && is_shown(frame, wires, arrow.to)
+}
+
+/// Whether the wire has a row, and the time is in the range.
+fn is_shown(frame: Frame, wires: &[WireId], point: WirePoint) -> bool
+    ensures { result ≡ is_shown frame wires.now point }
+{
+    let columns = frame.columns;
+    let is_in_range = columns.from <= point.time && point.time < columns.to;
+    place_among(wires, point.wire) < wires.len() && is_in_range
 }
 
 /// Writes the arrows with both ends in the picture, with their group around them.

@@ -24,7 +24,7 @@ impl<T: Text> Text for Label<T> {
     }
 }
 
-/// A text as it is written in an element: a character that begins a tag or a reference by its name, and a control character as a blank.
+/// A text as it is written in an element: a character that begins a tag or a reference by its name, and one below U+0020 as a blank.
 #[derive(Clone, Copy)]
 pub(crate) struct Escaped<'a> {
     pub(crate) bytes: &'a [u8],

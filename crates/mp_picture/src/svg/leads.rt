@@ -56,8 +56,15 @@ pub(crate) fn wire_among(wires: &[WireId], wire: WireId) -> u32
     requires { length wires.now < 2 ^ 32 }
     ensures { result ≡ wire_among wires.now wire }
 {
-    let before = wires.iter().take_while(|other| other.0 != wire.0).count();
-    before as u32
+    place_among(wires, wire) as u32
+}
+
+/// How many wires stand before a wire; as many as there are if it isn't among them.
+pub(crate) fn place_among(wires: &[WireId], wire: WireId) -> usize
+    ensures value { result ≡ wire_among wires.now wire }
+    ensures bound { result ≤ length wires.now }
+{
+    wires.iter().take_while(|other| other.0 != wire.0).count()
 }
 
 /// Writes the lines of the marks of all findings, to the rows of these wires.

@@ -37,7 +37,7 @@ struct Sheet<'a> {
 /// Writes the SVG of a picture: a title above the times, a row for each wire, a row for each code of which the report finds something at
 /// a module or a bundle in the range, with the code's word, a mark for each of these findings, with a line to the wires of its place, and those
 /// of the arrows of which both ends are in the picture.
-/// Control characters of the title are blanks.
+/// Characters of the title below U+0020 are blanks.
 ///
 /// `WriteFailed` comes if the sink fails; then the sink has a beginning of what was held and of the SVG, and nothing is held. `OutOfMemory` comes if
 /// memory runs out, or if there are 2^32 rows or more, which no netlist has: then a part of the SVG, from its front, is written. It takes memory for

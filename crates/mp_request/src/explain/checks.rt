@@ -26,8 +26,9 @@ pub(crate) const LATE: Entry = Entry {
     22 bundle b late 4
   remedy:
     The data belong to that request, and were still under way when it came.
-    Delay the request by this number of units and the setup, or shorten the
-    path of the data, which `mpwb why WIRE TIME` shows step by step.
+    Delay the request by more than this number of units and the setup
+    together, or shorten the path of the data, which `mpwb why WIRE TIME` shows
+    step by step.
 ",
 };
 
@@ -47,7 +48,9 @@ pub(crate) const DEADLOCK: Entry = Entry {
     0 deadlock x waits for q, y waits for p
   remedy:
     Break the cycle, or start an event in it: with a NOT in place of a BUF, or
-    with the other INIT of a C and the same level at its wire.
+    with the other INIT of a C and the same level at its wire. Or a bubble is
+    missing: the C of a stage that begins empty has one (BUBA or BUBB is 1) at
+    the input by which the next stage answers.
 ",
 };
 
