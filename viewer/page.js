@@ -32,7 +32,8 @@ class Page {
     const places = written("places-text").split("\n").filter(Boolean).map((text) => readPlace(text, netlist));
     this.causes = new Causes(netlist, waves);
     this.view = new View(netlist, waves);
-    this.painter = new Painter(element("picture"), this.view, places, this.causes);
+    const wrong = places.filter(({ line }) => !line.startsWith("note ")); // (a note is no fault)
+    this.painter = new Painter(element("picture"), this.view, wrong, this.causes);
     this.found = 0; // the place of the row that the search found last
     document.querySelector("h1").textContent = document.title;
     element("places").querySelector("h2").textContent = `${places.length ? "Found" : "Nothing found"} by ${element("places-text").title}`;

@@ -1,5 +1,5 @@
 -- The label of the times in an SVG.
-use Rattle.std.specs.Prelude.{ℕ, ◌==◌, nat_le, nat_lt, ◌&&◌, ◌||◌, not, Bool, List}
+use Rattle.std.specs.Prelude.{ℕ, nat_le, nat_lt, ◌&&◌, ◌||◌, Bool, List}
 use Rattle.std.specs.List.{list_all}
 use Rattle.std.specs.Str.{chars}
 
