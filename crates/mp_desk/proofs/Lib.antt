@@ -5,5 +5,6 @@ pub mod KeepingLemmas
 pub mod ShowingLemmas
 pub mod RunLemmas
 pub mod RefusalLemmas
+pub mod KeeperLemmas
 pub mod StaffLemmas
 pub mod lemmas

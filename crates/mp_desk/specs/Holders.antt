@@ -23,12 +23,14 @@ pub record Seeing : Type 0 where
   pub reads : List Story
   pub signed : List ℕ
 
--- a designer: the version that was seen last, how many edits were accepted, the designer's number, and the authors of that version's edits
+-- a designer: the version that was seen last, how many edits were accepted, the designer's number, the authors of that version's edits, and all versions that
+-- were read at this place, the newest first
 pub record Working : Type 0 where
   pub seen : Story
   pub accepted : ℕ
   pub number : ℕ
   pub signed : List ℕ
+  pub reads : List Story
 
 -- the parts of a desk: the session, how many designers and viewers there will be, and which history and ledger it has
 pub record Parts (S : Type 0) : Type 0 where
@@ -49,7 +51,7 @@ RefusedAfter before seen edit error = RefusedBy edit (judged seen edit) error �
 
 -- a designer of this number who has just come
 abbrev pub fresh_designer : ℕ → Story → Working
-fresh_designer number s = record { seen = s; accepted = 0; number = number; signed = unsigned s }
+fresh_designer number s = record { seen = s; accepted = 0; number = number; signed = unsigned s; reads = s ∷ [] }
 
 -- designers who have just come, numbered from 1
 abbrev pub AreFresh : Story → List Working → Type 0

@@ -3,5 +3,6 @@ pub mod Chronicles
 pub mod Knowing
 pub mod DeskSizes
 pub mod Holders
+pub mod Keepers
 pub mod Worlds
 pub mod meeting

@@ -1,6 +1,7 @@
 //! Why a desk was not closed.
 use crate::designer::Designer;
 use crate::desk::Desk;
+use crate::edit_keeper::EditKeeper;
 use crate::name::DeskName;
 use mp_version::EditSession;
 use std::sync::Wait;
@@ -16,8 +17,8 @@ pub enum CloseCause {
 
 /// A refusal, with all that was given.
 #[derive(Drop)]
-pub struct CloseRefused<S: EditSession, L: DeskName, R: Wait + Drop> {
+pub struct CloseRefused<S: EditSession, K: EditKeeper, L: DeskName, R: Wait + Drop> {
     pub cause: CloseCause,
-    pub desk: Desk<S, L, R>,
+    pub desk: Desk<S, K, L, R>,
     pub designers: Vec<Designer<L>>,
 }

@@ -12,8 +12,8 @@ use std::marker::Model;
 use std::sync::Wait;
 use std::sync::ledger::{Book, Share};
 
-/// Submits edits. A contract sees the version that was seen last, how many edits were accepted, the designer's number, and the authors of
-/// that version's edits.
+/// Submits edits. A contract sees the version that was seen last, how many edits were accepted, the designer's number, the authors of that
+/// version's edits, and all versions that were read at this place, the newest first.
 #[derive(Drop)]
 pub struct Designer<L: DeskName> {
     pub(crate) pass: Pass,
@@ -28,28 +28,29 @@ pub struct Designer<L: DeskName> {
 
 impl<L: DeskName> Model for Designer<L> {
     ghost use Rattle.std.specs.Prelude.{◌≡◌, length};
-    ghost use Rattle.mp_desk.specs.Knowing.{Has};
+    ghost use Rattle.mp_desk.specs.Knowing.{Has, stories_of};
     ghost use Rattle.mp_desk.specs.Holders.{Working};
 
     ghost Value = { Working };
 
-    ghost view = { λ d. record { seen = d.seen.story; accepted = d.accepted; number = d.number; signed = d.signed.authors } };
+    ghost view = { λ d. record { seen = d.seen.story; accepted = d.accepted; number = d.number; signed = d.signed.authors; reads = stories_of d.pass } };
 
     ghost invariant = { λ d. Has d.pass d.seen × (d.seen.book ≡ L.history) × (d.signed.book ≡ L.history) × (length d.signed.authors ≡ length d.seen.story.edits) × (d.share.parts ≡ 1) × (d.share.amount ≡ d.accepted) };
 }
 
 impl<L: DeskName> Designer<L> {
-    ghost use Rattle.std.specs.Prelude.{◌≡◌, ◌<◌, ◌+◌, length, IfOk, OnErr};
+    ghost use Rattle.std.specs.Prelude.{◌≡◌, ◌<◌, ◌+◌, ◌∷◌, length, IfOk, OnErr};
     ghost use Rattle.std.specs.Arc.{arc_value};
     ghost use mathlib.Core.List.{IsPrefix};
     ghost use Rattle.mp_version.specs.Limits.{max_edits};
     ghost use Rattle.mp_desk.specs.Extending.{Extends};
 
-    /// Reads the published version, without waiting: the one that was seen last, or a later one. Its authors begin with those that were known before.
+    /// Reads the version that is published now, and not one that was kept, without waiting. Its authors begin with those that were known before.
     /// `Closed` comes if the desk is closed, and `OutOfMemory` if memory runs out; then the version seen last stays.
     pub fn read(&mut self) -> Result<SignedVersion, ReadError>
         ensures later { IfOk result (λ v. Extends (arc_value v.version) self.old.seen) }
         ensures seen { IfOk result (λ v. self.new.seen ≡ arc_value v.version) }
+        ensures now { IfOk result (λ v. self.new.reads ≡ arc_value v.version ∷ self.old.reads) }
         ensures authors { IfOk result (λ v. (self.new.signed ≡ v.authors) × IsPrefix self.old.signed v.authors) }
         ensures err { OnErr result ((self.new.seen ≡ self.old.seen) × (self.new.signed ≡ self.old.signed)) }
         ensures each { length self.new.signed ≡ length self.new.seen.edits }

@@ -1,6 +1,8 @@
 //! Why no desk was made.
 ghost use Rattle.std.specs.Prelude.{◌≡◌};
 
+use crate::edit_keeper::EditKeeper;
+use crate::kept_session::KeptSession;
 use crate::publication::NoPlace;
 use mp_version::EditSession;
 use std::alloc::AllocError;
@@ -37,18 +39,18 @@ impl From<NoPlace> for DeskCause {
     }
 }
 
-/// A refusal, with the session as it was.
+/// A refusal, with the session as it was, and what keeps its edits.
 #[derive(Drop)]
-pub struct DeskRefused<S: EditSession> {
+pub struct DeskRefused<S: EditSession, K: EditKeeper> {
     pub cause: DeskCause,
-    pub session: S,
+    pub kept: KeptSession<S, K>,
 }
 
-impl<S: EditSession> DeskRefused<S> {
-    pub(crate) fn new(cause: DeskCause, session: S) -> DeskRefused<S>
+impl<S: EditSession, K: EditKeeper> DeskRefused<S, K> {
+    pub(crate) fn new(cause: DeskCause, kept: KeptSession<S, K>) -> DeskRefused<S, K>
         ensures cause { result.cause ≡ cause }
-        ensures session { result.session ≡ session }
+        ensures session { result.kept ≡ kept }
     {
-        DeskRefused { cause, session }
+        DeskRefused { cause, kept }
     }
 }

@@ -1,11 +1,13 @@
 //! What is under the lock of a desk.
-ghost use Rattle.std.specs.Prelude.{◌≡◌, ◌≤◌, length, IfOk, IfSome, MatchOption};
+ghost use Rattle.std.specs.Prelude.{◌≡◌, ◌≤◌, ◌++◌, ◌∷◌, [], length, IfOk, IfSome};
 ghost use Rattle.std.specs.Arc.{arc_value};
 ghost use Rattle.mp_version.specs.Limits.{max_edits};
 ghost use Rattle.mp_desk.specs.Extending.{Succeeds};
 ghost use Rattle.mp_desk.specs.Chronicles.{written_on};
 
 use crate::designer::Designer;
+use crate::edit_authors::EditAuthors;
+use crate::edit_keeper::EditKeeper;
 use crate::log_writer::LogWriter;
 use crate::name::DeskName;
 use crate::notice::Notice;
@@ -13,6 +15,7 @@ use crate::publication::Publication;
 use crate::publishing::Published;
 use crate::receipt::Receipt;
 use crate::signatures::Signatures;
+use crate::submit_error::SubmitError;
 use mp_netlist::{Edit, EditError};
 use mp_version::{EditSession, Version};
 use std::alloc::AllocError;
@@ -21,50 +24,57 @@ use std::sync::ledger::{Book, Share};
 use std::sync::{Arc, Wait};
 use std::thread::Threads;
 
-/// The session, the writer of its history, the publication, and the ledger's book with the desk's own share. A contract sees the session's story.
+/// The session, what keeps its edits, the writer of its history, the publication, and the ledger's book with the desk's own share. A contract sees the
+/// session's story, and whether edits can't be kept any more.
 #[derive(Drop)]
-pub(crate) struct DeskState<S: EditSession, L: DeskName, R: Wait + Drop> {
+pub(crate) struct DeskState<S: EditSession, K: EditKeeper, L: DeskName, R: Wait + Drop> {
     pub session: S,
+    pub keeper: K,
     pub writer: LogWriter,
     pub publication: Publication<R>,
     pub book: Book<L>,
     pub share: Share<L>,
 }
 
-impl<S: EditSession, L: DeskName, R: Wait + Drop> Model for DeskState<S, L, R> {
+impl<S: EditSession, K: EditKeeper, L: DeskName, R: Wait + Drop> Model for DeskState<S, K, L, R> {
     ghost use Rattle.std.specs.Prelude.{◌≡◌, length};
-    ghost use Rattle.mp_version.specs.Stories.{Story};
+    ghost use Rattle.mp_desk.specs.Keepers.{Standing};
 
-    ghost Value = { Story };
+    ghost Value = { Standing };
 
-    ghost view = { λ k. S.story k.session };
+    ghost view = { λ k. record { story = S.story k.session; is_lost = K.is_lost k.keeper } };
 
-    ghost invariant = { λ k. (k.publication ≡ record { book = L.history; story = S.story k.session }) × (k.writer.book ≡ L.history) × (k.writer.story ≡ S.story k.session) × (length k.writer.authors ≡ length (S.story k.session).edits) × (k.book.total ≡ length (S.story k.session).edits) × (k.share.parts ≡ 1) × (k.share.amount ≡ L.opening) };
+    ghost invariant = { λ k. (k.publication ≡ record { book = L.history; story = S.story k.session }) × (k.writer.book ≡ L.history) × (k.writer.story ≡ S.story k.session) × (length k.writer.authors ≡ length (S.story k.session).edits) × (k.book.total ≡ length (S.story k.session).edits) × (k.share.parts ≡ 1) × (k.share.amount ≡ L.opening) × K.keeps k.keeper (S.story k.session) };
 }
 
-impl<S: EditSession, L: DeskName, R: Wait + Drop> DeskState<S, L, R> {
-    ghost use Rattle.std.specs.Prelude.{◌+◌, IfOk, IfErr, OnErr, IfNone};
+impl<S: EditSession, K: EditKeeper, L: DeskName, R: Wait + Drop> DeskState<S, K, L, R> {
+    ghost use Rattle.std.specs.Prelude.{◌+◌, ◌⊎◌, true, false, Ok, IfOk, IfErr, OnOk, OnErr};
     ghost use Rattle.std.specs.Arc.{arc_value};
     ghost use mathlib.Core.List.{IsPrefix};
+    ghost use Rattle.mp_records.specs.declared.edit_error.EditError.TheVariants.{OutOfMemory};
     ghost use Rattle.mp_version.specs.Stories.{one_more};
     ghost use Rattle.mp_version.specs.Steps.{story_after};
     ghost use Rattle.mp_desk.specs.Extending.{Extends};
-    ghost use Rattle.mp_desk.specs.Holders.{RefusedAfter, Signs};
+    ghost use Rattle.mp_desk.specs.Holders.{Signs};
+    ghost use Rattle.mp_desk.specs.Keepers.{MayBeLost, NotAccepted};
+    ghost use Rattle.mp_desk.specs.declared.submit_error.SubmitError.TheVariants as errors;
 
-    /// Judges an edit, and if it is accepted publishes the version after it.
+    /// Judges an edit, and if it is accepted keeps it, and then publishes the version after it. Where edits can't be kept any more it is refused.
     pub(crate) fn submit<H: Threads + Wait + Sync>(
         &mut self,
         rt: &H,
         me: &mut Designer<L>,
         edit: &Edit,
-    ) -> Result<Receipt<L>, EditError>
-        ensures extends { Extends self.old me.old.seen }
-        ensures accepted { IfOk result (λ r. arc_value r.version ≡ one_more self.old edit.now) }
+    ) -> Result<Receipt<L>, SubmitError>
+        ensures extends { Extends self.old.story me.old.seen }
+        ensures accepted { IfOk result (λ r. arc_value r.version ≡ one_more self.old.story edit.now) }
         ensures notice { IfOk result (λ r. r.notice ≡ arc_value r.version) }
         ensures seen { IfOk result (λ r. me.new.seen ≡ arc_value r.version) }
         ensures counted { IfOk result (λ _. me.new.accepted ≡ me.old.accepted + 1) }
         ensures signed { IfOk result (λ r. Signs me.old me.new (arc_value r.version)) }
-        ensures refused { IfErr result (λ error. RefusedAfter me.old.seen me.new.seen edit.now error) }
+        ensures refused { IfErr result (λ error. NotAccepted K.is_lost me.old.seen me.new.seen edit.now error) }
+        ensures lost { self.old.is_lost ≡ true → OnOk result ⊥ × IfErr result (λ error. error ≡ errors.NotKept) × (self.new ≡ self.old) }
+        ensures same { OnErr result (self.new.story ≡ self.old.story) }
         ensures uncounted { OnErr result (me.new.accepted ≡ me.old.accepted) }
         ensures begins { IsPrefix me.old.signed me.new.signed }
         ensures each { length me.new.signed ≡ length me.new.seen.edits }
@@ -72,68 +82,111 @@ impl<S: EditSession, L: DeskName, R: Wait + Drop> DeskState<S, L, R> {
         ensures forward { OnErr result (Extends me.new.seen me.old.seen) }
     {
         me.catch_up(rt, &self.publication, &self.writer);
+        if self.keeper.is_lost() {
+            return Err(SubmitError::NotKept);
+        }
         let prepared = self.session.prepare(rt, edit)?;
-        let Some(receipt) = self.accept(rt, me, prepared) else {
-            return Err(EditError::OutOfMemory);
-        };
-        Ok(receipt)
+        match self.accept(rt, me, edit, prepared) {
+            Ok(receipt) => Ok(receipt),
+            Err(error) => Err(error),
+        }
     }
 
-    /// Makes an edit that this designer has had prepared, and publishes the version after it. None if memory runs out: then all stays.
+    /// Makes an edit that this designer has had prepared: keeps it, and then publishes the version after it. What can fail comes before it is kept,
+    /// or is that. `OutOfMemory` comes if memory runs out, and `NotKept` if it can't be kept: then all stays.
     fn accept<H: Wait>(
         &mut self,
         rt: &H,
         me: &mut Designer<L>,
+        edit: &Edit,
         prepared: S::Prepared,
-    ) -> Option<Receipt<L>>
-        requires fits { (S.step prepared).before ≡ self.old }
-        requires seen { me.old.seen ≡ self.old }
-        ensures accepted { IfSome result (λ r. arc_value r.version ≡ story_after (S.step prepared)) }
-        ensures notice { IfSome result (λ r. r.notice ≡ arc_value r.version) }
-        ensures seen { IfSome result (λ r. me.new.seen ≡ arc_value r.version) }
-        ensures counted { IfSome result (λ _. me.new.accepted ≡ me.old.accepted + 1) }
-        ensures signed { IfSome result (λ r. Signs me.old me.new (arc_value r.version)) }
+    ) -> Result<Receipt<L>, SubmitError>
+        requires fits { (S.step prepared).before ≡ self.old.story }
+        requires edit { (S.step prepared).edit ≡ edit.now }
+        requires seen { me.old.seen ≡ self.old.story }
+        requires whole { self.old.is_lost ≡ false }
+        ensures accepted { IfOk result (λ r. arc_value r.version ≡ story_after (S.step prepared)) }
+        ensures notice { IfOk result (λ r. r.notice ≡ arc_value r.version) }
+        ensures seen { IfOk result (λ r. me.new.seen ≡ arc_value r.version) }
+        ensures counted { IfOk result (λ _. me.new.accepted ≡ me.old.accepted + 1) }
+        ensures signed { IfOk result (λ r. Signs me.old me.new (arc_value r.version)) }
         ensures number { me.new.number ≡ me.old.number }
-        ensures wanting { IfNone result (me.new ≡ me.old) }
+        ensures refused { IfErr result (λ error. (error ≡ errors.Refused OutOfMemory) ⊎ ((error ≡ errors.NotKept) × MayBeLost K.is_lost)) }
+        ensures same { OnErr result ((self.new.story ≡ self.old.story) × (me.new ≡ me.old)) }
     {
-        let (receipt, next) = write_version(
-            &mut self.writer,
-            self.publication.published(),
-            S::next_version(&prepared),
-            me.number,
-        )?;
-        self.publication.publish(next);
+        let next = S::next_version(&prepared);
+        let Some(draft) = draft_of(self.publication.published(), &self.writer, next, me.number)
+        else {
+            return Err(SubmitError::Refused(EditError::OutOfMemory));
+        };
+        // dropped by calls: otherwise the drop of each part would stand here
+        if self.keeper.keep(edit).is_err() {
+            drop(draft);
+            drop(prepared);
+            return Err(SubmitError::NotKept);
+        }
+        let (receipt, next) = write_version(rt, &mut self.writer, draft, me.number);
+        self.publication.publish(&self.keeper, next);
         self.session.commit(prepared);
         me.catch_up(rt, &self.publication, &self.writer);
         me.count(&mut self.book);
-        Some(receipt)
+        Ok(receipt)
     }
 }
 
-/// Adds the next version by this author to the history, behind what is published, and returns its receipt and what is to be published of it. `None`
-/// comes if memory runs out; then the history stays.
-fn write_version<L: DeskName>(
-    writer: &mut LogWriter,
+/// The next version, held for the receipt and for readers, with who made its edits. It has all the memory that its publication takes.
+#[derive(Drop)]
+struct Draft {
+    version: Arc<Version>,
+    next: Arc<Version>,
+    list: EditAuthors,
+}
+
+/// The draft of the next version, by this author, behind what is published. `None` comes if memory runs out.
+fn draft_of(
     published: &Published,
+    writer: &LogWriter,
     version: &Arc<Version>,
     author: usize,
-) -> Option<(Receipt<L>, Published)>
-    requires book { writer.old.book ≡ L.history }
-    requires published { published.now ≡ record { book = L.history; story = writer.old.story } }
-    requires each { length writer.old.authors ≡ length writer.old.story.edits }
-    requires follows { Succeeds (arc_value version.now) writer.old.story }
-    ensures writer { MatchOption result (writer.new ≡ writer.old) (λ _. writer.new ≡ written_on writer.old (arc_value version.now) author) }
-    ensures version { IfSome result (λ both. arc_value both.0.version ≡ arc_value version.now) }
-    ensures notice { IfSome result (λ both. both.0.notice ≡ arc_value version.now) }
-    ensures few { IfSome result (λ _. length (arc_value version.now).edits ≤ max_edits) }
-    ensures published { IfSome result (λ both. both.1 ≡ record { book = L.history; story = arc_value version.now }) }
+) -> Option<Draft>
+    requires published { (published.now.book ≡ writer.now.book) × (published.now.story ≡ writer.now.story) }
+    requires each { length writer.now.authors ≡ length writer.now.story.edits }
+    ensures versions { IfSome result (λ d. (arc_value d.version ≡ arc_value version.now) × (arc_value d.next ≡ arc_value version.now)) }
+    ensures list { IfSome result (λ d. d.list ≡ writer.now.authors ++ author ∷ []) }
 {
     let (version, next) = owners(version).ok()?;
     let list = published.signatures().followed_by(writer, author).ok()?;
-    if !writer.add(&version, author) {
-        // The history ends with what is published, so this doesn't come.
-        return None;
-    }
+    Some(Draft {
+        version,
+        next,
+        list,
+    })
+}
+
+/// Adds a version by this author to the history, and returns its receipt and what is to be published of it.
+fn write_version<L: DeskName, H: Wait>(
+    rt: &H,
+    writer: &mut LogWriter,
+    draft: Draft,
+    author: usize,
+) -> (Receipt<L>, Published)
+    requires book { writer.old.book ≡ L.history }
+    requires each { length writer.old.authors ≡ length writer.old.story.edits }
+    requires follows { Succeeds (arc_value draft.version) writer.old.story }
+    requires same { arc_value draft.next ≡ arc_value draft.version }
+    requires list { draft.list ≡ writer.old.authors ++ author ∷ [] }
+    ensures writer { writer.new ≡ written_on writer.old (arc_value draft.version) author }
+    ensures version { arc_value result.0.version ≡ arc_value draft.version }
+    ensures notice { result.0.notice ≡ arc_value draft.version }
+    ensures few { length (arc_value draft.version).edits ≤ max_edits }
+    ensures published { result.1 ≡ record { book = L.history; story = arc_value draft.version } }
+{
+    let Draft {
+        version,
+        next,
+        list,
+    } = draft;
+    writer.add(rt, &version, author);
     let notice = Notice {
         prefix: writer.prefix(),
         number: version.number(),
@@ -141,7 +194,7 @@ fn write_version<L: DeskName>(
     };
     let signatures = Signatures::of(list, writer);
     let next = Published::new(next, writer.prefix(), signatures);
-    Some((Receipt { version, notice }, next))
+    (Receipt { version, notice }, next)
 }
 
 /// Two owners of one version.

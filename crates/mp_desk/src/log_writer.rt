@@ -9,7 +9,7 @@ use crate::log_prefix::LogPrefix;
 use logbook::{Seen, Start, Word};
 use mp_version::Version;
 use std::marker::Model;
-use std::sync::Arc;
+use std::sync::{Arc, Wait};
 
 /// The word by which a history grows, 1 more than the number of its latest version, and the history up to which it was written. A contract sees
 /// which history it is, its story and the authors of its edits.
@@ -31,13 +31,26 @@ impl Model for LogWriter {
 }
 
 impl LogWriter {
-    ghost use Rattle.std.specs.Prelude.{◌≤◌, length, MatchBool};
+    ghost use Rattle.std.specs.Prelude.{◌≡◌, ◌≤◌, length, MatchBool};
     ghost use mathlib.Core.List.{IsPrefix};
     ghost use Rattle.mp_desk.specs.Extending.{Succeeds};
     ghost use Rattle.mp_desk.specs.Chronicles.{written_on};
 
-    /// Adds a version by this author to the history. False if that is longer than it was written by this writer.
-    pub(crate) fn add(&mut self, version: &Arc<Version>, author: usize) -> bool
+    /// Adds a version by this author to the history. That ends with what this writer wrote, so the first try does it.
+    pub(crate) fn add<H: Wait>(&mut self, rt: &H, version: &Arc<Version>, author: usize)
+        requires follows { Succeeds (arc_value version.now) self.old.story }
+        ensures { self.new ≡ written_on self.old (arc_value version.now) author }
+    {
+        for _ in rt.forever() {
+            if self.is_added(version, author) {
+                return;
+            }
+        }
+        unreachable!()
+    }
+
+    /// Adds a version by this author to the history, and returns whether it could. False if that is longer than it was written by this writer.
+    fn is_added(&mut self, version: &Arc<Version>, author: usize) -> bool
         requires follows { Succeeds (arc_value version.now) self.old.story }
         ensures { MatchBool result (self.new ≡ written_on self.old (arc_value version.now) author) (self.new ≡ self.old) }
     {

@@ -9,7 +9,7 @@ mod seats;
 mod tally;
 
 pub use designer_tally::DesignerTally;
-pub use meeting::{DeskOutcome, adjourn, meet};
+pub use meeting::{Adjourned, DeskOutcome, adjourn, meet};
 pub use meeting_fault::MeetingFault;
 pub use seats::start_all;
 pub use tally::Tally;

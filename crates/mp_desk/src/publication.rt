@@ -3,6 +3,7 @@ ghost use Rattle.std.specs.Prelude.{◌≡◌, ◌<◌, ◌^◌, ◌∷◌, ◌+
 ghost use Rattle.left_right.specs.Sides.{view};
 ghost use Rattle.mp_desk.specs.Chronicles.{Follows};
 
+use crate::edit_keeper::EditKeeper;
 use crate::pass::Pass;
 use crate::publishing::{Brings, Extending, Known, Published, Starts};
 use core::mem::replace_with;
@@ -103,9 +104,10 @@ impl<R: Wait + Drop> Publication<R> {
         version.number()
     }
 
-    /// Publishes a version in place of the one before. It waits for readers in mid-read.
-    pub(crate) fn publish(&mut self, next: Published)
-        requires { Follows next self.old }
+    /// Publishes a version in place of the one before. Its edits are kept already, where they are kept. It waits for readers in mid-read.
+    pub(crate) fn publish<K: EditKeeper>(&mut self, _keeper: &K, next: Published)
+        requires follows { Follows next self.old }
+        requires kept { K.keeps _keeper.now next.story }
         ensures { self.new ≡ next }
     {
         appended(&self.rt, &mut self.writer, next);

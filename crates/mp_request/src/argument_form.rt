@@ -34,6 +34,8 @@ pub(crate) enum ArgumentKind {
     Words,
     /// An option without a value.
     Nothing,
+    /// An option without a value, which requires another argument.
+    NothingWith(&'static str),
 }
 
 impl ArgumentForm {
@@ -49,7 +51,8 @@ impl ArgumentForm {
             ArgumentKind::PairWith(names, other) => self.pair(alloc, names).requires_arg(other),
             ArgumentKind::Time => self.time(alloc),
             ArgumentKind::Words => self.words(alloc),
-            ArgumentKind::Nothing => self.flag(alloc),
+            ArgumentKind::Nothing => Ok(self.flag(alloc)),
+            ArgumentKind::NothingWith(other) => self.flag(alloc).requires_arg(other),
         }
     }
 
@@ -94,12 +97,10 @@ impl ArgumentForm {
         self.option(alloc).value_names(&*names).help(self.help)
     }
 
-    fn flag<'a>(&self, alloc: Global) -> Result<Arg<'a>, AllocError> {
-        Ok(
-            self.option(alloc)
-                .action(ArgAction::SetTrue)
-                .help(self.help),
-        )
+    fn flag<'a>(&self, alloc: Global) -> Arg<'a> {
+        self.option(alloc)
+            .action(ArgAction::SetTrue)
+            .help(self.help)
     }
 
     /// The option with the name of its value and its help.

@@ -140,7 +140,7 @@ static CHAIN: [ArgumentForm; 1] = [ArgumentForm {
     takes: ArgumentKind::Number("20"),
 }];
 
-static DESK: [ArgumentForm; 3] = [
+static DESK: [ArgumentForm; 4] = [
     ArgumentForm {
         name: "at",
         value: "FOLDER",
@@ -158,6 +158,12 @@ static DESK: [ArgumentForm; 3] = [
         value: "N",
         help: "The number of viewers, 1 to 32, or with --at 0 to 24",
         takes: ArgumentKind::Number("2"),
+    },
+    ArgumentForm {
+        name: "sync",
+        value: "",
+        help: "With --at, wait before `accepted` until the edit is on the disk",
+        takes: ArgumentKind::NothingWith("at"),
     },
 ];
 

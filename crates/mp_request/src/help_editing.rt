@@ -67,6 +67,10 @@ and anybody can take it again. The lines of standard input are answered like
 those of a viewer, and `seats` lists the seats that are taken and free. The desk
 ends when standard input has ended and everybody has left.
 
+An edit is written to the file `edits` in FOLDER before it is accepted; one that
+can't be written is answered by `refused 24 NotKept`. With --sync it is on the
+disk before it is accepted.
+
 Without --at it reads a netlist, as `waves` does, and after it a block of lines
 for each of 1 to 8 designers. A line `---` comes before each block, and the
 limit on a netlist's text applies to all of it. The lines are edits, as in

@@ -151,6 +151,7 @@ fn desk_command<'a>(found: &ArgMatches<'a>) -> Command<'a>
         Some(folder) => Command::LiveDesk {
             folder,
             designers: found.get_one::<u32>("designers").unwrap_or(2),
+            is_synced: found.get_flag("sync"),
         },
     }
 }

@@ -43,10 +43,12 @@ pub enum Command<'a> {
     Play,
     /// Let designers edit a netlist at the same time, while viewers read; their lines are in the input.
     Desk,
-    /// Serve this number of designers, and the viewers of the request, at the named pipes of a folder.
+    /// Serve this number of designers, and the viewers of the request, at the named pipes of a folder. An edit is on the disk before it is accepted, if
+    /// that is asked for.
     LiveDesk {
         folder: &'a str,
         designers: u32,
+        is_synced: bool,
     },
 }
 

@@ -1,3 +1,4 @@
 mod StepLemmas
+mod WidthLemmas
 mod SeatLemmas
 pub mod lemmas

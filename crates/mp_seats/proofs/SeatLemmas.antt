@@ -12,7 +12,7 @@ use Rattle.mp_seats.specs.talk.Answers.{AreAnswers}
 use Rattle.mp_seats.specs.talk.Conversations.{Conversed}
 use Rattle.mp_seats.specs.Replies.{Writing, IsRefusalAt, IsAnswerAt}
 use Rattle.mp_seats.specs.Marks.{AcceptedAt, RefusedAt, AnsweredAt, Rise, refused_of, told_of, places_of, AreSigned}
-use Rattle.mp_seats.specs.Steps.{Seated, one_more_refused, IsAcceptedLine, IsRefusedLine, IsAnsweredLine, IsStep, IsSignedStep}
+use Rattle.mp_seats.specs.Steps.{Seated, HasReadFor, one_more_refused, IsAcceptedLine, IsRefusedLine, IsAnsweredLine, IsStep, IsSignedStep}
 use Rattle.mp_seats.specs.Seats.{IsSeat, IsVisit}
 use Rattle.mp_seats.proofs.StepLemmas.{step_begins}
 use Rattle.mp_seats.proofs.lemmas.talk.AnswerLemmas.{conversed_by}
@@ -29,6 +29,7 @@ module _ (w : Writing) (edits : Bool) where
         extends = extends;
         replies = λ now more. empty;
         rise = λ now more. extends_length now start.seen (extends_trans now last.seen start.seen more extends);
+        read = λ now more. ap (λ (s : Seated). s.reads) same;
         accepted = omega (arith, accepted);
         refused = λ _ low. let refused : last.refused ≡ start.refused = ap (λ (s : Seated). s.refused) same in omega (arith, refused, low);
         told = ap (λ (s : Seated). s.told) same;
@@ -71,6 +72,7 @@ module _ (w : Writing) (edits : Bool) where
             is,
           );
           rise = λ now more. (extends_length step.before start.seen step.extends, subst (λ (n : ℕ). Rise n (length now.edits) rest.marks) size (rest.rise now more));
+          read = λ now more. (next.reads, tt, rest.read now more);
           accepted = omega (arith, count, counted);
           refused = unrefused (ap (λ (s : Seated). s.refused) step.stands);
           told = rest.told ∙ ap (λ (told : ℕ). told_of told rest.marks) (ap (λ (s : Seated). s.told) step.stands);
@@ -100,6 +102,7 @@ module _ (w : Writing) (edits : Bool) where
             is,
           );
           rise = λ now more. (extends_length next.seen start.seen step.extends, rest.rise now more);
+          read = λ now more. (next.reads, tt, rest.read now more);
           accepted = omega (arith, count, counted);
           refused = λ edits_may low.
               let here : next.refused ≡ min (start.refused + 1) (2 ^ 64 - 1) = ap (λ (s : Seated). s.refused) step.stands ∙ ap (λ (b : Bool). one_more_refused b start.refused) edits_may in
@@ -128,6 +131,11 @@ module _ (w : Writing) (edits : Bool) where
             is,
           );
           rise = λ now more. (extends_length next.seen start.seen step.extends, rest.rise now more);
+          read = λ now more. (
+            next.reads,
+            subst (λ (s : Story). HasReadFor s line start.reads next.reads) (sym (up_to-earlier now next.seen (extends_trans now last.seen next.seen more rest.extends))) step.read,
+            rest.read now more,
+          );
           accepted = omega (arith, count, counted);
           refused = unrefused (ap (λ (s : Seated). s.refused) step.stands);
           told = rest.told ∙ ap (λ (told : ℕ). told_of told rest.marks) (ap (λ (s : Seated). s.told) step.stands);

@@ -1,4 +1,5 @@
 pub mod Marks
+pub mod Widths
 pub mod Replies
 pub mod Steps
 pub mod Seats

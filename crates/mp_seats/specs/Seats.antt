@@ -15,7 +15,7 @@ use Rattle.mp_seats.specs.declared.reply.Reply.TheVariants.{Accepted}
 use Rattle.mp_desk.specs.meeting.Fates.{up_to}
 use Rattle.mp_seats.specs.Marks.{Mark, AcceptedAt, RefusedAt, AnsweredAt, Rise, accepted_of, refused_of, told_of, places_of, AreSigned}
 use Rattle.mp_seats.specs.Replies.{Writing, IsEditLine, IsRefusalAt, IsAnswerAt}
-use Rattle.mp_seats.specs.Steps.{Seated}
+use Rattle.mp_seats.specs.Steps.{Seated, HasReadFor}
 
 -- a line has this reply: its edit is accepted, and then stands at its place in the story; or it is refused or answered after so many edits
 abbrev pub IsReply : Writing → Bool → Story → Option (List ℕ) → Mark → List ℕ → Type 0
@@ -30,14 +30,28 @@ AreReplies w edits now (line ∷ lines) (mark ∷ marks) text =
     (piece : List ℕ) × (later : List ℕ) × IsReply w edits now line mark piece × AreReplies w edits now lines marks later × (text ≡ piece ++ later)
 AreReplies w edits now lines marks text = ⊥
 
+-- the versions read change by a line with this number; what is read for an edit, or for a line that is refused, is left open
+abbrev pub IsReadAt : Story → Option (List ℕ) → Mark → List Story → List Story → Type 0
+IsReadAt now line (AcceptedAt k) before after = Unit {0}
+IsReadAt now line (RefusedAt k) before after = Unit {0}
+IsReadAt now line (AnsweredAt k) before after = HasReadFor (up_to now k) line before after
+
+-- they change so by lines in turn
+abbrev pub HaveRead : Story → List (Option (List ℕ)) → List Mark → List Story → List Story → Type 0
+HaveRead now [] [] first last = last ≡ first
+HaveRead now (line ∷ lines) (mark ∷ marks) first last = (next : List Story) × IsReadAt now line mark first next × HaveRead now lines marks next last
+HaveRead now lines marks first last = ⊥
+
 -- lines came to a seat, and these are their replies in each story that extends the one seen in the end: their numbers never fall, none is less than
 -- what the seat had seen before, as many as were accepted are counted for it, and at a seat that edits as many as were refused, up to the greatest count;
--- the number that was told last is known, and the author of each accepted edit is the one who edits there
+-- the number that was told last is known, and the author of each accepted edit is the one who edits there; each question was answered after the version that
+-- was read for it, and none that was kept
 pub record IsSeat (w : Writing) (edits : Bool) (start : Seated) (lines : List (Option (List ℕ))) (last : Seated) (text : List ℕ) : Type 0 where
   pub marks : List Mark
   pub extends : Extends last.seen start.seen
   pub replies : (now : Story) → Extends now last.seen → AreReplies w edits now lines marks text
   pub rise : (now : Story) → Extends now last.seen → Rise (length start.seen.edits) (length now.edits) marks
+  pub read : (now : Story) → Extends now last.seen → HaveRead now lines marks start.reads last.reads
   pub accepted : last.accepted ≡ start.accepted + accepted_of marks
   pub refused : edits ≡ true → start.refused < 2 ^ 64 → last.refused ≡ min (start.refused + refused_of marks) (2 ^ 64 - 1)
   pub told : last.told ≡ told_of start.told marks

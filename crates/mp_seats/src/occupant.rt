@@ -1,11 +1,10 @@
 //! Those who sit at seats.
-ghost use Rattle.std.specs.Prelude.{◌≡◌, ◌∷◌, Bool, false, List, length, IfOk, OnErr};
+ghost use Rattle.std.specs.Prelude.{◌≡◌, Bool, length, IfOk, OnErr};
 ghost use Rattle.std.specs.Arc.{arc_value};
 ghost use Rattle.std.specs.Thread.{IsSync};
 ghost use mathlib.Core.List.{IsPrefix};
-ghost use Rattle.mp_version.specs.Stories.{Story};
 ghost use Rattle.mp_desk.specs.Extending.{Extends};
-ghost use Rattle.mp_seats.specs.Steps.{Seated, with_seen, with_refusal, Submits};
+ghost use Rattle.mp_seats.specs.Steps.{Seated, with_seen, with_read, with_refusal, Submits};
 
 use crate::refusal::Refusal;
 use mp_desk::SignedVersion;
@@ -16,14 +15,11 @@ use std::thread::Threads;
 
 /// Who sits at a seat: a designer, or a viewer.
 pub trait Occupant: Drop {
-    // What was seen last, how many edits were accepted, and how many lines refused or not read.
+    // What was seen last, how many edits were accepted, how many lines refused or not read, and all that was read.
     ghost seated: { Self → Seated };
 
     // Whether edits are made here.
     ghost edits: { Bool };
-
-    // The versions that one who makes no edits has read, the newest first.
-    ghost reads: { Self → List Story };
 
     /// Submits an edit, and tells how many were accepted so far, with this one. The error says why it isn't made. The clause `shared` says what
     /// the bound `Sync` says: in a trait the prover asks for both.
@@ -32,14 +28,12 @@ pub trait Occupant: Drop {
         ensures { Submits edits result (seated self.old) (seated self.new) edit.now };
 
     /// Reads the newest version, and waits for nobody: it is the one that was seen last, or a later one. Its authors begin with those that were known.
-    /// One who makes no edits reads what is published then, never a version that was kept. The error comes if memory runs out: then the version that
-    /// was seen last stays.
+    /// It is what is published then, never a version that was kept. The error comes if memory runs out: then the version that was seen last stays.
     fn read(&mut self) -> Result<SignedVersion, AllocError>
         ensures later { IfOk result (λ v. Extends (arc_value v.version) (seated self.old).seen) }
-        ensures seen { IfOk result (λ v. seated self.new ≡ with_seen (seated self.old) (arc_value v.version) v.authors) }
+        ensures seen { IfOk result (λ v. seated self.new ≡ with_read (seated self.old) (arc_value v.version) v.authors) }
         ensures authors { IfOk result (λ v. IsPrefix (seated self.old).signed v.authors) }
-        ensures now { edits ≡ false → IfOk result (λ v. reads self.new ≡ arc_value v.version ∷ reads self.old) }
-        ensures err { OnErr result (seated self.new ≡ seated self.old) }
+        ensures err { OnErr result (seated self.new ≡ with_seen (seated self.old) (seated self.old).seen (seated self.old).signed (seated self.new).reads) }
         ensures each { length (seated self.new).signed ≡ length (seated self.new).seen.edits };
 
     /// Counts a line that was refused or not read, where edits are made. Nothing else changes.

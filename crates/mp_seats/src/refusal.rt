@@ -11,4 +11,7 @@ pub enum Refusal {
     /// Only a designer edits.
     #[error("not a designer")]
     NotADesigner,
+    /// The desk can't keep it.
+    #[error("not kept")]
+    NotKept,
 }

@@ -11,6 +11,8 @@ pub enum Reply {
     Refused(EditError),
     /// Only a designer edits.
     NotADesigner,
+    /// The desk can't keep the edit.
+    NotKept,
     /// The line is not read.
     Unread(LineError),
     /// The line is too long to be read.

@@ -6,6 +6,8 @@ use crate::refusal::Refusal;
 use crate::reply::Reply;
 use crate::reply_writer::ReplyWriter;
 use crate::talk::{Answerer, TalkFault, converse};
+use crate::width::is_wide;
+use mp_desk::SignedVersion;
 use mp_netlist::{Edit, EditError};
 use mp_streams::{Out, Sink, Source, WriteError};
 use mp_text::{Line, LineError, LineReader, Question, read_line};
@@ -31,14 +33,14 @@ impl<B: ReplyWriter, G: Occupant> Model for Seat<B, G> {
 }
 
 impl<B: ReplyWriter, G: Occupant> Seat<B, G> {
-    ghost use Rattle.std.specs.Prelude.{◌≡◌, ℕ, List, Some, [], length};
+    ghost use Rattle.std.specs.Prelude.{◌≡◌, ℕ, List, Some, []};
+    ghost use Rattle.std.specs.Arc.{arc_value};
     ghost use mathlib.Core.List.{IsPrefix};
-    ghost use Rattle.mp_desk.specs.Extending.{Extends};
     ghost use Rattle.mp_streams.specs.WriteErrors.{Writes};
     ghost use Rattle.mp_seats.specs.talk.Answers.{PutsAnswer};
     ghost use Rattle.mp_seats.specs.talk.TalkFaults.{counted_reads};
     ghost use Rattle.mp_seats.specs.Replies.{signed_writing};
-    ghost use Rattle.mp_seats.specs.Steps.{with_seen, with_refusal, IsSignedStep, PutsEdit};
+    ghost use Rattle.mp_seats.specs.Steps.{with_refusal, IsSignedStep, PutsEdit, PutsAsked};
     ghost use Rattle.mp_seats.specs.Seats.{IsVisit};
 
     /// A seat at which this guest sits.
@@ -88,24 +90,34 @@ impl<B: ReplyWriter, G: Occupant> Seat<B, G> {
         self.scribe.put_reply(out, reply)
     }
 
-    /// Writes the answer to a question about the newest version.
+    /// Writes the answer to a question about the version that is read for it, the newest.
     fn put_asked<R: Threads + Wait + Sync, T: Sink>(
         &mut self,
         rt: &R,
         question: &Question,
         out: &mut Out<T>,
     ) -> Result<(), WriteError>
-        ensures later { Extends self.new.seen self.old.seen }
-        ensures begins { IsPrefix self.old.signed self.new.signed }
-        ensures same { self.new ≡ with_seen self.old self.new.seen self.new.signed }
-        ensures each { length self.new.signed ≡ length self.new.seen.edits }
-        ensures written { Writes result out.old out.new (B.answer_text self.new.seen self.new.signed question.now) }
+        ensures { PutsAsked (signed_writing B.answer_text B.reply_text) G.edits result self.old self.new question.now out.old out.new }
     {
         let Ok(read) = self.guest.read() else {
-            return Err(WriteError::OutOfMemory);
+            return self.put_counted(out, &Reply::Refused(EditError::OutOfMemory));
         };
+        self.put_read(rt, &read, question, out)
+    }
+
+    /// Writes the answer to a question about a version that was read.
+    fn put_read<R: Threads + Wait + Sync, T: Sink>(
+        &self,
+        rt: &R,
+        read: &SignedVersion,
+        question: &Question,
+        out: &mut Out<T>,
+    ) -> Result<(), WriteError>
+        ensures { Writes result out.old out.new (B.answer_text (arc_value read.now.version) read.now.authors question.now) }
+    {
+        let authors = read.authors.as_slice();
         self.scribe
-            .put_answer(rt, out, &read.version, read.authors.as_slice(), question)
+            .put_answer(rt, out, &read.version, authors, question)
     }
 
     /// Submits an edit, and writes its reply.
@@ -121,10 +133,11 @@ impl<B: ReplyWriter, G: Occupant> Seat<B, G> {
             Ok(number) => self.scribe.put_reply(out, &Reply::Accepted(number)),
             Err(Refusal::Refused(error)) => self.put_counted(out, &Reply::Refused(error)),
             Err(Refusal::NotADesigner) => self.put_counted(out, &Reply::NotADesigner),
+            Err(Refusal::NotKept) => self.put_counted(out, &Reply::NotKept),
         }
     }
 
-    /// Writes the reply to a line that isn't too long.
+    /// Writes the reply to a line of at most 65,536 bytes. It is too long too if it has more as the journal writes it.
     fn put_line<R: Threads + Wait + Sync, T: Sink>(
         &mut self,
         rt: &R,
@@ -133,6 +146,9 @@ impl<B: ReplyWriter, G: Occupant> Seat<B, G> {
     ) -> Result<(), WriteError>
         ensures { PutsAnswer (IsSignedStep (signed_writing B.answer_text B.reply_text) G.edits) result self.old self.new (Some line.now) out.old out.new }
     {
+        if is_wide(line) {
+            return self.put_counted(out, &Reply::TooLong);
+        }
         match read_line(self.alloc, line) {
             Ok(Line::Empty) => Ok(()),
             // dropped by a call: at the end of the match, the drop of each part would stand here

@@ -2,10 +2,12 @@
 ghost use Rattle.std.specs.Prelude.{◌≡◌, ◌<◌, ◌≤◌, IfSome, []};
 
 use crate::desk_files::{DeskFiles, PathNotice};
+use crate::journal_file::JournalFile;
 use mp_commands::{LiveOutcome, Options, RunFault, SeatScribe, read_opening, serve_live};
+use mp_desk::{EditKeeper, KeptSession};
 use mp_netlist::Netlist;
 use mp_phase::{Crew, OpenGate};
-use mp_seats::{Journal, Journaled, Pipes, Places, ReplayFault, make_again};
+use mp_seats::{Journal, Pipes, Places, ReplayFault, journaled, make_again};
 use mp_session::Session;
 use mp_streams::{Out, ReadSource, Sink, Source, TakeError, WriteSink};
 use mp_text::LineReader;
@@ -26,24 +28,35 @@ const DESIGNER_SEATS: u32 = 8;
 const VIEWER_SEATS: u32 = 24;
 
 /// The session of a live desk, whose accepted edits are appended to a file.
-type KeptSession<'a> = Journaled<Session<OpenGate>, WriteSink<File>, PathNotice<'a>>;
+type JournaledSession<'a> = KeptSession<
+    Session<OpenGate>,
+    Journal<JournalFile<'a>, PathNotice<'a>>,
+>;
 
-/// The netlist with which a live desk opens, who evaluates there, and how many seats there are for designers and viewers.
+/// The live desk that is asked for: the folder of its pipes, the number of its designers, and whether an edit is on the disk before it is accepted.
+#[derive(Clone, Copy)]
+pub(crate) struct AskedDesk<'a> {
+    pub folder: &'a str,
+    pub designers: u32,
+    pub is_synced: bool,
+}
+
+/// The netlist with which a live desk opens, who evaluates there, and how many seats there are for viewers.
 #[derive(Clone, Copy)]
 struct Opening<'a> {
     netlist: &'a Netlist,
     crew: Crew,
-    designers: u32,
     viewers: u32,
 }
 
-/// The folder of a live desk, and who evaluates there.
+/// The folder of a live desk, who evaluates there, and whether an edit is on the disk before it is accepted.
 #[derive(Clone, Copy)]
 struct LiveDesk<'a> {
     files: &'a HostRuntime,
     pipes: &'a Pipes<'a>,
     paths: &'a DeskFiles,
     crew: Crew,
+    is_synced: bool,
 }
 
 /// Reads the netlist, makes the edits of the folder's journal again, serves those who come to the pipes of the folder, and answers the lines of
@@ -54,17 +67,15 @@ pub(crate) fn run_live_desk<R: Runtime + Threads + Wait + Sync + AllocGlobal, S:
     rt: &R,
     source: &mut S,
     options: &Options,
-    folder: &str,
-    designers: u32,
+    asked: AskedDesk<'_>,
 ) -> Result<u8, RunFault> {
-    let (netlist, crew) = read_opening(rt.alloc(), source, crew_of(options, designers))?;
+    let (netlist, crew) = read_opening(rt.alloc(), source, crew_of(options, asked.designers))?;
     let opening = Opening {
         netlist: &netlist,
         crew,
-        designers,
         viewers: options.viewers,
     };
-    let status = open_folder(files, rt, folder, opening);
+    let status = open_folder(files, rt, asked, opening);
     drop(netlist);
     status
 }
@@ -73,17 +84,18 @@ pub(crate) fn run_live_desk<R: Runtime + Threads + Wait + Sync + AllocGlobal, S:
 fn open_folder<R: Runtime + Threads + Wait + Sync + AllocGlobal>(
     files: &HostRuntime,
     rt: &R,
-    folder: &str,
+    asked: AskedDesk<'_>,
     opening: Opening<'_>,
 ) -> Result<u8, RunFault> {
-    let places = Places::new(rt.alloc(), opening.designers, opening.viewers)?;
-    let pipes = Pipes::new(files, folder, &places)?;
-    let paths = DeskFiles::new(rt.alloc(), folder)?;
+    let places = Places::new(rt.alloc(), asked.designers, opening.viewers)?;
+    let pipes = Pipes::new(files, asked.folder, &places)?;
+    let paths = DeskFiles::new(rt.alloc(), asked.folder)?;
     let desk = LiveDesk {
         files,
         pipes: &pipes,
         paths: &paths,
         crew: opening.crew,
+        is_synced: asked.is_synced,
     };
     serve_pipes(rt, &desk, opening.netlist)
 }
@@ -191,39 +203,37 @@ fn keep_desk<R: Runtime + Threads + Wait + Sync + AllocGlobal>(
     session: Session<OpenGate>,
     file: File,
 ) -> Result<u8, RunFault> {
+    let path = desk.paths.edits.as_str();
     let notice = PathNotice {
         files: desk.files,
-        path: desk.paths.edits.as_str(),
+        path,
     };
-    let Ok(journal) = Journal::new(rt.alloc(), WriteSink::new(file), notice) else {
-        drop(session);
-        return Err(RunFault::OutOfMemory);
-    };
-    serve_typed(rt, desk, Journaled::new(session, journal))
+    let sink = JournalFile::new(desk.files, path, file, desk.is_synced);
+    serve_typed(rt, desk, journaled(rt.alloc(), session, sink, notice)?)
 }
 
 /// Serves those who come to the pipes and answers the lines of standard input meanwhile.
 fn serve_typed<R: Runtime + Threads + Wait + Sync + AllocGlobal>(
     rt: &R,
     desk: &LiveDesk<'_>,
-    session: KeptSession<'_>,
+    kept: JournaledSession<'_>,
 ) -> Result<u8, RunFault> {
     let Ok(mut lines) = LineReader::new(rt.alloc(), ReadSource::new(rt.reader())) else {
-        drop(session);
+        drop(kept);
         return Err(RunFault::OutOfMemory);
     };
     let Ok(mut out) = Out::new(rt.alloc(), WriteSink::new(io::writer(rt))) else {
-        drop(session);
+        drop(kept);
         return Err(RunFault::OutOfMemory);
     };
-    serve_lines(rt, desk, session, &mut lines, &mut out)
+    serve_lines(rt, desk, kept, &mut lines, &mut out)
 }
 
 /// Serves those who come to the pipes and answers these lines meanwhile. Then it writes what `desk` writes, and the netlist into the folder.
 fn serve_lines<R: Eprint + Threads + Wait + Sync + AllocGlobal, I: Source, T: Sink>(
     rt: &R,
     desk: &LiveDesk<'_>,
-    session: KeptSession<'_>,
+    kept: JournaledSession<'_>,
     lines: &mut LineReader<I>,
     out: &mut Out<T>,
 ) -> Result<u8, RunFault>
@@ -233,12 +243,17 @@ fn serve_lines<R: Eprint + Threads + Wait + Sync + AllocGlobal, I: Source, T: Si
         alloc: rt.alloc(),
         crew: desk.crew,
     };
-    let LiveOutcome { session, ended } = serve_live(rt, desk.pipes, session, scribe, lines, out)?;
+    let LiveOutcome {
+        session,
+        keeper,
+        ended,
+    } = serve_live(rt, desk.pipes, kept, scribe, lines, out)?;
     let is_written = is_netlist_written(rt, desk, session.version().now());
-    let is_whole = session.journal().is_whole();
+    let is_lost = keeper.is_lost();
     drop(session);
+    drop(keeper);
     ended?;
-    if is_written && is_whole {
+    if is_written && !is_lost {
         Ok(0)
     } else {
         Ok(CANT_OPEN)

@@ -5,6 +5,7 @@ mod asked_view;
 mod desk_files;
 mod explained;
 mod input_file;
+mod journal_file;
 mod live_desk;
 mod live_play;
 mod open_sessions;
@@ -15,7 +16,7 @@ mod telling;
 
 use crate::explained::explain;
 use crate::input_file::{FileFault, open_file};
-use crate::live_desk::run_live_desk;
+use crate::live_desk::{AskedDesk, run_live_desk};
 use crate::live_play::run_live_play;
 use crate::progress_file::open_progress;
 use crate::running::run_on;
@@ -149,8 +150,17 @@ fn run_file<R: Runtime + Threads + Wait + Sync + AllocGlobal, S: Source>(
             run_live_play(rt, file, options, is_typed)?;
             Ok(0)
         }
-        Command::LiveDesk { folder, designers } => {
-            run_live_desk(files, rt, file, options, folder, designers)
+        Command::LiveDesk {
+            folder,
+            designers,
+            is_synced,
+        } => {
+            let asked = AskedDesk {
+                folder,
+                designers,
+                is_synced,
+            };
+            run_live_desk(files, rt, file, options, asked)
         }
         _ => run_on(rt, file, request, options),
     }

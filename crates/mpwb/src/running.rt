@@ -1,7 +1,7 @@
 //! How each command is run.
 ghost use Rattle.std.specs.Prelude.{◌≡◌, [], IfOk, IfSome, map};
 ghost use Rattle.mp_commands.specs.command_runs.Clauses.{TakesInput, counted_reads};
-ghost use Rattle.mpwb.specs.CommandRuns.{RunsCommand};
+ghost use Rattle.mpwb.specs.CommandRuns.{RunsCommand, RunsEdits};
 ghost use Rattle.mpwb.specs.CommandTexts.{names_in, text_of};
 
 use crate::asked_view::view_of;
@@ -60,7 +60,8 @@ fn write_on<R: Threads + Wait + Sync + AllocGlobal, S: Source, T: Sink>(
     Ok(0)
 }
 
-/// Runs the command on the source, if the wires of which the command speaks have these names. A command that writes a view writes the text of that view.
+/// Runs the command on the source, if the wires of which the command speaks have these names. A command that writes a view writes the text of that view, `play`
+/// the replies to a script, and `desk` what becomes of its blocks.
 fn run_named<R: Threads + Wait + Sync + AllocGlobal, S: Source, T: Sink>(
     rt: &R,
     source: &mut S,
@@ -72,6 +73,7 @@ fn run_named<R: Threads + Wait + Sync + AllocGlobal, S: Source, T: Sink>(
     requires empty { out.old.held ≡ [] }
     requires names { names.now ≡ names_in command.now }
     ensures written { IfSome (text_of command.now) (λ text. RunsCommand command.now text options.now result (S.left source.old) out.old out.new) }
+    ensures edited { RunsEdits command.now options.now result (S.left source.old) out.old out.new }
     ensures taken { IfSome (text_of command.now) (λ text. TakesInput (S.left source.old) (S.left source.new)) }
     ensures read_faults { IfSome (text_of command.now) (λ text. S.fault_count source.new ≡ counted_reads result (S.fault_count source.old)) }
 {

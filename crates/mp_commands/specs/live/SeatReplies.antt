@@ -5,7 +5,7 @@ use Rattle.mp_text.specs.declared.question.Question.TheVariants.{Work, Edits}
 use Rattle.mp_records.specs.declared.edit.Edit.{Edit}
 use Rattle.mp_version.specs.Stories.{Story}
 use Rattle.mp_seats.specs.declared.reply.Reply.{Reply}
-use Rattle.mp_seats.specs.declared.reply.Reply.TheVariants.{Accepted, Refused, NotADesigner, Unread, TooLong}
+use Rattle.mp_seats.specs.declared.reply.Reply.TheVariants.{Accepted, Refused, NotADesigner, NotKept, Unread, TooLong}
 use Rattle.mp_commands.specs.answers.Answers.{answer_text}
 use Rattle.mp_commands.specs.answers.Kept.{kept_at}
 use Rattle.mp_commands.specs.live.SignedEdits.{signed_text}
@@ -35,10 +35,11 @@ abbrev pub seat_answer : Story → List ℕ → Question → List ℕ
 seat_answer story authors question =
     if asks_for_work question then no_work_text else edits_or authors story.edits (asked_edits question) (answer_text (kept_at story []) question)
 
--- any other reply: that of a script, but that a viewer's edit is refused
+-- any other reply: that of a script, but that a viewer's edit is refused, and one that can't be kept
 abbrev pub seat_reply : Reply → List ℕ
 seat_reply (Accepted n) = accepted_text n
 seat_reply (Refused error) = refused_text error
 seat_reply NotADesigner = coded_text (codes "refused ") 22 (codes "NotADesigner")
+seat_reply NotKept = coded_text (codes "refused ") 24 (codes "NotKept")
 seat_reply (Unread error) = unread_text error
 seat_reply TooLong = too_long_text

@@ -19,7 +19,7 @@ use std::thread::Threads;
 
 /// Writes the replies of seats as `play` writes them, with the crew that looks at versions. Each line of `edits` ends with who made the edit. A
 /// version doesn't keep what was evaluated for its last edit: the question `work` is answered `refused 23 NoWork`. An edit at a seat that can't edit
-/// is answered `refused 22 NotADesigner`.
+/// is answered `refused 22 NotADesigner`, and one that can't be kept `refused 24 NotKept`.
 #[derive(Clone, Copy)]
 pub struct SeatScribe {
     pub alloc: Global,
@@ -86,6 +86,7 @@ fn put_any<T: Sink>(out: &mut Out<T>, reply: Reply) -> Result<(), Failed>
         Reply::Accepted(number) => put_accepted(out, number),
         Reply::Refused(error) => put_refused(out, error),
         Reply::NotADesigner => put_coded(out, &"refused ", 22, "NotADesigner"),
+        Reply::NotKept => put_coded(out, &"refused ", 24, "NotKept"),
         Reply::Unread(error) => put_unread(out, error),
         Reply::TooLong => put_too_long(out),
     }

@@ -7,7 +7,7 @@ use Rattle.mp_desk.specs.meeting.Sittings.{DesignerTally}
 
 -- the designer who sits there
 abbrev pub working : DesignerTally → Working
-working s = record { seen = s.seen; accepted = s.accepted; number = s.number; signed = s.signed }
+working s = record { seen = s.seen; accepted = s.accepted; number = s.number; signed = s.signed; reads = s.reads }
 
 abbrev pub tally_of : DesignerTally → Tally
 tally_of s = record { accepted = s.accepted; refused = s.refused }

@@ -14,7 +14,7 @@ use Rattle.mp_desk.specs.Holders.{Working}
 use Rattle.mp_desk.specs.meeting.Fates.{Fate, said, AreFates, Rise, AreAmong, accepted_of, refused_of}
 
 -- the version seen last, how many lines were accepted and refused, the number that the last notice tells of (0 where there is
--- none), whether memory was wanting, the designer's number, and the authors of that version's edits
+-- none), whether memory was wanting, the designer's number, the authors of that version's edits, and all versions that were read at this place, the newest first
 pub record DesignerTally : Type 0 where
   pub seen : Story
   pub accepted : ℕ
@@ -23,6 +23,7 @@ pub record DesignerTally : Type 0 where
   pub wanting : Bool
   pub number : ℕ
   pub signed : List ℕ
+  pub reads : List Story
 
 -- the number that a notice tells of
 abbrev pub told_of : Option Story → ℕ
@@ -31,34 +32,34 @@ told_of (Some story) = length story.edits
 
 -- a designer who has just come
 abbrev pub begun : Working → DesignerTally
-begun me = record { seen = me.seen; accepted = 0; refused = 0; told = 0; wanting = false; number = me.number; signed = me.signed }
+begun me = record { seen = me.seen; accepted = 0; refused = 0; told = 0; wanting = false; number = me.number; signed = me.signed; reads = me.reads }
 
--- this was seen, with these authors, and nothing else changed
-abbrev pub with_seen : DesignerTally → Story → List ℕ → DesignerTally
-with_seen old seen authors = record old { seen = seen; signed = authors }
+-- this was seen, with these authors, and these versions read, and nothing else changed
+abbrev pub with_seen : DesignerTally → Story → List ℕ → List Story → DesignerTally
+with_seen old seen authors reads = record old { seen = seen; signed = authors; reads = reads }
 
--- the edit was accepted after this story by these authors
-abbrev pub with_edit : DesignerTally → Story → List ℕ → Edit → DesignerTally
-with_edit old before authors edit =
-    record old { seen = one_more before edit; accepted = old.accepted + 1; told = length before.edits + 1; signed = authors ++ old.number ∷ [] }
+-- the edit was accepted after this story by these authors, and these versions read
+abbrev pub with_edit : DesignerTally → Story → List ℕ → Edit → List Story → DesignerTally
+with_edit old before authors edit reads =
+    record old { seen = one_more before edit; accepted = old.accepted + 1; told = length before.edits + 1; signed = authors ++ old.number ∷ []; reads = reads }
 
--- a line was refused, and this seen, with these authors
-abbrev pub with_refusal : DesignerTally → Story → List ℕ → DesignerTally
-with_refusal old seen authors = record old { seen = seen; refused = old.refused + 1; signed = authors }
+-- a line was refused, and this seen, with these authors, and these versions read
+abbrev pub with_refusal : DesignerTally → Story → List ℕ → List Story → DesignerTally
+with_refusal old seen authors reads = record old { seen = seen; refused = old.refused + 1; signed = authors; reads = reads }
 
 abbrev pub IsAccepted : DesignerTally → DesignerTally → Edit → Type 0
 IsAccepted old new edit =
-    (before : Story) × Extends before old.seen × (authors : List ℕ) × IsPrefix old.signed authors × (length authors ≡ length before.edits) × (new ≡ with_edit old before authors edit)
+    (before : Story) × Extends before old.seen × (authors : List ℕ) × IsPrefix old.signed authors × (length authors ≡ length before.edits) × (new ≡ with_edit old before authors edit new.reads)
 
 abbrev pub IsRefused : DesignerTally → DesignerTally → Edit → Type 0
 IsRefused old new edit =
-    (seen : Story) × Extends seen old.seen × (error : EditError) × (judged seen edit ≡ Err error) × (authors : List ℕ) × IsPrefix old.signed authors × (new ≡ with_refusal old seen authors)
+    (seen : Story) × Extends seen old.seen × (error : EditError) × (judged seen edit ≡ Err error) × (authors : List ℕ) × IsPrefix old.signed authors × (new ≡ with_refusal old seen authors new.reads)
 
 -- the step of a line that was read so
 abbrev pub Takes : DesignerTally → DesignerTally → Result Line LineError → Type 0
 Takes old new (Ok Empty) = new ≡ old
 Takes old new (Ok (Change edit)) = IsAccepted old new edit ⊎ IsRefused old new edit
-Takes old new read = new ≡ with_refusal old old.seen old.signed
+Takes old new read = new ≡ with_refusal old old.seen old.signed old.reads
 
 -- all lines were submitted: these are their fates in each story that extends the one seen
 pub record HasWorked (start : Story) (lines : List (List ℕ)) (sitting : DesignerTally) : Type 0 where

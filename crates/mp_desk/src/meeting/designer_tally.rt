@@ -1,7 +1,10 @@
 //! A designer at work.
 ghost use Rattle.std.specs.Prelude.{◌≡◌};
 
-use crate::{Designer, Desk, DeskName, Notice, ReadError, SignedVersion, Viewer};
+use crate::{
+    Designer, Desk, DeskName, EditKeeper, Notice, ReadError, SignedVersion, SubmitError, Unkept,
+    Viewer,
+};
 use mp_netlist::{Edit, EditError};
 use mp_text::{Line, LineError, first_line, read_line};
 use mp_version::EditSession;
@@ -28,17 +31,17 @@ impl<L: DeskName> Model for DesignerTally<L> {
 
     ghost Value = { sittings.DesignerTally };
 
-    ghost view = { λ s. record { seen = s.me.seen; accepted = s.me.accepted; refused = s.refused; told = told_of s.last; wanting = s.wanting; number = s.me.number; signed = s.me.signed } };
+    ghost view = { λ s. record { seen = s.me.seen; accepted = s.me.accepted; refused = s.refused; told = told_of s.last; wanting = s.wanting; number = s.me.number; signed = s.me.signed; reads = s.me.reads } };
 }
 
 impl<L: DeskName> DesignerTally<L> {
-    ghost use Rattle.std.specs.Prelude.{◌≡◌, ◌+◌, ◌-◌, ◌^◌, ◌<◌, ◌≤◌, ◌⊎◌, min, false, length, IfOk, IfErr, OnOk, OnErr};
+    ghost use Rattle.std.specs.Prelude.{◌≡◌, ◌+◌, ◌-◌, ◌^◌, ◌<◌, ◌≤◌, ◌⊎◌, ◌∷◌, min, false, length, IfOk, IfErr, OnOk, OnErr};
     ghost use Rattle.std.specs.Arc.{arc_value};
     ghost use mathlib.Core.List.{IsPrefix};
     ghost use Rattle.mp_text.specs.lexing.Lines.{lines_of};
     ghost use Rattle.mp_text.specs.ScriptLines.{line_at};
     ghost use Rattle.mp_desk.specs.Extending.{Extends};
-    ghost use Rattle.mp_desk.specs.Holders.{RefusedAfter};
+    ghost use Rattle.mp_desk.specs.Keepers.{NotAccepted};
     ghost use Rattle.mp_desk.specs.meeting.Sittings.{begun, with_seen, IsAccepted, IsRefused, Takes, HasWorked};
     ghost use Rattle.mp_desk.specs.meeting.Seats.{working};
 
@@ -72,7 +75,7 @@ impl<L: DeskName> DesignerTally<L> {
         &mut self,
         rt: &R,
         alloc: Global,
-        desk: &Desk<S, L, R>,
+        desk: &Desk<S, Unkept, L, R>,
         line: &[u8],
     ) -> Result<(), AllocError>
         requires { self.old.refused < 2 ^ 64 - 1 }
@@ -100,15 +103,15 @@ impl<L: DeskName> DesignerTally<L> {
     }
 
     /// Submits an edit, and returns the number of accepted edits with this one. The error is that of the desk; it isn't counted.
-    pub fn submit<S: EditSession, R: Wait + Drop, H: Threads + Wait + Sync>(
+    pub fn submit<S: EditSession, K: EditKeeper, R: Wait + Drop, H: Threads + Wait + Sync>(
         &mut self,
         rt: &H,
-        desk: &Desk<S, L, R>,
+        desk: &Desk<S, K, L, R>,
         edit: &Edit,
-    ) -> Result<u32, EditError>
+    ) -> Result<u32, SubmitError>
         ensures accepted { IfOk result (λ n. IsAccepted self.old self.new edit.now × (n ≡ self.new.told)) }
-        ensures refused { IfErr result (λ error. RefusedAfter self.old.seen self.new.seen edit.now error) }
-        ensures same { OnErr result (self.new ≡ with_seen self.old self.new.seen self.new.signed) }
+        ensures refused { IfErr result (λ error. NotAccepted K.is_lost self.old.seen self.new.seen edit.now error) }
+        ensures same { OnErr result (self.new ≡ with_seen self.old self.new.seen self.new.signed self.new.reads) }
         ensures begins { OnErr result (IsPrefix self.old.signed self.new.signed) }
         ensures forward { OnErr result (Extends self.new.seen self.old.seen) }
     {
@@ -125,13 +128,13 @@ impl<L: DeskName> DesignerTally<L> {
         self.refused = self.refused.saturating_add(1);
     }
 
-    /// Reads the published version, without waiting: the one that was seen last, or a later one. Its authors begin with those that were known before.
+    /// Reads the version that is published now, and not one that was kept, without waiting. Its authors begin with those that were known before.
     /// `Closed` comes if the desk is closed, and `OutOfMemory` if memory runs out; then the version seen last stays.
     pub fn read(&mut self) -> Result<SignedVersion, ReadError>
         ensures later { IfOk result (λ v. Extends (arc_value v.version) self.old.seen) }
-        ensures seen { IfOk result (λ v. self.new ≡ with_seen self.old (arc_value v.version) v.authors) }
+        ensures seen { IfOk result (λ v. self.new ≡ with_seen self.old (arc_value v.version) v.authors (arc_value v.version ∷ self.old.reads)) }
         ensures authors { IfOk result (λ v. IsPrefix self.old.signed v.authors) }
-        ensures err { OnErr result (self.new ≡ self.old) }
+        ensures err { OnErr result (self.new ≡ with_seen self.old self.old.seen self.old.signed self.new.reads) }
         ensures each { length self.new.signed ≡ length self.new.seen.edits }
     {
         self.me.read()
@@ -141,7 +144,7 @@ impl<L: DeskName> DesignerTally<L> {
     fn take_edit<S: EditSession, R: Threads + Wait + Sync + Drop>(
         &mut self,
         rt: &R,
-        desk: &Desk<S, L, R>,
+        desk: &Desk<S, Unkept, L, R>,
         edit: &Edit,
     ) -> Result<(), AllocError>
         requires { self.old.refused < 2 ^ 64 - 1 }
@@ -149,8 +152,9 @@ impl<L: DeskName> DesignerTally<L> {
     {
         match self.submit(rt, desk, edit) {
             Ok(_) => Ok(()),
-            Err(EditError::OutOfMemory) => Err(AllocError),
-            Err(_) => {
+            Err(SubmitError::Refused(EditError::OutOfMemory)) => Err(AllocError),
+            Err(SubmitError::NotKept) => unreachable!(),
+            Err(SubmitError::Refused(_)) => {
                 self.refused += 1;
                 Ok(())
             }
@@ -162,7 +166,7 @@ impl<L: DeskName> DesignerTally<L> {
         &mut self,
         rt: &R,
         alloc: Global,
-        desk: &Desk<S, L, R>,
+        desk: &Desk<S, Unkept, L, R>,
         lines: &[u8],
     )
         requires { self.old ≡ begun (working self.old) }

@@ -15,7 +15,9 @@ use crate::meeting::race::race;
 use crate::meeting::reading::last_reads;
 use crate::meeting::seats::{finish_all, start_all};
 use crate::meeting::tally::Tally;
-use crate::{Desk, DeskName, DeskParts, DeskSize, Staffed, Viewer};
+use crate::{
+    Desk, DeskName, DeskParts, DeskSize, EditKeeper, KeptSession, Staffed, Unkept, Viewer,
+};
 use mp_version::EditSession;
 use std::alloc::{AllocError, Global};
 use std::marker::Brand;
@@ -27,6 +29,17 @@ use std::thread::Threads;
 pub struct DeskOutcome<S: EditSession> {
     /// The session after all accepted edits.
     pub session: S,
+    /// How the lines of each designer fared.
+    pub tallies: Vec<Tally>,
+    /// The number of the version that each viewer read last.
+    pub numbers: Vec<u32>,
+}
+
+/// What is left of a meeting that has ended.
+#[derive(Drop)]
+pub struct Adjourned<S: EditSession, K: EditKeeper> {
+    /// The session after all accepted edits, with what keeps them.
+    pub kept: KeptSession<S, K>,
     /// How the lines of each designer fared.
     pub tallies: Vec<Tally>,
     /// The number of the version that each viewer read last.
@@ -50,7 +63,7 @@ where
     ensures met { IfOk result (λ met. IsMeeting (S.story session).base (lines_of_each blocks.now) (S.story met.session) met.tallies.items met.numbers.items) }
     ensures viewers { IfOk result (λ met. vec_len met.numbers ≡ size.viewers) }
 {
-    match DeskParts::new(rt, alloc, session, size) {
+    match DeskParts::new(rt, alloc, KeptSession::unkept(session), size) {
         Ok(parts) => at_desk::<S, Brand, _>(rt, alloc, parts, blocks),
         Err(refused) => Err(MeetingFault::from(refused.cause)),
     }
@@ -64,7 +77,7 @@ fn at_desk<
 >(
     rt: R,
     alloc: Global,
-    parts: DeskParts<S, R>,
+    parts: DeskParts<S, Unkept, R>,
     blocks: &[&[u8]],
 ) -> Result<DeskOutcome<S>, MeetingFault>
 where
@@ -80,7 +93,7 @@ where
     ensures viewers { IfOk result (λ met. vec_len met.numbers ≡ parts.viewers) }
     ensures wanting { IfErr result (λ fault. fault ≡ OutOfMemory) }
 {
-    match Desk::<S, L, R>::open(parts) {
+    match Desk::<S, Unkept, L, R>::open(parts) {
         Ok(staffed) => Ok(run_at(&rt, alloc, staffed, blocks)?),
         Err(refused) => Err(MeetingFault::from(refused.cause)),
     }
@@ -90,7 +103,7 @@ where
 fn run_at<S: EditSession + Send, L: DeskName + Send + Sync, R: Threads + Wait + Sync + Send + Drop>(
     rt: &R,
     alloc: Global,
-    staffed: Staffed<S, L, R>,
+    staffed: Staffed<S, Unkept, L, R>,
     blocks: &[&[u8]],
 ) -> Result<DeskOutcome<S>, AllocError>
 where
@@ -110,31 +123,46 @@ where
     } = staffed;
     let sittings = start_all(alloc, designers)?;
     let (sittings, viewers) = race(rt, alloc, &desk, blocks, sittings, viewers);
-    Ok(adjourn(rt, alloc, desk, sittings, viewers)?)
+    let Adjourned {
+        kept,
+        tallies,
+        numbers,
+    } = adjourn(rt, alloc, desk, sittings, viewers)?;
+    let (session, _) = kept.into_parts();
+    Ok(DeskOutcome {
+        session,
+        tallies,
+        numbers,
+    })
 }
 
 /// Ends a meeting: each viewer learns of each designer's last edit and reads once more, and the desk is closed. The error comes if memory runs out,
 /// or was for one of the designers.
-pub fn adjourn<S: EditSession + Send, L: DeskName + Send + Sync, R: Threads + Wait + Sync + Drop>(
+pub fn adjourn<
+    S: EditSession + Send,
+    K: EditKeeper + Send,
+    L: DeskName + Send + Sync,
+    R: Threads + Wait + Sync + Drop,
+>(
     rt: &R,
     alloc: Global,
-    desk: Desk<S, L, R>,
+    desk: Desk<S, K, L, R>,
     sittings: Vec<DesignerTally<L>>,
     viewers: Vec<Viewer<L>>,
-) -> Result<DeskOutcome<S>, AllocError>
+) -> Result<Adjourned<S, K>, AllocError>
 where
     S::Prepared: Send,
     requires all { desk.designers ≡ vec_len sittings }
-    ensures adjourned { IfOk result (λ met. HasAdjourned desk.opening sittings.items (vec_len viewers) (S.story met.session) met.tallies.items met.numbers.items) }
-    ensures looked { IfOk result (λ met. All (λ v. Extends (S.story met.session) v.last) viewers.items) }
-    ensures signed { IfOk result (λ met. IsSigned (S.story met.session) (map working sittings.items) viewers.items) }
+    ensures adjourned { IfOk result (λ met. HasAdjourned desk.opening sittings.items (vec_len viewers) (S.story met.kept.session) met.tallies.items met.numbers.items) }
+    ensures looked { IfOk result (λ met. All (λ v. Extends (S.story met.kept.session) v.last) viewers.items) }
+    ensures signed { IfOk result (λ met. IsSigned (S.story met.kept.session) (map working sittings.items) viewers.items) }
 {
     let mut viewers = viewers;
     let numbers = last_reads(rt, alloc, sittings.as_slice(), viewers.as_mut_slice())?;
     let (designers, tallies) = finish_all(alloc, sittings)?;
     match desk.close(rt, designers, viewers.as_mut_slice()) {
-        Ok(session) => Ok(DeskOutcome {
-            session,
+        Ok(kept) => Ok(Adjourned {
+            kept,
             tallies,
             numbers,
         }),

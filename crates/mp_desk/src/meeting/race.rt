@@ -5,7 +5,7 @@ ghost use Rattle.mp_desk.specs.meeting.Seats.{working};
 
 use crate::meeting::designer_tally::DesignerTally;
 use crate::meeting::reading::read_often;
-use crate::{Desk, DeskName, MAX_DESIGNERS, MAX_VIEWERS, Viewer};
+use crate::{Desk, DeskName, MAX_DESIGNERS, MAX_VIEWERS, Unkept, Viewer};
 use mp_version::EditSession;
 use std::alloc::Global;
 use std::sync::Wait;
@@ -19,7 +19,7 @@ pub(crate) fn race<
 >(
     rt: &R,
     alloc: Global,
-    desk: &Desk<S, L, R>,
+    desk: &Desk<S, Unkept, L, R>,
     blocks: &[&[u8]],
     sittings: Vec<DesignerTally<L>>,
     viewers: Vec<Viewer<L>>,
@@ -52,7 +52,7 @@ fn submitted<
 >(
     rt: &R,
     alloc: Global,
-    desk: &Desk<S, L, R>,
+    desk: &Desk<S, Unkept, L, R>,
     blocks: &[&[u8]],
     sittings: Vec<DesignerTally<L>>,
 ) -> Vec<DesignerTally<L>>
@@ -72,7 +72,13 @@ fn submit_all<
     S: EditSession + Send,
     L: DeskName + Send + Sync,
     R: Threads + Wait + Sync + Send + Drop,
->(rt: &R, alloc: Global, desk: &Desk<S, L, R>, blocks: &[&[u8]], sittings: &mut [DesignerTally<L>])
+>(
+    rt: &R,
+    alloc: Global,
+    desk: &Desk<S, Unkept, L, R>,
+    blocks: &[&[u8]],
+    sittings: &mut [DesignerTally<L>],
+)
 where
     S::Prepared: Send,
     requires blocks { length blocks.now ≡ length sittings.old }

@@ -61,7 +61,7 @@ refusals =
 
 -- the refusals of a seat alone, by number
 abbrev pub seat_refusals : List SeatCode
-seat_refusals = seats.NotADesigner ∷ seats.NoWork ∷ []
+seat_refusals = seats.NotADesigner ∷ seats.NoWork ∷ seats.NotKept ∷ []
 
 -- what a check tells beside findings
 abbrev pub check_words : List CheckWord

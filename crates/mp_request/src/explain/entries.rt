@@ -21,7 +21,7 @@ use crate::explain::refusals_of_values::{
     BAD_BATCH, BAD_DELAY, BAD_LEVEL, BAD_PARAM, BAD_PORT, BAD_STIMULUS, BAD_WIDTH, IN_BATCH,
     NO_STIMULUS, WIDTH_MISMATCH, WRONG_PORTS,
 };
-use crate::explain::seat_refusals::{NO_WORK, NOT_A_DESIGNER};
+use crate::explain::seat_refusals::{NO_WORK, NOT_A_DESIGNER, NOT_KEPT};
 use crate::explain::text_faults::{
     BAD_FORMAT, BAD_NUMBER, LINE_OUT_OF_MEMORY, NO_HORIZON, NOT_ASCII, REFUSED, SECOND_HORIZON,
     TOO_LONG, UNKNOWN_STATEMENT, WORD_COUNT,
@@ -95,7 +95,7 @@ fn refusals() -> &'static [Entry]
 fn seat_refusals() -> &'static [Entry]
     ensures { map (λ entry. entry.subject) result.now ≡ map Seat seat_refusals }
 {
-    &[NOT_A_DESIGNER, NO_WORK]
+    &[NOT_A_DESIGNER, NO_WORK, NOT_KEPT]
 }
 
 /// The codes of findings, by number.

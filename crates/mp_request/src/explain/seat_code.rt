@@ -9,16 +9,19 @@ pub enum SeatCode {
     NotADesigner,
     /// A seat doesn't know what an edit computed again.
     NoWork,
+    /// The desk can't keep an edit.
+    NotKept,
 }
 
 impl SeatCode {
-    /// The number of the code, 22 or 23.
+    /// The number of the code, 22 to 24.
     pub fn number(self) -> u32
         ensures { result ≡ number_of self }
     {
         match self {
             SeatCode::NotADesigner => 22,
             SeatCode::NoWork => 23,
+            SeatCode::NotKept => 24,
         }
     }
 
@@ -29,6 +32,7 @@ impl SeatCode {
         match self {
             SeatCode::NotADesigner => "NotADesigner",
             SeatCode::NoWork => "NoWork",
+            SeatCode::NotKept => "NotKept",
         }
     }
 }

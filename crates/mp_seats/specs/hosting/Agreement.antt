@@ -34,16 +34,16 @@ marks_of seen (line ∷ lines) fates = with_mark seen (line_at line) fates (λ s
 abbrev pub BlocksAreSeats : Type 0
 BlocksAreSeats =
     (w : Writing) (number : ℕ) (now : Story) (numbers : List ℕ) (lines : List (List ℕ)) (tally : Tally) (worked : IsWorked now numbers lines tally)
-    → (text : List ℕ) × (signed : List ℕ) × (refused : ℕ) × (told : ℕ)
+    → (text : List ℕ) × (signed : List ℕ) × (refused : ℕ) × (told : ℕ) × (reads : List Story)
     × (seat : IsSeat w true (just_come number (opening now.base)) (map (λ line. Some line) lines)
-    (record { seen = now; accepted = tally.accepted; refused = refused; told = told; number = number; signed = signed }) text)
+    (record { seen = now; accepted = tally.accepted; refused = refused; told = told; number = number; signed = signed; reads = reads }) text)
     × (seat.marks ≡ marks_of 0 lines worked.fates)
 
 -- what a viewer saw is answered as at a viewer's seat to a line that asks for it, with the viewer's number
 abbrev pub IsSeenAtSeat : Writing → Story → ℕ → Type 0
 IsSeenAtSeat w now number =
     (line : List ℕ) (question : Question) → line_at line ≡ Ok (Ask question)
-    → (seat : IsSeat w false (just_looking (opening now.base)) (Some line ∷ []) (just_looking now) (w.answer (up_to now number) question)) × (seat.marks ≡ AnsweredAt number ∷ [])
+    → (seat : IsSeat w false (just_looking (opening now.base)) (Some line ∷ []) (record (just_looking now) { reads = up_to now number ∷ opening now.base ∷ [] }) (w.answer (up_to now number) question)) × (seat.marks ≡ AnsweredAt number ∷ [])
 
 -- so it is with each viewer of a meeting
 abbrev pub NumbersAreSeats : Type 0

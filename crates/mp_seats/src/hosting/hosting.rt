@@ -16,8 +16,8 @@ use crate::hosting::people::People;
 use crate::hosting::served::Served;
 use crate::hosting::service::serve;
 use mp_desk::{
-    BadDeskSize, Desk, DeskName, DeskOutcome, DeskParts, DeskSize, MeetingFault, Staffed, adjourn,
-    start_all,
+    Adjourned, BadDeskSize, Desk, DeskName, DeskOutcome, DeskParts, DeskSize, EditKeeper,
+    KeptSession, MeetingFault, Staffed, adjourn, start_all,
 };
 use mp_streams::{Out, Sink, Source};
 use mp_text::LineReader;
@@ -30,11 +30,12 @@ use std::thread::Threads;
 /// Serves all who come to the doors of a desk, each seat on a thread of its own, and answers the lines of whoever runs it meanwhile. It ends if these
 /// lines end and all seats are left. If no thread can be started for a seat, that seat stays free.
 ///
-/// The lines of whoever runs the desk may end with a fault: it is told beside what became of the desk, once all seats are left. `BadSize` comes where
+/// The keeper of the session keeps each edit before anybody is shown it. The lines of whoever runs the desk may end with a fault: it is told beside what became of the desk, once all seats are left. `BadSize` comes where
 /// there are not doors for 1 to 8 designers and for at most 31 viewers: then no line is read. `OutOfMemory` comes if memory runs out, and
 /// `NoPlace` where there is no place for a viewer or designer.
 pub fn host<
     S: EditSession + Send,
+    K: EditKeeper + Send,
     R: Threads + Wait + Sync + Send + Copy,
     D: Door + Send,
     X: Exit,
@@ -44,25 +45,26 @@ pub fn host<
 >(
     rt: R,
     alloc: Global,
-    session: S,
+    kept: KeptSession<S, K>,
     hall: Hall<D, X, B>,
     lines: &mut LineReader<I>,
     out: &mut Out<T>,
-) -> Result<Hosted<S>, HostFault>
+) -> Result<Hosted<S, K>, HostFault>
 where
     S::Prepared: Send,
     D::Input: Send,
     D::Output: Send,
     requires held { out.old.held ≡ [] }
-    ensures hosted { IfOk result (λ met. (authors : List ℕ) × IsHosted D.Output D.Comes D.Leaves D.TurnsAway (signed_writing B.answer_text B.reply_text) authors (S.story session) (S.story met.outcome.session) hall.designers.items hall.viewers.items met.outcome.tallies.items met.outcome.numbers.items × HasTalkedWithin (signed_writing B.answer_text B.reply_text authors) met.talked (S.story session) (S.story met.outcome.session) (X.names hall.exit) lines.old lines.new out.old out.new) }
+    ensures hosted { IfOk result (λ met. (authors : List ℕ) × IsHosted D.Output D.Comes D.Leaves D.TurnsAway (signed_writing B.answer_text B.reply_text) authors (S.story kept.session) (S.story met.outcome.session) hall.designers.items hall.viewers.items met.outcome.tallies.items met.outcome.numbers.items × HasTalkedWithin (signed_writing B.answer_text B.reply_text authors) met.talked (S.story kept.session) (S.story met.outcome.session) (X.names hall.exit) lines.old lines.new out.old out.new) }
     ensures unread { IfErr result (λ fault. fault ≡ BadSize → (lines.new ≡ lines.old) × (out.new ≡ out.old)) }
+    ensures kept { IfOk result (λ met. K.keeps met.keeper (S.story met.outcome.session)) }
     ensures flushed { out.new.held ≡ [] }
 {
     let Ok(size) = size_of(hall.designers.as_slice(), hall.viewers.as_slice()) else {
         return Err(HostFault::BadSize);
     };
-    match DeskParts::new(rt, alloc, session, size) {
-        Ok(parts) => Ok(host_parts::<S, Brand, _, D, X, B, I, T>(
+    match DeskParts::new(rt, alloc, kept, size) {
+        Ok(parts) => Ok(host_parts::<S, K, Brand, _, D, X, B, I, T>(
             rt, alloc, parts, hall, lines, out,
         )?),
         Err(refused) => Err(HostFault::from(MeetingFault::from(refused.cause))),
@@ -79,6 +81,7 @@ fn size_of<D: Door>(designers: &[D], viewers: &[D]) -> Result<DeskSize, BadDeskS
 /// The desk that these parts make.
 fn host_parts<
     S: EditSession + Send,
+    K: EditKeeper + Send,
     L: DeskName + Send + Sync,
     R: Threads + Wait + Sync + Send + Copy,
     D: Door + Send,
@@ -89,11 +92,11 @@ fn host_parts<
 >(
     rt: R,
     alloc: Global,
-    parts: DeskParts<S, R>,
+    parts: DeskParts<S, K, R>,
     hall: Hall<D, X, B>,
     lines: &mut LineReader<I>,
     out: &mut Out<T>,
-) -> Result<Hosted<S>, MeetingFault>
+) -> Result<Hosted<S, K>, MeetingFault>
 where
     S::Prepared: Send,
     D::Input: Send,
@@ -107,9 +110,10 @@ where
     requires viewers { parts.viewers ≡ vec_len hall.viewers + 1 }
     requires held { out.old.held ≡ [] }
     ensures hosted { IfOk result (λ met. (authors : List ℕ) × IsHosted D.Output D.Comes D.Leaves D.TurnsAway (signed_writing B.answer_text B.reply_text) authors (S.story parts.session) (S.story met.outcome.session) hall.designers.items hall.viewers.items met.outcome.tallies.items met.outcome.numbers.items × HasTalkedWithin (signed_writing B.answer_text B.reply_text authors) met.talked (S.story parts.session) (S.story met.outcome.session) (X.names hall.exit) lines.old lines.new out.old out.new) }
+    ensures kept { IfOk result (λ met. K.keeps met.keeper (S.story met.outcome.session)) }
     ensures flushed { out.new.held ≡ [] }
 {
-    match Desk::<S, L, R>::open(parts) {
+    match Desk::<S, K, L, R>::open(parts) {
         Ok(staffed) => Ok(host_staffed(&rt, alloc, staffed, hall, lines, out)?),
         Err(refused) => Err(MeetingFault::from(refused.cause)),
     }
@@ -118,6 +122,7 @@ where
 /// The desk with those who sit at it. The last viewer sits at the seat of whoever runs the desk.
 fn host_staffed<
     S: EditSession + Send,
+    K: EditKeeper + Send,
     L: DeskName + Send + Sync,
     R: Threads + Wait + Sync + Send + Drop,
     D: Door + Send,
@@ -128,11 +133,11 @@ fn host_staffed<
 >(
     rt: &R,
     alloc: Global,
-    staffed: Staffed<S, L, R>,
+    staffed: Staffed<S, K, L, R>,
     hall: Hall<D, X, B>,
     lines: &mut LineReader<I>,
     out: &mut Out<T>,
-) -> Result<Hosted<S>, AllocError>
+) -> Result<Hosted<S, K>, AllocError>
 where
     S::Prepared: Send,
     D::Input: Send,
@@ -144,6 +149,7 @@ where
     requires viewers { vec_len staffed.viewers ≡ vec_len hall.viewers + 1 }
     requires held { out.old.held ≡ [] }
     ensures hosted { IfOk result (λ met. (start : Story) → AreFresh start staffed.designers.items → All (λ v. v ≡ fresh_viewer start) staffed.viewers.items → staffed.desk.opening ≡ length start.edits → (authors : List ℕ) × IsHosted D.Output D.Comes D.Leaves D.TurnsAway (signed_writing B.answer_text B.reply_text) authors start (S.story met.outcome.session) hall.designers.items hall.viewers.items met.outcome.tallies.items met.outcome.numbers.items × HasTalkedWithin (signed_writing B.answer_text B.reply_text authors) met.talked start (S.story met.outcome.session) (X.names hall.exit) lines.old lines.new out.old out.new) }
+    ensures kept { IfOk result (λ met. K.keeps met.keeper (S.story met.outcome.session)) }
     ensures flushed { out.new.held ≡ [] }
 {
     let Staffed {
@@ -175,30 +181,35 @@ where
         talked,
     } = serve(rt, alloc, people, hall, lines, out)?;
     viewers.push(own)?;
-    let outcome = adjourn(rt, alloc, desk, sittings, viewers)?;
+    let adjourned = adjourn(rt, alloc, desk, sittings, viewers)?;
+    let (outcome, keeper) = without_own(adjourned);
     Ok(Hosted {
-        outcome: without_own(outcome),
+        outcome,
+        keeper,
         talked,
     })
 }
 
-/// The outcome without the number of the last viewer.
-fn without_own<S: EditSession>(outcome: DeskOutcome<S>) -> DeskOutcome<S>
-    requires { 0 < vec_len outcome.numbers }
-    ensures same { (result.session ≡ outcome.session) × (result.tallies ≡ outcome.tallies) }
-    ensures numbers { (last : ℕ) × (outcome.numbers.items ≡ result.numbers.items ++ last ∷ []) }
+/// The outcome without the number of the last viewer, and what keeps the edits.
+fn without_own<S: EditSession, K: EditKeeper>(adjourned: Adjourned<S, K>) -> (DeskOutcome<S>, K)
+    requires { 0 < vec_len adjourned.numbers }
+    ensures same { (result.0.session ≡ adjourned.kept.session) × (result.0.tallies ≡ adjourned.tallies) }
+    ensures numbers { (last : ℕ) × (adjourned.numbers.items ≡ result.0.numbers.items ++ last ∷ []) }
+    ensures kept { K.keeps result.1 (S.story result.0.session) }
 {
-    let DeskOutcome {
-        session,
+    let Adjourned {
+        kept,
         tallies,
         mut numbers,
-    } = outcome;
+    } = adjourned;
     let Some(_last) = numbers.pop() else {
         unreachable!()
     };
-    DeskOutcome {
+    let (session, keeper) = kept.into_parts();
+    let outcome = DeskOutcome {
         session,
         tallies,
         numbers,
-    }
+    };
+    (outcome, keeper)
 }

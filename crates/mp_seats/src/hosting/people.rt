@@ -8,26 +8,26 @@ use crate::hosting::door::Door;
 use crate::hosting::rises::Rises;
 use crate::hosting::seat_server::{SeatServer, posts};
 use crate::hosting::viewer_guest::ViewerGuest;
-use mp_desk::{DesignerTally, Desk, DeskName, Viewer};
+use mp_desk::{DesignerTally, Desk, DeskName, EditKeeper, Viewer};
 use mp_version::EditSession;
 use std::alloc::{AllocError, Global};
 use std::sync::Wait;
 
 /// Those who sit at a desk, and the viewer of whoever runs it.
 #[derive(Drop)]
-pub(crate) struct People<'a, S: EditSession, L: DeskName, R: Wait + Drop> {
-    pub desk: &'a Desk<S, L, R>,
+pub(crate) struct People<'a, S: EditSession, K: EditKeeper, L: DeskName, R: Wait + Drop> {
+    pub desk: &'a Desk<S, K, L, R>,
     pub sittings: Vec<DesignerTally<L>>,
     pub viewers: Vec<Viewer<L>>,
     pub own: Viewer<L>,
 }
 
 /// The designers as guests.
-fn designer_guests<'a, S: EditSession, L: DeskName, R: Wait + Drop>(
+fn designer_guests<'a, S: EditSession, K: EditKeeper, L: DeskName, R: Wait + Drop>(
     alloc: Global,
-    desk: &'a Desk<S, L, R>,
+    desk: &'a Desk<S, K, L, R>,
     sittings: Vec<DesignerTally<L>>,
-) -> Result<Vec<DesignerGuest<'a, S, L, R>>, AllocError>
+) -> Result<Vec<DesignerGuest<'a, S, K, L, R>>, AllocError>
     ensures { IfOk result (λ v. map (λ g. g.sitting) v.items ≡ sittings.items) }
 {
     let mut guests = Vec::with_capacity(alloc, sittings.len())?;
@@ -55,6 +55,7 @@ fn viewer_guests<L: DeskName>(
 pub(crate) fn designer_posts<
     'a,
     S: EditSession,
+    K: EditKeeper,
     L: DeskName,
     R: Wait + Drop,
     B: ReplyWriter + Copy,
@@ -62,10 +63,10 @@ pub(crate) fn designer_posts<
 >(
     alloc: Global,
     scribe: B,
-    desk: &'a Desk<S, L, R>,
+    desk: &'a Desk<S, K, L, R>,
     sittings: Vec<DesignerTally<L>>,
     doors: Vec<D>,
-) -> Result<Vec<SeatServer<B, DesignerGuest<'a, S, L, R>, D>>, AllocError>
+) -> Result<Vec<SeatServer<B, DesignerGuest<'a, S, K, L, R>, D>>, AllocError>
     requires { vec_len sittings ≡ vec_len doors }
     ensures seats { IfOk result (λ v. map (λ p. p.seat) v.items ≡ map sitter sittings.items) }
     ensures doors { IfOk result (λ v. map (λ p. p.door) v.items ≡ doors.items) }

@@ -21,7 +21,7 @@ use crate::hosting::staff::Staff;
 use crate::hosting::viewer_guest::ViewerGuest;
 use crate::talk::{Answerer, TalkFault, converse};
 use crate::{ReplyWriter, Seat};
-use mp_desk::{DesignerTally, DeskName, MAX_DESIGNERS, MAX_VIEWERS, Viewer};
+use mp_desk::{DesignerTally, DeskName, EditKeeper, MAX_DESIGNERS, MAX_VIEWERS, Viewer};
 use mp_streams::{Out, Sink, Source};
 use mp_text::LineReader;
 use mp_version::EditSession;
@@ -32,6 +32,7 @@ use std::thread::{Threads, for_each_mut, join_mut};
 /// Serves all who come to the doors of the people at a desk, and answers the lines of whoever runs it meanwhile. Then the people are given back.
 pub(crate) fn serve<
     S: EditSession + Send,
+    K: EditKeeper + Send,
     L: DeskName + Send + Sync,
     R: Threads + Wait + Sync + Send + Drop,
     D: Door + Send,
@@ -42,7 +43,7 @@ pub(crate) fn serve<
 >(
     rt: &R,
     alloc: Global,
-    people: People<'_, S, L, R>,
+    people: People<'_, S, K, L, R>,
     hall: Hall<D, X, B>,
     lines: &mut LineReader<I>,
     out: &mut Out<T>,
@@ -77,6 +78,7 @@ where
 fn seats_of<
     'a,
     S: EditSession,
+    K: EditKeeper,
     L: DeskName,
     R: Wait + Drop,
     D: Door,
@@ -84,11 +86,11 @@ fn seats_of<
     B: ReplyWriter + Copy,
 >(
     alloc: Global,
-    people: People<'a, S, L, R>,
+    people: People<'a, S, K, L, R>,
     hall: Hall<D, X, B>,
 ) -> Result<
     (
-        Staff<SeatServer<B, DesignerGuest<'a, S, L, R>, D>, SeatServer<B, ViewerGuest<L>, D>>,
+        Staff<SeatServer<B, DesignerGuest<'a, S, K, L, R>, D>, SeatServer<B, ViewerGuest<L>, D>>,
         OwnSeat<B, ViewerGuest<L>, X>,
     ),
     AllocError,
@@ -122,9 +124,9 @@ fn seats_of<
 }
 
 /// The designers and the viewers at these posts.
-fn people_of<S: EditSession, L: DeskName, R: Wait + Drop, B: ReplyWriter, D: Door>(
+fn people_of<S: EditSession, K: EditKeeper, L: DeskName, R: Wait + Drop, B: ReplyWriter, D: Door>(
     alloc: Global,
-    staff: Staff<SeatServer<B, DesignerGuest<'_, S, L, R>, D>, SeatServer<B, ViewerGuest<L>, D>>,
+    staff: Staff<SeatServer<B, DesignerGuest<'_, S, K, L, R>, D>, SeatServer<B, ViewerGuest<L>, D>>,
 ) -> Result<(Vec<DesignerTally<L>>, Vec<Viewer<L>>), AllocError>
     ensures designers { IfOk result (λ both. map sitter both.0.items ≡ map (λ p. p.seat) staff.entry.designers.items) }
     ensures viewers { IfOk result (λ both. map looker both.1.items ≡ map (λ p. p.seat) staff.entry.viewers.items) }

@@ -21,8 +21,6 @@ impl<L: DeskName> Occupant for ViewerGuest<L> {
 
     ghost edits = { false };
 
-    ghost reads = { λ guest. guest.viewer.reads };
-
     fn submit<R: Threads + Wait + Sync>(&mut self, _rt: &R, _edit: &Edit) -> Result<u32, Refusal> {
         Err(Refusal::NotADesigner)
     }

@@ -10,6 +10,7 @@ use crate::hosting::{Hall, HostFault, Hosted, Places, SeatPlace, host};
 use crate::pipes::pipe_door::PipeDoor;
 use crate::pipes::pipe_exit::PipeExit;
 use crate::pipes::pipe_paths::PipePaths;
+use mp_desk::{EditKeeper, KeptSession};
 use mp_streams::{Out, Sink, Source};
 use mp_text::LineReader;
 use mp_version::EditSession;
@@ -90,10 +91,11 @@ impl<'a> Pipes<'a> {
         let _ = fs::remove_dir(self.files, self.own.as_str());
     }
 
-    /// Serves those who come to the pipes on a session, and answers the lines of whoever runs the desk meanwhile, as `host` does. The scribe
+    /// Serves those who come to the pipes on a session, each of whose edits is kept, and answers the lines of whoever runs the desk meanwhile, as `host` does. The scribe
     /// writes all replies. Whoever comes once these lines have ended is answered nothing, and sees the end when the desk ends.
     pub fn host<
         S: EditSession + Send,
+        K: EditKeeper + Send,
         R: Threads + Wait + Sync,
         B: ReplyWriter + Copy + Send + Sync,
         I: Source,
@@ -101,19 +103,20 @@ impl<'a> Pipes<'a> {
     >(
         &self,
         rt: &R,
-        session: S,
+        kept: KeptSession<S, K>,
         scribe: B,
         lines: &mut LineReader<I>,
         out: &mut Out<T>,
-    ) -> Result<Hosted<S>, HostFault>
+    ) -> Result<Hosted<S, K>, HostFault>
     where
         S::Prepared: Send,
         requires { out.old.held ≡ [] }
-        ensures hosted { IfOk result (λ met. (authors : List ℕ) × IsHostedAtPipes (signed_writing B.answer_text B.reply_text) authors (S.story session) (S.story met.outcome.session) self.now met.outcome.tallies.items met.outcome.numbers.items × HasTalkedWithin (signed_writing B.answer_text B.reply_text authors) met.talked (S.story session) (S.story met.outcome.session) (self.now.designers ++ self.now.viewers) lines.old lines.new out.old out.new) }
+        ensures hosted { IfOk result (λ met. (authors : List ℕ) × IsHostedAtPipes (signed_writing B.answer_text B.reply_text) authors (S.story kept.session) (S.story met.outcome.session) self.now met.outcome.tallies.items met.outcome.numbers.items × HasTalkedWithin (signed_writing B.answer_text B.reply_text authors) met.talked (S.story kept.session) (S.story met.outcome.session) (self.now.designers ++ self.now.viewers) lines.old lines.new out.old out.new) }
+        ensures kept { IfOk result (λ met. K.keeps met.keeper (S.story met.outcome.session)) }
         ensures flushed { out.new.held ≡ [] }
     {
         let hall = self.hall(scribe)?;
-        let met = host(rt, self.files.alloc(), session, hall, lines, out);
+        let met = host(rt, self.files.alloc(), kept, hall, lines, out);
         PipeExit { pipes: self }.let_go();
         met
     }

@@ -3,7 +3,7 @@ mod closing;
 
 use crate::making::sessions::{opened, takes};
 use crate::making::texts::{edit, netlist};
-use mp_desk::{Designer, Desk, DeskName, ReadError, Viewer};
+use mp_desk::{Designer, Desk, DeskName, ReadError, Unkept, Viewer};
 use mp_phase::{Crew, OpenGate};
 use mp_session::Session;
 use std::alloc::Global;
@@ -28,7 +28,7 @@ fn edited(rt: &(impl Threads + Wait + Sync), alloc: Global) -> Result<Session<Op
 fn submits<L: DeskName, R: Threads + Wait + Sync + Drop>(
     rt: &R,
     alloc: Global,
-    desk: &Desk<Session<OpenGate>, L, R>,
+    desk: &Desk<Session<OpenGate>, Unkept, L, R>,
     me: &mut Designer<L>,
     line: &str,
 ) -> bool {

@@ -15,11 +15,9 @@ impl Occupant for Onlooker {
     ghost use Rattle.mp_netlist.specs.declared.format.Format.TheVariants.{Standard};
     ghost use Rattle.mp_version.specs.Stories.{opening};
 
-    ghost seated = { λ _. record { seen = opening (record { format = Standard; horizon = 0; wires = []; modules = []; bundles = [] }); accepted = 0; refused = 0; told = 0; number = 0; signed = [] } };
+    ghost seated = { λ _. record { seen = opening (record { format = Standard; horizon = 0; wires = []; modules = []; bundles = [] }); accepted = 0; refused = 0; told = 0; number = 0; signed = []; reads = [] } };
 
     ghost edits = { false };
-
-    ghost reads = { λ _. [] };
 
     fn submit<R: Threads + Wait + Sync>(&mut self, _rt: &R, _edit: &Edit) -> Result<u32, Refusal> {
         Err(Refusal::NotADesigner)

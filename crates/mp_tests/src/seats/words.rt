@@ -34,6 +34,7 @@ impl ReplyWriter for Words {
             Reply::Accepted(_) => Ok("accepted ".put_to(out)?),
             Reply::Refused(_) => Ok("refused ".put_to(out)?),
             Reply::NotADesigner => Ok("viewer ".put_to(out)?),
+            Reply::NotKept => Ok("unkept ".put_to(out)?),
             Reply::Unread(_) => Ok("unread ".put_to(out)?),
             Reply::TooLong => Ok("long ".put_to(out)?),
         }

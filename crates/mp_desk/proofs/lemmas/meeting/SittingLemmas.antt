@@ -46,7 +46,7 @@ pub accepted_there : (old new : DesignerTally) (edit : Edit) (before version : S
 accepted_there old new edit before version extends is seen accepted refused told wanting number signs =
     let size : length version.edits ≡ length before.edits + 1 = ap (λ (s : Story). length s.edits) is ∙ length-append before.edits (edit ∷ []) in
     let many = signs.2 in
-    let same : new ≡ with_edit old before signs.0 edit = λ i. record {
+    let same : new ≡ with_edit old before signs.0 edit new.reads = λ i. record {
       seen = (seen ∙ is) i;
       accepted = accepted i;
       refused = refused i;
@@ -54,6 +54,7 @@ accepted_there old new edit before version extends is seen accepted refused told
       wanting = wanting i;
       number = number i;
       signed = signs.3 i;
+      reads = new.reads;
     } in
     (before, extends, signs.0, signs.1, omega (arith, size, many), same)
 
@@ -75,7 +76,7 @@ module _ (start : Story) (all : List (List ℕ)) (line : List ℕ) (rest : List 
     told = told;
   }
 
-  was_accepted : (edit : Edit) → line_at line ≡ Ok (Change edit) → (story : Story) (authors : List ℕ) → Extends story old.seen → new ≡ with_edit old story authors edit → SoFar start all rest new
+  was_accepted : (edit : Edit) → line_at line ≡ Ok (Change edit) → (story : Story) (authors : List ℕ) → Extends story old.seen → new ≡ with_edit old story authors edit new.reads → SoFar start all rest new
   was_accepted edit is story authors extends same =
       let k = length story.edits in
       let size : length (one_more story edit).edits ≡ k + 1 = length-append story.edits (edit ∷ []) in
@@ -94,8 +95,8 @@ module _ (start : Story) (all : List (List ℕ)) (line : List ℕ) (rest : List 
       (omega (arith, told, size, ap (λ s. length s.edits) seen))
 
   was_refused : (read : Result Line LineError) (story : Story) → said (line ∷ rest) ≡ read ∷ said rest → ((now : Story) → Extends now story → IsFate now read (Refused (length story.edits)))
-      → Extends story old.seen → (authors : List ℕ) → new ≡ with_refusal old story authors → SoFar start all rest new
-  was_refused read story says holds extends authors same =
+      → Extends story old.seen → (authors : List ℕ) (reads : List Story) → new ≡ with_refusal old story authors reads → SoFar start all rest new
+  was_refused read story says holds extends authors reads same =
       let seen : new.seen ≡ story = ap (λ s. s.seen) same in
       let told : new.told ≡ old.told = ap (λ s. s.told) same in
       let long = extends_length story old.seen extends in
@@ -129,13 +130,13 @@ module _ (start : Story) (all : List (List ℕ)) (line : List ℕ) (rest : List 
       edited : (edit : Edit) → line_at line ≡ Ok (Change edit) → IsAccepted old new edit ⊎ IsRefused old new edit → SoFar start all rest new
       edited edit is (inl h) = was_accepted edit is h.0 h.2 h.1 h.5
       edited edit is (inr h) =
-          was_refused (Ok (Change edit)) h.0 (ap (λ r. unless_empty r (said rest)) is) (λ now more. (h.2, subst (λ s. judged s edit ≡ Err h.2) (sym (up_to-earlier now h.0 more)) h.3)) h.1 h.4 h.6
+          was_refused (Ok (Change edit)) h.0 (ap (λ r. unless_empty r (said rest)) is) (λ now more. (h.2, subst (λ s. judged s edit ≡ Err h.2) (sym (up_to-earlier now h.0 more)) h.3)) h.1 h.4 new.reads h.6
 
       by : (read : Result Line LineError) → line_at line ≡ read → Takes old new read → SoFar start all rest new
       by (Ok Empty) is h = subst (SoFar start all rest) (sym h) (skipped is)
       by (Ok (Change edit)) is h = edited edit is h
-      by (Ok (Ask question)) is h = was_refused (Ok (Ask question)) old.seen (ap (λ r. unless_empty r (said rest)) is) (λ now more. tt) (extends_self old.seen) old.signed h
-      by (Err error) is h = was_refused (Err error) old.seen (ap (λ r. unless_empty r (said rest)) is) (λ now more. tt) (extends_self old.seen) old.signed h
+      by (Ok (Ask question)) is h = was_refused (Ok (Ask question)) old.seen (ap (λ r. unless_empty r (said rest)) is) (λ now more. tt) (extends_self old.seen) old.signed old.reads h
+      by (Err error) is h = was_refused (Err error) old.seen (ap (λ r. unless_empty r (said rest)) is) (λ now more. tt) (extends_self old.seen) old.signed old.reads h
 
 -- all lines were submitted
 pub has_worked : (start : Story) (all : List (List ℕ)) (p : DesignerTally) → SoFar start all [] p → HasWorked start all p

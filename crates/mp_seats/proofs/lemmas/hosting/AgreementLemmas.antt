@@ -1,12 +1,13 @@
 -- Blocks of a meeting as lines of a seat.
-use Rattle.std.proofs.Common.{◌≡◌, ℕ, ◌+◌, ◌-◌, ◌^◌, ◌≤◌, min, zero, suc, true, List, [], ◌∷◌, ◌++◌, length, map, take, Option, Some, Result, Ok, Err, slice_get, slice_index_or, refl, sym, ap, subst, ◌∙◌, inl, arith}
+use Rattle.std.proofs.Common.{◌≡◌, ℕ, ◌+◌, ◌-◌, ◌^◌, ◌≤◌, min, zero, suc, true, false, List, [], ◌∷◌, ◌++◌, length, map, take, Option, Some, Result, Ok, Err, slice_get, slice_index_or, refl, sym, ap, subst, ◌∙◌, inl, arith}
 use Rattle.std.proofs.lemmas.List.{append-nil}
 use mathlib.Core.List.{IsPrefix}
 use Rattle.mp_text.specs.declared.lexing.line_error.LineError.{LineError}
+use Rattle.mp_text.specs.declared.question.Question.{Question}
 use Rattle.mp_text.specs.declared.script_line.Line.{Line}
 use Rattle.mp_text.specs.declared.script_line.Line.TheVariants.{Empty, Change, Ask}
 use Rattle.mp_text.specs.ScriptLines.{line_at}
-use Rattle.mp_version.specs.Stories.{Story}
+use Rattle.mp_version.specs.Stories.{Story, opening}
 use Rattle.mp_desk.specs.Extending.{Extends}
 use Rattle.mp_desk.specs.Chronicles.{unsigned}
 use Rattle.mp_desk.specs.meeting.Fates.{Fate, Accepted, Refused, said, unless_empty, AreFates}
@@ -15,7 +16,8 @@ use Rattle.mp_seats.specs.declared.reply.Reply.TheVariants as replies
 use Rattle.mp_desk.specs.meeting.Fates.{up_to}
 use Rattle.mp_seats.specs.Marks.{Mark, RefusedAt, AnsweredAt, Rise, accepted_of, refused_of, told_of, places_of, AreSigned}
 use Rattle.mp_seats.specs.Replies.{Writing, IsReadRefusal, IsReadAnswer}
-use Rattle.mp_seats.specs.Seats.{AreReplies}
+use Rattle.mp_seats.specs.Steps.{AddsRead}
+use Rattle.mp_seats.specs.Seats.{AreReplies, HaveRead}
 use Rattle.mp_seats.specs.hosting.Agreement.{with_mark, marks_of, BlocksAreSeats, IsSeenAtSeat, NumbersAreSeats}
 
 -- ---- stories that go on
@@ -58,6 +60,7 @@ module _ (w : Writing) (number : ℕ) (now : Story) where
     rise : (last : ℕ) → length now.edits ≤ last → Rise seen last marks
     count : accepted_of marks ≡ fates_of.accepted_of fates
     signed : (authors : List ℕ) → IsPrefix (map (λ edit. number) now.edits) authors → AreSigned number authors (places_of marks)
+    read : (first : List Story) → (last : List Story) × ((later : Story) → Extends later now → HaveRead later lines marks first last)
 
   -- one line before others
   module _ (line : List ℕ) (lines : List (List ℕ)) (others : (seen : ℕ) (fates : List Fate) → AreFates now (said lines) fates → fates_of.Rise seen (length now.edits) fates
@@ -78,12 +81,17 @@ module _ (w : Writing) (number : ℕ) (now : Story) where
           rise = λ last le. (omega arith, rest.rise last le);
           count = rest.count;
           signed = rest.signed;
+          read = λ first. (
+            (rest.read first).0,
+            λ later more. (first, subst (λ read. AddsRead (up_to later seen) read first first) (sym is) refl, (rest.read first).1 later more),
+          );
         }
 
-    after_answer : (seen k : ℕ) (fates : List Fate) (piece : List ℕ) → seen ≤ k → k ≤ length now.edits → IsReadAnswer w (up_to now k) (line_at line) piece
+    after_answer : (seen k : ℕ) (fates : List Fate) (piece : List ℕ) (question : Question) → line_at line ≡ Ok (Ask question) → seen ≤ k → k ≤ length now.edits
+        → IsReadAnswer w (up_to now k) (line_at line) piece
         → Answered k (map (λ l. Some l) lines) (marks_of k lines fates) fates
         → Answered seen (Some line ∷ map (λ l. Some l) lines) (AnsweredAt k ∷ marks_of k lines fates) (Refused k ∷ fates)
-    after_answer seen k fates piece low within is rest = record {
+    after_answer seen k fates piece question asks low within is rest = record {
       text = piece ++ rest.text;
       replied = λ later more. (
         piece,
@@ -95,6 +103,14 @@ module _ (w : Writing) (number : ℕ) (now : Story) where
       rise = λ last le. (low, rest.rise last le);
       count = rest.count;
       signed = rest.signed;
+      read = λ first. (
+        (rest.read (up_to now k ∷ first)).0,
+        λ later more. (
+          up_to now k ∷ first,
+          subst (λ read. AddsRead (up_to later k) read first (up_to now k ∷ first)) (sym asks) (ap (λ (s : Story). s ∷ first) (sym (same_up_to now later k more within))),
+          (rest.read (up_to now k ∷ first)).1 later more,
+        ),
+      );
     }
 
     after_refusal : (seen k : ℕ) (fates : List Fate) (piece : List ℕ) → seen ≤ k → k ≤ length now.edits → IsReadRefusal w true (up_to now k) (line_at line) piece
@@ -112,6 +128,7 @@ module _ (w : Writing) (number : ℕ) (now : Story) where
       rise = λ last le. (low, rest.rise last le);
       count = rest.count;
       signed = rest.signed;
+      read = λ first. ((rest.read first).0, λ later more. (first, tt, (rest.read first).1 later more));
     }
 
     one : (read : Result Line LineError) → line_at line ≡ read → (seen : ℕ) (fates : List Fate) → AreFates now (unless_empty read (said lines)) fates → fates_of.Rise seen (length now.edits) fates
@@ -135,14 +152,15 @@ module _ (w : Writing) (number : ℕ) (now : Story) where
             prefix_get (map (λ e. number) now.edits) authors k number more (get_same number now.edits k edit are.0),
             rest.signed authors more,
           );
+          read = λ first. ((rest.read first).0, λ later more. (first, tt, (rest.read first).1 later more));
         }
     one (Ok (Change edit)) is seen (Refused k ∷ fates) are rise =
         after_refusal seen k fates (w.reply (replies.Refused are.0.0)) rise.0 (rise_within k (length now.edits) fates rise.1)
-        (subst (λ read. IsReadRefusal w true (up_to now k) read (w.reply (replies.Refused are.0.0))) (sym is) (are.0.0, inl are.0.1, refl)) (others k fates are.1 rise.1)
+        (subst (λ read. IsReadRefusal w true (up_to now k) read (w.reply (replies.Refused are.0.0))) (sym is) (inl (are.0.0, inl are.0.1, refl))) (others k fates are.1 rise.1)
     one (Ok (Ask question)) is seen [] are rise = absurd are
     one (Ok (Ask question)) is seen (Accepted k ∷ fates) are rise = absurd are.0
     one (Ok (Ask question)) is seen (Refused k ∷ fates) are rise =
-        after_answer seen k fates (w.answer (up_to now k) question) rise.0 (rise_within k (length now.edits) fates rise.1)
+        after_answer seen k fates (w.answer (up_to now k) question) question is rise.0 (rise_within k (length now.edits) fates rise.1)
         (subst (λ read. IsReadAnswer w (up_to now k) read (w.answer (up_to now k) question)) (sym is) refl) (others k fates are.1 rise.1)
     one (Err error) is seen [] are rise = absurd are
     one (Err error) is seen (Accepted k ∷ fates) are rise = absurd are.0
@@ -152,7 +170,7 @@ module _ (w : Writing) (number : ℕ) (now : Story) where
 
   all : (lines : List (List ℕ)) (seen : ℕ) (fates : List Fate) → AreFates now (said lines) fates → fates_of.Rise seen (length now.edits) fates
       → Answered seen (map (λ l. Some l) lines) (marks_of seen lines fates) fates
-  all [] seen [] are rise = record { text = []; replied = λ later more. refl; rise = λ last le. let low = rise in omega (arith, low, le); count = refl; signed = λ authors more. tt }
+  all [] seen [] are rise = record { text = []; replied = λ later more. refl; rise = λ last le. let low = rise in omega (arith, low, le); count = refl; signed = λ authors more. tt; read = λ first. (first, λ later more. refl) }
   all [] seen (fate ∷ fates) are rise = absurd are
   all (line ∷ lines) seen fates are rise = one line lines (λ s f a r. all lines s f a r) (line_at line) refl seen fates are rise
 
@@ -166,11 +184,13 @@ blocks_are_seats w number now numbers lines tally worked =
       signed,
       min (0 + refused_of (marks_of 0 lines worked.fates)) (2 ^ 64 - 1),
       told_of 0 (marks_of 0 lines worked.fates),
+      (answered.read (opening now.base ∷ [])).0,
       record {
         marks = marks_of 0 lines worked.fates;
         extends = record { same_base = refl; begins = (now.edits, refl) };
         replies = answered.replied;
         rise = λ later more. answered.rise (length later.edits) (prefix_length now.edits later.edits more.begins);
+        read = (answered.read (opening now.base ∷ [])).1;
         accepted = omega (arith, count, accepted);
         refused = λ _ _. refl;
         told = refl;
@@ -195,6 +215,12 @@ seen_at_seat w now number within line question asks = (
       sym (append-nil (w.answer (up_to now number) question)),
     );
     rise = λ later more. (omega arith, let long = prefix_length now.edits later.edits more.begins in omega (arith, long, within));
+    read = λ later more. (
+      up_to now number ∷ opening now.base ∷ [],
+      subst (λ read. AddsRead (up_to later number) read (opening now.base ∷ []) (up_to now number ∷ opening now.base ∷ [])) (sym asks)
+          (ap (λ (s : Story). s ∷ opening now.base ∷ []) (sym (same_up_to now later number more within))),
+      refl,
+    );
     accepted = refl;
     refused = λ edits. absurd (cc edits);
     told = refl;

@@ -15,9 +15,14 @@ pub is_accepted : (old new : DesignerTally) (edit : Edit) (n : ℕ) → IsAccept
 is_accepted old new edit n is same = (refl, is.0, is.1, is.2, is.3, is.4, ap sitter is.5, same ∙ ap (λ (s : DesignerTally). s.told) is.5)
 
 -- an edit that is refused changes nothing but what was seen
-pub is_refused : (old new : DesignerTally) (edit : Edit) (error : EditError) → RefusedAfter old.seen new.seen edit error → new ≡ with_seen old new.seen new.signed → Extends new.seen old.seen
+pub is_refused : (old new : DesignerTally) (edit : Edit) (error : EditError) → RefusedAfter old.seen new.seen edit error → new ≡ with_seen old new.seen new.signed new.reads → Extends new.seen old.seen
     → IsPrefix old.signed new.signed → Submits true (Err (refusals.Refused error)) (sitter old) (sitter new) edit
 is_refused old new edit error refused same extends begins = (refl, refused, ap sitter same, extends, begins)
+
+-- an edit that can't be kept changes nothing but what was seen
+pub is_not_kept : (old new : DesignerTally) (edit : Edit) → new ≡ with_seen old new.seen new.signed new.reads → Extends new.seen old.seen → IsPrefix old.signed new.signed
+    → Submits true (Err refusals.NotKept) (sitter old) (sitter new) edit
+is_not_kept old new edit same extends begins = (refl, ap sitter same, extends, begins)
 
 -- a line that is refused or not read is counted
 pub is_counted : (old new : DesignerTally) → new ≡ record old { refused = min (old.refused + 1) (2 ^ 64 - 1) } → sitter new ≡ with_refusal true (sitter old)

@@ -3,7 +3,8 @@ ghost use Rattle.std.specs.Prelude.{◌≡◌, ◌+◌, length};
 
 use super::{are_shut, edited, number_read, submits};
 use mp_desk::{
-    CloseCause, CloseRefused, Designer, Desk, DeskName, DeskParts, DeskSize, Staffed, Viewer,
+    CloseCause, CloseRefused, Designer, Desk, DeskName, DeskParts, DeskSize, KeptSession, Staffed,
+    Unkept, Viewer,
 };
 use mp_phase::OpenGate;
 use mp_session::Session;
@@ -18,7 +19,7 @@ use std::thread::Threads;
 fn desk_refusals(rt: HostRuntime) -> Result<(), Fail> {
     let size = DeskSize::new(2, 1)?;
     let session = edited(&rt, rt.alloc())?;
-    let parts = DeskParts::new(&rt, rt.alloc(), session, size)
+    let parts = DeskParts::new(&rt, rt.alloc(), KeptSession::unkept(session), size)
         .ok()
         .ok_or("no parts")?;
     close_without_all::<Brand, _>(&rt, rt.alloc(), parts)
@@ -27,14 +28,14 @@ fn desk_refusals(rt: HostRuntime) -> Result<(), Fail> {
 fn close_without_all<L: DeskName, R: Threads + Wait + Abort + Sync + Copy>(
     rt: R,
     alloc: Global,
-    parts: DeskParts<Session<OpenGate>, R>,
+    parts: DeskParts<Session<OpenGate>, Unkept, R>,
 ) -> Result<(), Fail>
     requires history { parts.book ≡ L.history }
     requires ledger { parts.ledger ≡ L.name }
     requires shares { parts.designers + 1 ≡ L.parts }
     requires opening { length parts.session.story.edits ≡ L.opening }
 {
-    let mut staffed = Desk::<Session<OpenGate>, L, R>::open(parts)
+    let mut staffed = Desk::<Session<OpenGate>, Unkept, L, R>::open(parts)
         .ok()
         .ok_or("no desk")?;
     let taken = takes_one_more(&rt, alloc, &mut staffed);
@@ -47,7 +48,7 @@ fn close_without_all<L: DeskName, R: Threads + Wait + Abort + Sync + Copy>(
 fn takes_one_more<L: DeskName, R: Threads + Wait + Sync + Drop>(
     rt: &R,
     alloc: Global,
-    staffed: &mut Staffed<Session<OpenGate>, L, R>,
+    staffed: &mut Staffed<Session<OpenGate>, Unkept, L, R>,
 ) -> bool {
     let Staffed {
         desk,
@@ -65,7 +66,7 @@ fn takes_one_more<L: DeskName, R: Threads + Wait + Sync + Drop>(
 /// Whether a desk can't be closed while a designer is missing, and can be with all of them.
 fn closes_with_all<L: DeskName, R: Wait + Drop>(
     rt: &R,
-    staffed: Staffed<Session<OpenGate>, L, R>,
+    staffed: Staffed<Session<OpenGate>, Unkept, L, R>,
 ) -> bool {
     let Staffed {
         desk,
@@ -79,7 +80,7 @@ fn closes_with_all<L: DeskName, R: Wait + Drop>(
 
 fn closes_after_refusal<L: DeskName, R: Wait + Drop>(
     rt: &R,
-    desk: Desk<Session<OpenGate>, L, R>,
+    desk: Desk<Session<OpenGate>, Unkept, L, R>,
     designers: Vec<Designer<L>>,
     viewers: &mut [Viewer<L>],
 ) -> bool {
@@ -97,10 +98,10 @@ fn closes_after_refusal<L: DeskName, R: Wait + Drop>(
 /// The desk and the designers, if it isn't closed with these.
 fn handed_back<L: DeskName, R: Wait + Drop>(
     rt: &R,
-    desk: Desk<Session<OpenGate>, L, R>,
+    desk: Desk<Session<OpenGate>, Unkept, L, R>,
     designers: Vec<Designer<L>>,
     viewers: &mut [Viewer<L>],
-) -> Option<(Desk<Session<OpenGate>, L, R>, Vec<Designer<L>>)> {
+) -> Option<(Desk<Session<OpenGate>, Unkept, L, R>, Vec<Designer<L>>)> {
     let CloseRefused {
         cause: CloseCause::MissingPass,
         desk,
@@ -119,7 +120,7 @@ fn with<T: Drop>(items: Vec<T>, item: Option<T>) -> Option<Vec<T>> {
 /// Whether there are designers, with whom the desk is closed, and no viewer reads any more.
 fn closes<L: DeskName, R: Wait + Drop>(
     rt: &R,
-    desk: Desk<Session<OpenGate>, L, R>,
+    desk: Desk<Session<OpenGate>, Unkept, L, R>,
     designers: Option<Vec<Designer<L>>>,
     viewers: &mut [Viewer<L>],
 ) -> bool {

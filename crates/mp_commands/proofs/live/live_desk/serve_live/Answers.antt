@@ -6,9 +6,9 @@ use Rattle.mp_commands.proofs.live.live_desk.serve_live.Goals as goal
 pub returns-in-Ok-clause-live : goal.returns-in-Ok-clause-live
 returns-in-Ok-clause-live g c =
     let hosted = c.in-Ok.hosted in
-    let same : g.S.EditSession.story c.closed.result.session ≡ g.S.EditSession.story hosted.outcome.session = ap g.S.EditSession.story c.closed.ensures.session in
+    let same : g.S.EditSession.story c.closed.result.session ≡ g.S.EditSession.story hosted.outcome.session = ap g.S.EditSession.story c.closed.ensures.session.0 in
     subst
-    (λ (last : Story). IsLiveDesk (g.S.EditSession.story c.args.session) last c.args.pipes.now c.closed.result.ended c.args.lines.now c.host.new.lines c.args.out.now c.closed.new.out)
+    (λ (last : Story). IsLiveDesk (g.S.EditSession.story c.args.kept.session) last c.args.pipes.now c.closed.result.ended c.args.lines.now c.host.new.lines c.args.out.now c.closed.new.out)
     (sym same)
     (record {
       talk = hosted.talked;

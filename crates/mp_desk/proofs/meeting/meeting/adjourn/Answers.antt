@@ -8,7 +8,7 @@ use Rattle.mp_desk.proofs.meeting.meeting.adjourn.Goals as goal
 
 pub returns-clause-adjourned : goal.returns-clause-adjourned
 returns-clause-adjourned g c =
-    let now : Story = g.S.EditSession.story c.in-Ok.session in
+    let now : Story = g.S.EditSession.story c.in-Ok.kept.session in
     let new : List DesignerTally = c.args.sittings.items in
     let numbers : List ℕ = c.in_ok-numbers.numbers.items in
     let vs : List Seeing = c.as_mut_slice-2.result.now in
@@ -32,7 +32,7 @@ returns-clause-adjourned g c =
 
 pub returns-clause-looked : goal.returns-clause-looked
 returns-clause-looked g c =
-    let now : Story = g.S.EditSession.story c.in-Ok.session in
+    let now : Story = g.S.EditSession.story c.in-Ok.kept.session in
     let authors = c.in-Ok.ensures.signed.0 in
     let vs : List Seeing = c.as_mut_slice-2.result.now in
     let was : List Seeing = c.args.viewers.items in
@@ -47,7 +47,7 @@ returns-clause-looked g c =
 
 pub returns-clause-signed : goal.returns-clause-signed
 returns-clause-signed g c =
-    let now : Story = g.S.EditSession.story c.in-Ok.session in
+    let now : Story = g.S.EditSession.story c.in-Ok.kept.session in
     let authors = c.in-Ok.ensures.signed.0 in
     let vs : List Seeing = c.as_mut_slice-2.result.now in
     let was : List Seeing = c.args.viewers.items in

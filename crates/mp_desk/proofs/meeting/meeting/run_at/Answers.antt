@@ -1,10 +1,11 @@
-use Rattle.std.proofs.Common.{◌≡◌, ℕ, List, length, ap, sym, subst, rules, arith}
+use Rattle.std.proofs.Common.{◌≡◌, ℕ, List, length, vec_len, ap, sym, subst, rules, arith}
 use Rattle.mp_version.specs.Stories.{Story}
 use Rattle.mp_desk.specs.Holders.{Working}
 use Rattle.mp_text.specs.lexing.Divisions.{lines_of_each}
 use Rattle.mp_desk.specs.declared.meeting.tally.Tally.{Tally}
 use Rattle.mp_desk.specs.meeting.Sittings.{DesignerTally}
 use Rattle.mp_desk.specs.meeting.Meetings.{IsMeeting}
+use Rattle.mp_desk.specs.meeting.Seats.{HasAdjourned}
 use Rattle.mp_desk.proofs.lemmas.meeting.MeetLemmas.{met, seated_fresh}
 use Rattle.mp_desk.proofs.meeting.meeting.run_at.Goals as goal
 
@@ -13,9 +14,10 @@ race-sittings-requires-clause-fresh g c κs within = seated_fresh c.args.staffed
 
 pub returns-clause-met : goal.returns-clause-met
 returns-clause-met g c = λ base fresh.
-    let met_at = c.in_ok-adjourn.field-0 in
-    let adjourned = c.in_ok-adjourn.ensures.adjourned in
-    let now : Story = g.S.EditSession.story met_at.session in
+    let met_at = c.in_ok-kept.field-0 in
+    let now : Story = g.S.EditSession.story c.into_parts-session.result.0 in
+    let same : g.S.EditSession.story met_at.kept.session ≡ now = ap g.S.EditSession.story (sym c.into_parts-session.ensures.session) in
+    let adjourned = subst (λ (s : Story). HasAdjourned c.args.staffed.desk.opening c.race-sittings.result.0.items (vec_len c.race-sittings.result.1) s met_at.tallies.items met_at.numbers.items) same c.in_ok-kept.ensures.adjourned in
     let numbers : List ℕ = met_at.numbers.items in
     let blocks = c.args.blocks.now in
     let ds : List Working = c.args.staffed.designers.items in

@@ -15,23 +15,23 @@ use Rattle.mp_seats.proofs.hosting.hosting.host_staffed.Goals as goal
 
 pub returns-clause-hosted : goal.returns-clause-hosted
 returns-clause-hosted g c = λ start designers viewers opening.
-    let now : Story = g.S.EditSession.story c.without_own.result.session in
-    let tallies = c.without_own.result.tallies.items in
-    let numbers = c.without_own.result.numbers.items in
+    let now : Story = g.S.EditSession.story c.without_own-outcome.result.0.session in
+    let tallies = c.without_own-outcome.result.0.tallies.items in
+    let numbers = c.without_own-outcome.result.0.numbers.items in
     let sittings = c.in_ok-sittings.field-0.sittings in
     let vs = c.in_ok-sittings.field-0.viewers in
     let writing : List ℕ → Writing = signed_writing g.B.ReplyWriter.answer_text g.B.ReplyWriter.reply_text in
     let own = c.in_ok-sittings.field-0.own in
-    let before = c.in_ok-outcome.outcome in
-    let same : now ≡ g.S.EditSession.story before.session = ap g.S.EditSession.story c.without_own.ensures.same.0 in
-    let same_tallies : tallies ≡ before.tallies.items = ap (λ v. v.items) c.without_own.ensures.same.1 in
+    let before = c.in_ok-adjourned.adjourned in
+    let same : now ≡ g.S.EditSession.story before.kept.session = ap g.S.EditSession.story c.without_own-outcome.ensures.same.0 in
+    let same_tallies : tallies ≡ before.tallies.items = ap (λ v. v.items) c.without_own-outcome.ensures.same.1 in
     let looked : All (λ (v : Seeing). Extends now v.last) (vs.items ++ c.in_ok-sittings.field-0.own ∷ []) =
     subst (λ (z : Story). All (λ (v : Seeing). Extends z v.last) (vs.items ++ c.in_ok-sittings.field-0.own ∷ [])) (sym same)
-    (subst (All (λ (v : Seeing). Extends (g.S.EditSession.story before.session) v.last)) c.in_ok-push.ensures.items c.in_ok-outcome.ensures.looked) in
+    (subst (All (λ (v : Seeing). Extends (g.S.EditSession.story before.kept.session) v.last)) c.in_ok-push.ensures.items c.in_ok-adjourned.ensures.looked) in
     let others : All (λ (v : Seeing). v ≡ fresh_viewer start) c.pop.new.self.items =
     front_all (λ (v : Seeing). v ≡ fresh_viewer start) c.pop.new.self.items c.in-Some.own (subst (All (λ (v : Seeing). v ≡ fresh_viewer start)) c.in-Some.ensures.items viewers) in
     let made = subst (λ (z : Story). IsSigned z (map working sittings.items) (vs.items ++ own ∷ [])) (sym same)
-    (subst (IsSigned (g.S.EditSession.story before.session) (map working sittings.items)) c.in_ok-push.ensures.items c.in_ok-outcome.ensures.signed) in
+    (subst (IsSigned (g.S.EditSession.story before.kept.session) (map working sittings.items)) c.in_ok-push.ensures.items c.in_ok-adjourned.ensures.signed) in
     let authors : List ℕ = made.0 in
     let begin = made.2 in
     let read_by : All (λ (v : Seeing). IsPrefix v.signed authors) (vs.items ++ own ∷ []) = λ k v within. (made.3 k v within).begins in
@@ -42,13 +42,13 @@ returns-clause-hosted g c = λ start designers viewers opening.
     omega (arith, ap (λ (l : List Seeing). length l) c.in_ok-push.ensures.items, length-append vs.items (c.in_ok-sittings.field-0.own ∷ []), many, vs.ok.0, c.push.new.self.ok.0) in
     let adjourned : HasAdjourned (length start.edits) sittings.items (length c.args.hall.viewers.items) now tallies numbers =
     subst (λ (z : Story). HasAdjourned (length start.edits) sittings.items (length c.args.hall.viewers.items) z tallies numbers) (sym same)
-    (subst (λ (ts : List Tally). HasAdjourned (length start.edits) sittings.items (length c.args.hall.viewers.items) (g.S.EditSession.story before.session) ts numbers) (sym same_tallies)
-    (subst (λ (n : ℕ). HasAdjourned n sittings.items (length c.args.hall.viewers.items) (g.S.EditSession.story before.session) before.tallies.items numbers) opening
-    (without_last c.args.staffed.desk.opening sittings.items (length c.args.hall.viewers.items) (g.S.EditSession.story before.session) before.tallies.items numbers c.without_own.ensures.numbers.0
-    (subst (λ (ns : List ℕ). HasAdjourned c.args.staffed.desk.opening sittings.items (length c.args.hall.viewers.items + 1) (g.S.EditSession.story before.session) before.tallies.items ns)
-    c.without_own.ensures.numbers.1
-    (subst (λ (n : ℕ). HasAdjourned c.args.staffed.desk.opening sittings.items n (g.S.EditSession.story before.session) before.tallies.items before.numbers.items) pushed
-    c.in_ok-outcome.ensures.adjourned))))) in
+    (subst (λ (ts : List Tally). HasAdjourned (length start.edits) sittings.items (length c.args.hall.viewers.items) (g.S.EditSession.story before.kept.session) ts numbers) (sym same_tallies)
+    (subst (λ (n : ℕ). HasAdjourned n sittings.items (length c.args.hall.viewers.items) (g.S.EditSession.story before.kept.session) before.tallies.items numbers) opening
+    (without_last c.args.staffed.desk.opening sittings.items (length c.args.hall.viewers.items) (g.S.EditSession.story before.kept.session) before.tallies.items numbers c.without_own-outcome.ensures.numbers.0
+    (subst (λ (ns : List ℕ). HasAdjourned c.args.staffed.desk.opening sittings.items (length c.args.hall.viewers.items + 1) (g.S.EditSession.story before.kept.session) before.tallies.items ns)
+    c.without_own-outcome.ensures.numbers.1
+    (subst (λ (n : ℕ). HasAdjourned c.args.staffed.desk.opening sittings.items n (g.S.EditSession.story before.kept.session) before.tallies.items before.numbers.items) pushed
+    c.in_ok-adjourned.ensures.adjourned))))) in
     let claimed =
     claimed_once g.row.D-Output.Denot g.D.Door.Comes g.D.Door.Leaves g.D.Door.TurnsAway (writing authors) start now c.args.hall.designers.items sittings.items edited adjourned.seen authors begin
     adjourned.counted in

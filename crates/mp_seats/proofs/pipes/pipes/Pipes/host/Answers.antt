@@ -13,7 +13,7 @@ use Rattle.mp_seats.proofs.pipes.pipes.Pipes.host.Goals as goal
 pub returns-clause-hosted : goal.returns-clause-hosted
 returns-clause-hosted g c =
     let writing : List ℕ → Writing = signed_writing g.B.ReplyWriter.answer_text g.B.ReplyWriter.reply_text in
-    let first = g.S.EditSession.story c.args.session in
+    let first = g.S.EditSession.story c.args.kept.session in
     IfOk-weaker c.host-met.result _ _
     (λ met h. (
       h.0,

@@ -2,7 +2,7 @@ use Rattle.std.proofs.Common.{◌≡◌, ◌∷◌, ◌++◌, [], ap, sym, ◌�
 use Rattle.std.specs.Arc.{arc_value}
 use Rattle.mp_desk.specs.Chronicles.{entry, latest, authors, writer_of}
 use Rattle.mp_desk.proofs.AddingLemmas.{some_in, latest_in, authors_in}
-use Rattle.mp_desk.proofs.log_writer.LogWriter.add.Goals as goal
+use Rattle.mp_desk.proofs.log_writer.LogWriter.is_added.Goals as goal
 
 pub invariant_of-self : goal.invariant_of-self
 invariant_of-self c =
