@@ -24,7 +24,7 @@ Given = Dict[Key, Any]  # what the tasks that have ended gave
 Task = Tuple[List[Key], int, float, Callable[[Given, int], Any]]
 
 TAKEN = 0.45  # the part of the memory that rt thinks of which a check by one job takes
-TAKEN_MORE = 0.4  # what each further job takes, as a part of what the first one does
+TAKEN_MORE = 0.2  # what each further job takes, as a part of what the first one does
 USED = 0.85  # the part of the free memory that is used
 MOST_JOBS = 8  # more seldom help
 OTHER_JOBS = 2  # those of a check that isn't the first
