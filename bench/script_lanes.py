@@ -10,9 +10,10 @@ from seat_checks import Wrong, expect
 sys.path.insert(0, f"{os.path.dirname(os.path.dirname(os.path.abspath(__file__)))}/launcher")
 import lanes  # noqa: E402
 
-# a chain of three crates, two beside it, and the edits of one
+# a chain of three crates, three beside it, of which one takes as long as seven tenths of it, and the edits of one
 TASKS = {
     ("low", "proof"): ([], 10, 2e9),
+    ("beside", "proof"): ([], 21, 2e9),
     ("aside", "proof"): ([], 5, 2e9),
     ("middle", "proof"): ([("low", "proof")], 10, 2e9),
     ("top", "proof"): ([("middle", "proof")], 10, 2e9),
@@ -42,16 +43,16 @@ class Done:
 
 
 def expect_lanes():
-    """The longest chain has all processors and is served first, others have two jobs, and memory that isn't there is waited for."""
+    """The longest chains have all processors but one and are served first, others have one job, and memory that isn't there is waited for."""
     ample = Done(100e9)
     expect("what they gave", {key: f"{key} is done" for key in TASKS}, ample.given)
     for key, (waits, *_) in TASKS.items():
         expect(f"what has ended before {key}", set(), {*waits} - ample.had[key][2])
     jobs = {key: had[0] for key, had in ample.had.items()}
-    expect("their jobs", {key: 1 if key[1] == "edits" else 4 if key[0] in ("low", "middle", "top") else 2 for key in TASKS}, jobs)
+    expect("their jobs", {key: 3 if key[0] in ("low", "beside", "middle", "top") else 1 for key in TASKS}, jobs)
     mine = os.getpriority(os.PRIO_PROCESS, 0)
     nice = {key[0]: had[1] for key, had in ample.had.items() if key[1] == "proof"}
-    served = [nice[name] for name in ("low", "middle", "top", "aside", "last")]
+    served = [nice[name] for name in ("low", "beside", "middle", "top", "aside", "last")]
     expect("who is served first", (mine, sorted(served), True), (served[0], served, served[-1] > mine or mine == 19))
     expect("how many ran at once", True, 2 <= ample.most <= 4)
     for memory in (1e9, 0.5e9):
@@ -104,7 +105,7 @@ def expect_builds(copy):
     """A build takes over the tasks of an rt that is as it is known, and leaves all else to rt."""
     known = "([], 1, 1.0, note)"
     for what, form, task, given, wanted in [
-        ("a known rt", "", known, {}, "3 of none"),
+        ("a known rt", "", known, {}, "2 of none"),
         ("a number of jobs", "", known, {"RT_JOBS": "2"}, "its own of 2"),
         ("other tasks", "", "([], note)", {}, "its own of none"),
         ("no function of that name", "del free", known, {}, "its own of N"),
