@@ -13,12 +13,12 @@ import lanes  # noqa: E402
 # a chain of three crates, three beside it, of which one takes as long as seven tenths of it, and the edits of one
 TASKS = {
     ("low", "proof"): ([], 10, 2e9),
-    ("beside", "proof"): ([], 21, 2e9),
+    ("beside", "proof"): ([], 22, 2e9),
     ("aside", "proof"): ([], 5, 2e9),
     ("middle", "proof"): ([("low", "proof")], 10, 2e9),
     ("top", "proof"): ([("middle", "proof")], 10, 2e9),
     ("last", "proof"): ([], 1, 2e9),
-    ("last", "edits"): ([("last", "proof")], 1, 2e9),
+    ("top", "edits"): ([("top", "proof")], 1, 2e9),
 }
 
 
@@ -36,7 +36,7 @@ class Done:
             self.now += 1
             self.most = max(self.most, self.now)
             self.had[key] = jobs, nice, {*given}
-        time.sleep(0.2)
+        time.sleep(0.02 if key[0] == "beside" else 0.2)  # (it ends before the chain's last one begins)
         with self.lock:
             self.now -= 1
         return f"{key} is done"
@@ -49,7 +49,7 @@ def expect_lanes():
     for key, (waits, *_) in TASKS.items():
         expect(f"what has ended before {key}", set(), {*waits} - ample.had[key][2])
     jobs = {key: had[0] for key, had in ample.had.items()}
-    expect("their jobs", {key: 3 if key[0] in ("low", "beside", "middle", "top") else 1 for key in TASKS}, jobs)
+    expect("their jobs", {key: 3 if key[1] == "proof" and key[0] not in ("aside", "last") else 1 for key in TASKS}, jobs)
     mine = os.getpriority(os.PRIO_PROCESS, 0)
     nice = {key[0]: had[1] for key, had in ample.had.items() if key[1] == "proof"}
     served = [nice[name] for name in ("low", "beside", "middle", "top", "aside", "last")]
