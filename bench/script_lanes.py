@@ -1,11 +1,12 @@
-"""What has to hold of the lanes of `./mpwb build`: tasks as `rt ci` has them, and a stand-in for an `rt` whose tasks can be taken over."""
+"""What has to hold of `./mpwb build` beside the program: its lanes, over tasks as `rt ci` has them and an `rt` whose tasks can be taken over."""
 import os
 import re
 import sys
 import threading
 import time
 
-from seat_checks import Wrong, expect
+from script_copy import wait_for
+from seat_checks import SECONDS, Wrong, expect
 
 sys.path.insert(0, f"{os.path.dirname(os.path.dirname(os.path.abspath(__file__)))}/launcher")
 import lanes  # noqa: E402
@@ -118,3 +119,29 @@ def expect_builds(copy):
         status = copy.run("build")[0]
         noted = [line if given else re.sub(r"\d+$", "N", line) for line in copy.noted("jobs")]
         expect(f"a build with {what}", (0, [wanted]) if wanted else (70, []), (status, noted))
+
+
+def lanes_of_a_build(copy):
+    """A build gives processors to the longest chain of crates where rt lets it."""
+    expect_lanes()
+    expect_builds(copy)
+
+
+def while_a_build_proves(copy):
+    """While a build proves, the first program answers, also one of newer sources, of which the build knows nothing."""
+    copy.run("waves")
+    copy.set_mode("slow")
+    build = copy.start("build")
+    wait_for(f"{copy.kit}/begun")
+    copy.set_mode("")
+    copy.calls()
+    expect("an answer", ("checked waves\n", 0), (copy.run("waves")[1], copy.calls()))
+    copy.touch("low")
+    for calls in (1, 0):
+        expect("an answer of newer sources", ("checked waves\n", calls), (copy.run("waves")[1], copy.calls()))
+    expect("what is kept", ["build.log", "mpwb-checked"], copy.kept())
+    copy.write("kit/goes_on", "")
+    build.communicate(timeout=SECONDS)
+    expect("the build, and an answer of newer sources", (0, "checked waves\n"), (build.returncode, copy.run("waves")[1]))
+    os.utime(f"{copy.out}/mpwb")
+    expect("an answer of the build", "proved waves\n", copy.run("waves")[1])
