@@ -9,6 +9,7 @@ from script_copy import wait_for
 from seat_checks import SECONDS, Wrong, expect
 
 sys.path.insert(0, f"{os.path.dirname(os.path.dirname(os.path.abspath(__file__)))}/launcher")
+sys.dont_write_bytecode = True  # (what is installed is a copy of that folder)
 import lanes  # noqa: E402
 
 # a chain of three crates, three beside it, of which one takes as long as seven tenths of it, and the edits of one
