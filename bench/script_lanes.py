@@ -1,23 +1,26 @@
-"""What has to hold of the lanes of `./mpwb build`: tasks as `rt ci` has them, and a stand-in for an `rt` whose tasks can be taken over."""
+"""What has to hold of `./mpwb build` beside the program: its lanes, over tasks as `rt ci` has them and an `rt` whose tasks can be taken over."""
 import os
 import re
 import sys
 import threading
 import time
 
-from seat_checks import Wrong, expect
+from script_copy import wait_for
+from seat_checks import SECONDS, Wrong, expect
 
 sys.path.insert(0, f"{os.path.dirname(os.path.dirname(os.path.abspath(__file__)))}/launcher")
+sys.dont_write_bytecode = True  # (what is installed is a copy of that folder)
 import lanes  # noqa: E402
 
-# a chain of three crates, two beside it, and the edits of one
+# a chain of three crates, three beside it, of which one takes as long as seven tenths of it, and the edits of one
 TASKS = {
     ("low", "proof"): ([], 10, 2e9),
+    ("beside", "proof"): ([], 22, 2e9),
     ("aside", "proof"): ([], 5, 2e9),
     ("middle", "proof"): ([("low", "proof")], 10, 2e9),
     ("top", "proof"): ([("middle", "proof")], 10, 2e9),
     ("last", "proof"): ([], 1, 2e9),
-    ("last", "edits"): ([("last", "proof")], 1, 2e9),
+    ("top", "edits"): ([("top", "proof")], 1, 2e9),
 }
 
 
@@ -35,23 +38,23 @@ class Done:
             self.now += 1
             self.most = max(self.most, self.now)
             self.had[key] = jobs, nice, {*given}
-        time.sleep(0.2)
+        time.sleep(0.02 if key[0] == "beside" else 0.2)  # (it ends before the chain's last one begins)
         with self.lock:
             self.now -= 1
         return f"{key} is done"
 
 
 def expect_lanes():
-    """The longest chain has all processors and is served first, others have two jobs, and memory that isn't there is waited for."""
+    """The longest chains have all processors but one and are served first, others have one job, and memory that isn't there is waited for."""
     ample = Done(100e9)
     expect("what they gave", {key: f"{key} is done" for key in TASKS}, ample.given)
     for key, (waits, *_) in TASKS.items():
         expect(f"what has ended before {key}", set(), {*waits} - ample.had[key][2])
     jobs = {key: had[0] for key, had in ample.had.items()}
-    expect("their jobs", {key: 1 if key[1] == "edits" else 4 if key[0] in ("low", "middle", "top") else 2 for key in TASKS}, jobs)
+    expect("their jobs", {key: 3 if key[1] == "proof" and key[0] not in ("aside", "last") else 1 for key in TASKS}, jobs)
     mine = os.getpriority(os.PRIO_PROCESS, 0)
     nice = {key[0]: had[1] for key, had in ample.had.items() if key[1] == "proof"}
-    served = [nice[name] for name in ("low", "middle", "top", "aside", "last")]
+    served = [nice[name] for name in ("low", "beside", "middle", "top", "aside", "last")]
     expect("who is served first", (mine, sorted(served), True), (served[0], served, served[-1] > mine or mine == 19))
     expect("how many ran at once", True, 2 <= ample.most <= 4)
     for memory in (1e9, 0.5e9):
@@ -104,7 +107,7 @@ def expect_builds(copy):
     """A build takes over the tasks of an rt that is as it is known, and leaves all else to rt."""
     known = "([], 1, 1.0, note)"
     for what, form, task, given, wanted in [
-        ("a known rt", "", known, {}, "3 of none"),
+        ("a known rt", "", known, {}, "2 of none"),
         ("a number of jobs", "", known, {"RT_JOBS": "2"}, "its own of 2"),
         ("other tasks", "", "([], note)", {}, "its own of none"),
         ("no function of that name", "del free", known, {}, "its own of N"),
@@ -117,3 +120,29 @@ def expect_builds(copy):
         status = copy.run("build")[0]
         noted = [line if given else re.sub(r"\d+$", "N", line) for line in copy.noted("jobs")]
         expect(f"a build with {what}", (0, [wanted]) if wanted else (70, []), (status, noted))
+
+
+def lanes_of_a_build(copy):
+    """A build gives processors to the longest chain of crates where rt lets it."""
+    expect_lanes()
+    expect_builds(copy)
+
+
+def while_a_build_proves(copy):
+    """While a build proves, the first program answers, also one of newer sources, of which the build knows nothing."""
+    copy.run("waves")
+    copy.set_mode("slow")
+    build = copy.start("build")
+    wait_for(f"{copy.kit}/begun")
+    copy.set_mode("")
+    copy.calls()
+    expect("an answer", ("checked waves\n", 0), (copy.run("waves")[1], copy.calls()))
+    copy.touch("low")
+    for calls in (1, 0):
+        expect("an answer of newer sources", ("checked waves\n", calls), (copy.run("waves")[1], copy.calls()))
+    expect("what is kept", ["build.log", "mpwb-checked"], copy.kept())
+    copy.write("kit/goes_on", "")
+    build.communicate(timeout=SECONDS)
+    expect("the build, and an answer of newer sources", (0, "checked waves\n"), (build.returncode, copy.run("waves")[1]))
+    os.utime(f"{copy.out}/mpwb")
+    expect("an answer of the build", "proved waves\n", copy.run("waves")[1])

@@ -1,8 +1,11 @@
 """A module of LLVM that the stand-in for the kit's compiler has, and what has to hold of the parts into which the script divides it."""
 import os
 import re
+import signal
+import time
 
-from seat_checks import expect
+from script_copy import wait_for
+from seat_checks import SECONDS, expect
 
 # the text of a module: what `main` reaches and what it doesn't, functions of one line and one of many
 MANY = "\n".join(f"  store i8 {at}, ptr %a0" for at in range(99))
@@ -114,3 +117,61 @@ def expect_parts(folder, count):
     for text in texts:
         expect("fills and attributes", (0, 0, True), (text.count("i8 -86"), text.count("sanitize"), '"probe-stack"' in text))
     expect("checks", True, all('call void @"checks::Value"(i8 1)' in text for text in texts if f"define hidden void @{LONG}" in text))
+
+
+def made_in_parts(copy):
+    """With a compiler of the kit the program is linked of parts, each compiled as the kit would, but optimised and without checks of addresses."""
+    expect("an answer", "checked waves\n", copy.run("waves")[1])
+    expect("calls of rt, and links", (1, 1), (copy.calls(), len(copy.noted("linked"))))
+    calls = sorted(copy.noted("compiled"))
+    expect("a call of the compiler", "-march=x86-64 -O1 -Wno-override-module -c -x ir part0.ll -o part0.o", calls[0])
+    expect("calls of the compiler", len(calls), len(os.listdir(f"{copy.kit}/parts")))
+    expect_parts(f"{copy.kit}/parts", len(os.sched_getaffinity(0)))
+    copy.expect_nothing_left()
+
+
+def parts_that_fail(copy):
+    """Where a part can't be compiled or linked, or the module has another form, the kit's compiler makes the program, in the same call of rt."""
+    for mode, module in (("parts-refused", MODULE), ("link-refused", MODULE), ("", "no module"), ("", ""), ("", MODULE.replace("@main", "@other"))):
+        copy.set_mode(mode)
+        copy.write("kit/module.ll", module)
+        copy.touch("low")
+        expect(f"an answer with {mode or module[:9]}", (0, "checked waves\n", 1), (*copy.run("waves")[:2], copy.calls()))
+        compiled = [line.split()[5] for line in copy.noted("compiled")]
+        expect("links, and the last call of the compiler", ([], ["module.bc"]), (copy.noted("linked"), compiled[-1:]))
+        copy.expect_nothing_left()
+
+
+def kit_that_is_where_it_is(copy):
+    """Where rt doesn't work in a folder of links to its kit, the kit itself makes the program."""
+    copy.set_mode("moved")
+    expect("an answer, and calls of rt", (0, "checked waves\n", 2), (*copy.run("waves")[:2], copy.calls()))
+    expect("what is kept, and links", (["mpwb-checked"], []), (copy.kept(), copy.noted("linked")))
+    copy.expect_nothing_left()
+
+
+def interrupted_in_parts(copy):
+    """What is interrupted while parts are compiled leaves no process and keeps nothing."""
+    copy.set_mode("parts-slow")
+    started = copy.start("waves")
+    wait_for(f"{copy.kit}/begun")
+    compiling = int(copy.noted("begun")[0])
+    started.send_signal(signal.SIGTERM)
+    started.communicate(timeout=SECONDS)
+    expect("an interrupted run", (130, []), (started.returncode, copy.kept()))
+    copy.expect_nothing_left()
+    expect("the compiler", True, ends(compiling))
+
+
+def ends(process):
+    """Whether a process ends."""
+    end = time.monotonic() + SECONDS / 2
+    while time.monotonic() < end:
+        try:
+            with open(f"/proc/{process}/stat", encoding="ascii") as file:
+                if file.read().split()[2] == "Z":
+                    return True
+        except OSError:
+            return True
+        time.sleep(0.01)
+    return False

@@ -53,7 +53,8 @@ def text_of(clang: str, module: str) -> str:
 
 def compile_parts(clang: str, words: List[str], module: str) -> List[str]:
     """Compiles the parts of a module side by side, one on each processor, and returns the files that come of them."""
-    flags, running, made = flags_in(words), [], []
+    flags, made = flags_in(words), []
+    running: List[subprocess.Popen[bytes]] = []
     try:
         for at, text in enumerate(part_texts(read_module(text_of(clang, module)), len(os.sched_getaffinity(0)))):
             with open(f"part{at}.ll", "w", encoding="latin-1") as file:

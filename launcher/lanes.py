@@ -2,8 +2,8 @@
 
 `rt` proves crates side by side, and each check keeps the number of jobs that it begins with. It thinks of twice the memory that checks take, so it
 begins few, or, if it is told how many, gives each one job. Then processors idle while the longest chain of crates is proved, one after the other.
-Here the crate with the longest chain behind it has a job for each processor, and the others have two; the system gives the processors to the former
-first (`nice`), and to the others what is left. All else is done by `rt`. If it isn't as this file knows it, it does that too.
+Here a crate with one of the longest chains behind it has a job for each processor but one, and the others have one job, which costs less in all; the
+system gives processors to the longest chain first (`nice`). All else is done by `rt`. If it isn't as this file knows it, it does that too.
 """
 
 from __future__ import annotations
@@ -24,10 +24,10 @@ Given = Dict[Key, Any]  # what the tasks that have ended gave
 Task = Tuple[List[Key], int, float, Callable[[Given, int], Any]]
 
 TAKEN = 0.45  # the part of the memory that rt thinks of which a check by one job takes
-TAKEN_MORE = 0.4  # what each further job takes, as a part of what the first one does
+TAKEN_MORE = 0.2  # what each further job takes, as a part of what the first one does
 USED = 0.85  # the part of the free memory that is used
+NEAR = 0.7  # a chain is one of the longest if it is such a part of the longest one at that time
 MOST_JOBS = 8  # more seldom help
-OTHER_JOBS = 2  # those of a check that isn't the first
 NICEST = 19
 BYTES_OF_A_CHECK = 5_000_000_000  # which no check by one job takes
 
@@ -67,17 +67,18 @@ class Lanes:
 
     def __init__(self, tasks: Dict[Key, Task], processors: int, memory: float) -> None:
         self.tasks, self.processors, self.memory = tasks, processors, memory
-        behind = lines_behind(tasks)
-        self.left = sorted(tasks, key=lambda it: -behind[it])
+        self.behind = lines_behind(tasks)
+        self.left = sorted(tasks, key=lambda it: -self.behind[it])
         self.rank = {key: at for at, key in enumerate(self.left)}
         self.running: Dict[Future[Any], Tuple[Key, float]] = {}
         self.given: Given = {}
 
     def jobs_for(self, key: Key) -> int:
         """The jobs of a task that begins now, 0 where it has to wait for memory or a processor."""
-        is_first = all(self.rank[key] < self.rank[it] for it, _ in self.running.values())
+        longest = max(self.behind[it] for it in [key, *(it for it, _ in self.running.values())])
+        is_long = key[1] != "edits" and self.behind[key] >= NEAR * longest
+        wanted = max(min(self.processors - 1, MOST_JOBS), min(self.processors, 2)) if is_long else 1
         free = self.memory - sum(taken for _, taken in self.running.values())
-        wanted = 1 if key[1] == "edits" else min(self.processors, MOST_JOBS if is_first else OTHER_JOBS)
         fitting = [it for it in range(1, wanted + 1) if memory_of(self.tasks[key], it) <= free]
         if len(self.running) >= self.processors:
             return 0

@@ -8,7 +8,7 @@ from __future__ import annotations
 
 import re
 from dataclasses import dataclass, field
-from typing import Dict, Iterable, Iterator, List, Set
+from typing import Dict, Iterable, Iterator, List
 
 SMALL = 60  # lines of a function that others may expand in line
 
@@ -76,22 +76,21 @@ def read_module(text: str) -> Module:
 
 def reached_from(module: Module, first: str) -> List[str]:
     """What a name reaches, itself first, and what names each other near each other."""
-    left, reached = [first], {first: None}
-    found = []
+    left, known, found = [first], {first}, []
     while left:
-        name = left.pop()
-        found.append(name)
-        for each in reversed(module.names_of(name)):
-            if each not in reached:
-                reached[each] = None
-                left.append(each)
+        found.append(left.pop())
+        for name in reversed(module.names_of(found[-1])):
+            if name not in known:
+                known.add(name)
+                left.append(name)
     return found
 
 
 def divided(module: Module, count: int) -> List[List[str]]:
     """The functions that `main` reaches, in at most `count` lists of about as many lines."""
     functions = [it for it in reached_from(module, "main") if it in module.functions]
-    whole, parts, lines = sum(map(module.size_of, functions)), [[] for _ in range(count)], 0  # type: ignore[var-annotated]
+    parts: List[List[str]] = [[] for _ in range(count)]
+    whole, lines = sum(map(module.size_of, functions)), 0
     for name in functions:
         parts[min(lines * count // max(whole, 1), count - 1)].append(name)
         lines += module.size_of(name)
