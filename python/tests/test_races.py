@@ -11,7 +11,7 @@ from typing import Tuple
 from nesthrim import Netlist
 from nesthrim.stress.command import main
 from tests.stressed import ADDED, ARBITRATED, GAP, fifo
-from tests.support import EXAMPLES, Case, example
+from tests.support import EXAMPLES, TOP, Case, example
 
 MENDED = "late-by-a-transfer-mended.net"
 
@@ -115,6 +115,8 @@ class Commands(Case):
         self.assertEqual(5, told("stress", path, "--out", base, "--plot", f"{base}.svg")[0])
         made = sorted(os.listdir(self.folder.name))
         self.assertEqual(["groups", "worst-data.svg", "worst-request.svg", "worst.csv", "worst.net", "worst.play", "worst.svg"], made)
+        with open(f"{base}.svg", encoding="utf-8") as drawn, open(os.path.join(TOP, "docs", "margins.svg"), encoding="utf-8") as shown:
+            self.assertEqual(shown.read(), drawn.read())
         with open(f"{base}.csv", encoding="utf-8") as table:
             rows = table.read().splitlines()
         self.assertEqual(("spread,b1,b2,b3,b4", "0,2,4,6,8", "10,1.2,2.4,0,1.2"), (rows[0], rows[1], rows[-1]))

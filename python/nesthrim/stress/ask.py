@@ -3,7 +3,7 @@
 from __future__ import annotations
 
 from contextlib import contextmanager
-from typing import TYPE_CHECKING, Dict, Iterator, List, Optional
+from typing import TYPE_CHECKING, Dict, FrozenSet, Iterator, List, Optional
 
 from .answer import BundleStress, Limit, Moved, Stress, Worst
 from .confirm import Fault, Runs, moved
@@ -162,7 +162,7 @@ class _Answer:
                 found = self._decide()
             if not self.timing.check.ok:
                 return self._broken()
-            worst = self._worst(found.fault) if found and found.fault else None
+            worst = self._worst(found.fault, found.likely) if found and found.fault else None
         bundles = self._bundles()
         left = self.judge.open_orders(found.undecided) if self.judge and found else []
         verdict = "nothing found" if found is None else _word(found)
@@ -219,11 +219,11 @@ class _Answer:
     def _judge(self) -> Judge:
         return Judge(self.timing, self.spread, self.runs, self.over, self.question.tell, self.question.each)
 
-    def _worst(self, fault: Fault) -> Worst:
+    def _worst(self, fault: Fault, likely: FrozenSet[int]) -> Worst:
         self.question.tell("puts delays back")
         space = Space(self.timing, Ranges(self.timing.netlist, self.timing.delays, self.spread, self.timing.units))
         with self._kept():
-            fault = shrink(space, self.runs, fault, self.over)
+            fault = shrink(space, self.runs, fault, likely, self.over)
         units = self.timing.units
         changes = tuple(Moved(delay, value, units) for delay, value in moved(self.timing, fault.point))
         return Worst(self.runs.text, units, changes, len(self.timing.delays), fault.lines, fault.differs)

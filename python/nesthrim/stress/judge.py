@@ -3,14 +3,14 @@
 from __future__ import annotations
 
 from dataclasses import dataclass
-from typing import Callable, Dict, List, NamedTuple, Optional, Sequence, Set, Tuple
+from typing import Callable, Dict, FrozenSet, List, NamedTuple, Optional, Sequence, Set, Tuple
 
 from .answer import OpenOrder
 from .confirm import Fault, Runs
 from .delays import Ranges, Spread
 from .orders import Order, Place
 from .refine import Closed, Deadline, Refiner
-from .search import Reached, descend
+from .search import Reached, descend, weights
 from .space import Space
 from .timing import Timing
 from .windows import Entry
@@ -31,10 +31,14 @@ class Undecided(NamedTuple):
 
 @dataclass
 class Verdict:
-    """What is known of a spread: a fault, or the orders that aren't decided; there are none if it holds."""
+    """What is known of a spread: a fault, or the orders that aren't decided; there are none if it holds.
+
+    `likely` has the units of delays that make the fault, as far as the graph tells.
+    """
 
     fault: Optional[Fault]
     undecided: List[Undecided]
+    likely: FrozenSet[int] = frozenset()
 
     @property
     def holds(self) -> bool:
@@ -62,7 +66,7 @@ class Judge:
     def decide(self) -> Verdict:
         """A fault that the program confirms, or what isn't decided."""
         weak = sorted((min(entry.margin for entry in entries), place) for place, entries in self.entries.items())
-        differs: Optional[Fault] = None
+        differs: Optional[Verdict] = None
         reached: Dict[Place, Undecided] = {}
         for bound, place in weak:
             if bound > 0:
@@ -71,12 +75,19 @@ class Judge:
             found = self.try_class(min(self.entries[place], key=lambda entry: entry.margin))
             reached[place] = found
             fault = self.runs.fault(found.reached.point) if found.reached.margin <= 0 else None
-            if fault is not None and fault.lines:
-                return Verdict(fault, [])
-            differs = differs or fault
+            if fault is not None and (fault.lines or differs is None):
+                differs = Verdict(fault, [], self._likely(found))
+                if fault.lines:
+                    return differs
         if differs is not None:
-            return Verdict(differs, [])
+            return differs
         return self._close([place for bound, place in weak if bound <= 0], reached)
+
+    def _likely(self, found: Undecided) -> FrozenSet[int]:
+        """The units of the delays on both critical chains of an order where it was reached."""
+        order, point = found.order, found.reached.point
+        times = self.timing.graph.times(point, max(order.early, order.late))
+        return frozenset(self.space.sums(weights(self.timing.graph, order, times, point)))
 
     def try_class(self, entry: Entry) -> Undecided:
         """The least margin that is found for a class."""
