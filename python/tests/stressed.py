@@ -157,6 +157,22 @@ def counter(n: Builder, name: str, req: Wire, ack: Wire, data: Wire, pause: int 
     s.reg("after", more, ack, idle, q=held, init=data.level)
 
 
+def accumulator(horizon: int = 300) -> Netlist:
+    """A source of numbers, and their sum, which is kept in a loop of two registers that take turns."""
+    n = Netlist(horizon=horizon)
+    req, ack, data = n.wire("r"), n.wire("k"), n.wire("d", width=8)
+    stage = n.fifo("f", 1, req, ack, data, FifoStage(match=6))[0]
+    counter(n, "source", req, stage["cd"], data)
+    total, summed, kept = n.wire("total", 8), n.wire("summed", 8), n.wire("kept", 8)
+    idle = n.wire("idle", level=1)
+    n.sum("add", stage["d"], total, out=summed, delay=3)
+    n.not_("phase", stage["r"], out=idle)
+    n.reg("one", summed, stage["r"], ack, q=kept)
+    n.reg("two", kept, ack, idle, q=total)
+    n.buf("sink", stage["r"], out=ack, delay=12)
+    return n
+
+
 def fifo(stages: int, horizon: int, slow: int = 0, match: int = 12) -> Netlist:
     """A FIFO with a source and a sink. Its stage `slow`, if that isn't 0, has logic of 12 units."""
     n = Netlist(horizon=horizon)
@@ -165,6 +181,6 @@ def fifo(stages: int, horizon: int, slow: int = 0, match: int = 12) -> Netlist:
     if slow:
         made[slow - 1] = FifoStage(match=match, logic=12, add=1, setup=1)
     parts = n.fifo("f", stages, req, ack, data, made)
-    counter(n, "source", req, parts[0].cd, data)
-    n.buf("sink", parts[-1].r, out=ack, delay=30)
+    counter(n, "source", req, parts[0]["cd"], data)
+    n.buf("sink", parts[-1]["r"], out=ack, delay=30)
     return n

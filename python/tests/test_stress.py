@@ -16,7 +16,7 @@ from nesthrim.stress.refine import until
 from nesthrim.stress.scene import save, script
 from nesthrim.stress.confirm import Runs
 from nesthrim.stress.timing import Timing
-from tests.stressed import ADDED, ARBITRATED, CALLED, GAP, INSIDE, MERGED, STEERED, fifo
+from tests.stressed import ADDED, ARBITRATED, CALLED, GAP, INSIDE, MERGED, STEERED, accumulator, fifo
 from tests.support import Case, example, examples, raw
 
 MENDED = "late-by-a-transfer-mended.net"
@@ -47,7 +47,7 @@ def corners(judge: Judge, levels: int) -> Iterator[Tuple[int, ...]]:
 class Graphs(Case):
     def test_times_are_those_of_the_program_for_other_delays(self) -> None:
         chance = random.Random(1)
-        for text in (example(MENDED), example("wire-delays.net"), example("register-pipeline.net"), INSIDE, GAP, ADDED, CALLED, STEERED, MERGED, str(fifo(3, 150))):
+        for text in (example(MENDED), example("wire-delays.net"), example("register-pipeline.net"), INSIDE, GAP, ADDED, CALLED, STEERED, MERGED, str(fifo(3, 150)), str(accumulator())):
             judge = judged(Netlist.read(text), 2)
             for _ in range(4):
                 point = tuple(chance.randint(int(low), int(high)) for low, high in zip(*judge.space.ends))
@@ -197,6 +197,14 @@ class Verdicts(Case):
         # the sum comes at 7 (1 + x), the request at 10 (1 - x), with a setup of 1
         self.assertEqual((11, 12), (netlist.limit().holds, netlist.limit().breaks))
         self.assert_confirmed(netlist.stress(12))
+
+    def test_a_sum_in_a_loop_of_registers(self) -> None:
+        netlist = accumulator()
+        self.assertEqual(("holds", ()), (netlist.stress(20).verdict, netlist.stress(20).notes))
+        judge, chance = judged(netlist, 20), random.Random(2)
+        with judge.runs as runs:
+            for _ in range(8):
+                self.assertIsNone(runs.fault(judge.space.corner({place: chance.choice((-1, 1)) for place in judge.space.units_of}, 100)))
 
     def test_delays_that_vary_together(self) -> None:
         netlist = Netlist.read(example(MENDED))

@@ -15,6 +15,9 @@ if TYPE_CHECKING:
 # the verdicts, each with the exit status of the command
 STATUS: Dict[str, int] = {"holds": 0, "breaks": 5, "differs": 5, "broken": 5, "open": 6, "nothing found": 6}
 
+# the note of an answer that was cut short
+INTERRUPTED = "interrupted"
+
 
 def number(value: float) -> str:
     """A number as it is written: without zeros at its end."""
@@ -203,8 +206,10 @@ class Limit:
     @property
     def line(self) -> str:
         """What is known, in a line."""
-        if "interrupted" in self.at.notes and self.holds is not None:
-            return f"holds up to {self.holds} so far" + (f", and not known at {self.fails}" if self.fails is not None else "")
+        if self.holds is None and self.fails is None:
+            return "nothing is known"
+        if self.at.verdict == "nothing found" and INTERRUPTED in self.at.notes and self.holds is not None:
+            return f"holds up to {self.holds} so far" + (f", and not at {self.fails}" if self.fails is not None else "")
         if self.fails is None:
             return f"holds up to {self.holds}, the most that was asked"
         return f"holds up to {self.holds}, {self.at.verdict} at {self.fails}" if self.holds is not None else f"{self.at.verdict} at {self.fails}"

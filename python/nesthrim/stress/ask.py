@@ -5,7 +5,7 @@ from __future__ import annotations
 from contextlib import contextmanager
 from typing import TYPE_CHECKING, Dict, FrozenSet, Iterator, List, Optional
 
-from .answer import BundleStress, Limit, Moved, Stress, Worst
+from .answer import INTERRUPTED, BundleStress, Limit, Moved, Stress, Worst
 from .confirm import Fault, Runs, moved
 from .delays import Ranges, Spread, delays_of
 from .graph import Unfoldable
@@ -73,7 +73,7 @@ class Question:
         except KeyboardInterrupt:
             if not self.keeps:
                 raise
-            return Limit(known.holds, known.fails, Stress("nothing found", known.least, self.netlist.horizon, notes=("interrupted",)))
+            return Limit(known.holds, known.fails, Stress("nothing found", known.least, self.netlist.horizon, notes=(INTERRUPTED,)))
 
     # ---- what answers share
 
@@ -177,8 +177,8 @@ class _Answer:
         except KeyboardInterrupt:
             if not self.question.keeps:
                 raise
-            if "interrupted" not in self.notes:
-                self.notes.append("interrupted")
+            if INTERRUPTED not in self.notes:
+                self.notes.append(INTERRUPTED)
 
     def bundles(self) -> List[BundleStress]:
         """The margins of the bundles alone."""
@@ -191,11 +191,12 @@ class _Answer:
         if self.judge is None:
             return []
         self.question.tell(f"bounds the margins of bundles at {self.spread.percent:g} %")
-        margins = Margins(self.judge)
-        if not self.notes or self.notes[-1] != "interrupted":
-            with self._kept():
+        margins: Optional[Margins] = None
+        with self._kept():
+            margins = Margins(self.judge)
+            if INTERRUPTED not in self.notes:
                 margins.sharpen()
-        return margins.known()
+        return margins.known() if margins else []
 
     def _broken(self) -> Stress:
         check = self.question.netlist.check()
