@@ -145,6 +145,52 @@ stim s 1=1 21=0
 """
 
 
+# an input of a C that begins as if it had come: its first event has to come behind that of the other one
+BEGUN = """
+horizon 60
+wire s 1 0
+wire a 1 0
+wire b 1 0
+wire y 1 0
+module one BUF : s > a/10
+module two BUF : s > b/14
+module meet C 0 0 1 : a b > y/1
+stim s 1=1
+"""
+
+
+# two events that meet, and a merge with a third one
+MET = """
+horizon 60
+wire s 1 0
+wire a 1 0
+wire b 1 0
+wire y 1 0
+wire z 1 0
+wire x 1 0
+module one BUF : s > a/11
+module two BUF : s > b/12
+module meet C 0 0 0 : a b > y/1
+module three BUF : s > z/22
+module merge XOR : y z > x/1
+stim s 1=1
+"""
+
+# a register that closes 4 units before its data change
+CAPTURED = """
+horizon 60
+wire s 1 0
+wire d 1 0
+wire c 1 0
+wire p 1 0
+wire q 1 0
+module far BUF : s > d/29
+module near BUF : s > c/25
+module reg REG 0 : d c p > q/1 -/1 -/1
+stim s 1=1
+"""
+
+
 def counter(n: Builder, name: str, req: Wire, ack: Wire, data: Wire, pause: int = 4) -> None:
     """A source that sends the next number some units after the one before was acknowledged."""
     s = n.part(name)

@@ -9,14 +9,15 @@ from typing import Iterator, List, Sequence, Tuple
 
 from nesthrim import Netlist, Session, Stress, UnknownName
 from nesthrim.stress.ask import Question
+from nesthrim.stress.confirm import Runs
 from nesthrim.stress.delays import Ranges, Spread, delays_of, read_groups
 from nesthrim.stress.judge import Judge
 from nesthrim.stress.orders import Order
 from nesthrim.stress.refine import until
 from nesthrim.stress.scene import save, script
-from nesthrim.stress.confirm import Runs
+from nesthrim.stress.separation import separation
 from nesthrim.stress.timing import Timing
-from tests.stressed import ADDED, ARBITRATED, CALLED, GAP, INSIDE, MERGED, STEERED, accumulator, fifo
+from tests.stressed import ADDED, ARBITRATED, BEGUN, CALLED, CAPTURED, GAP, INSIDE, MERGED, MET, STEERED, accumulator, fifo
 from tests.support import Case, example, examples, raw
 
 MENDED = "late-by-a-transfer-mended.net"
@@ -89,6 +90,30 @@ class Bounds(Case):
                 times = graph.times(point)
                 for order, bound in pairs:
                     self.assertGreaterEqual(order.margin(times, point), bound, (order, point))
+
+    def test_the_sweep_is_exact_where_each_event_has_a_delay_of_its_own(self) -> None:
+        for text in (MERGED, CALLED, STEERED, ARBITRATED, BEGUN, MET, CAPTURED):
+            judge = judged(Netlist.read(text), 12)
+            graph, ends = judge.timing.graph, judge.space.ends
+            least = {order: min(self.margins_of_events(judge, order)) for order in judge.timing.orders}
+            for order, margin in least.items():
+                self.assertEqual(margin, separation(graph, order, ends).margin, order)
+
+    def margins_of_events(self, judge: Judge, order: Order) -> Iterator[float]:
+        """The margins of an order at all corners of the delays of single events."""
+        graph, ends = judge.timing.graph, judge.space.ends
+        own = [sorted({ends.low[place], ends.high[place]}) for place in graph.delay]
+        for delays in itertools.product(*own):
+            times = [0.0]
+            for event in range(1, len(delays)):
+                times.append(max(times[cause] for cause, _ in graph.causes[event]) + delays[event])
+            yield times[order.late] - times[order.early] - order.slack
+
+    def test_bounds_of_windows_are_reached(self) -> None:
+        # what is cut off behind a window has no part in the worst case of these bundles
+        judge = judged(fifo(4, 300, 3), 5)
+        found = [min(entry.margin for entry in judge.entries[name, "setup"]) / judge.timing.units for name in ("f1", "f2", "f3", "f4")]
+        self.assertEqual([1.35, 1.35, 0.55, 1.35], found)
 
     def test_the_bound_of_a_bundle_is_reached_by_a_corner(self) -> None:
         netlist = Netlist.read(ADDED)
@@ -169,6 +194,13 @@ class Verdicts(Case):
         wanted, found = (self.data_at_captures(played, begin) for begin in (0, len(played) - 2))
         self.assertEqual((differs.wanted, differs.level), (wanted[differs.number - 1], found[differs.number - 1]))
 
+    def test_data_that_come_before_the_capture_of_those_before(self) -> None:
+        # the capture comes at 1 + 25 (1 + x), the data at 1 + 29 (1 - x)
+        limit = Netlist.read(CAPTURED).limit()
+        self.assertEqual((7, 8, "differs"), (limit.holds, limit.fails, limit.at.verdict))
+        assert limit.at.worst is not None
+        self.assertTrue(limit.at.worst.line.endswith(" module reg differs 1 for 0"))
+
     def data_at_captures(self, played: List[str], begin: int) -> List[int]:
         """The data at each change of the first of two waves."""
         pairs = [[tuple(map(int, word.split("="))) for word in line.split()[2:]] for line in played[begin : begin + 2]]
@@ -183,8 +215,9 @@ class Verdicts(Case):
 
     def test_orders_of_kinds_that_a_rule_of_check_breaks(self) -> None:
         # a call ends at 28 + 27 x, and the next one comes at 31 - 30 x; a level comes at 21 + 20 x, what it steers at 25 - 24 x; the first of two events
-        # comes at 23 + 22 x, the other one at 33 - 12 x
-        for text, name, code, holds in ((CALLED, "use", "call-overlap", 5), (STEERED, "steer", "select-unstable", 9), (MERGED, "merge", "merge-collision", 29)):
+        # comes at 23 + 22 x, the other one at 33 - 12 x; the first event of a C comes at 11 + 10 x, the other one at 15 - 14 x
+        cases = ((CALLED, "use", "call-overlap", 5), (STEERED, "steer", "select-unstable", 9), (MERGED, "merge", "merge-collision", 29), (BEGUN, "meet", "withdrawn", 16))
+        for text, name, code, holds in cases:
             netlist = Netlist.read(text)
             self.assertEqual("holds", netlist.stress(holds).verdict, name)
             limit = netlist.limit(90)
@@ -221,6 +254,8 @@ class Verdicts(Case):
         # at 70 % a margin of 10 - 7 is 2.1, so a setup of 2 holds and one of 2.2, in finer units, would not
         netlist = Netlist.read(ADDED.replace("sum 1\n", "sum 2\n"))
         self.assertEqual("holds", netlist.stress(0, corner=(70, 140)).verdict)
+        once = Netlist.read(ADDED.replace("sum 1\n", "sum 2\n").replace(" 35=9", "").replace(" 35=7", "").replace(" 35=0", ""))
+        self.assertEqual(["holds", "breaks"], [once.stress(0, corner=(low, 140)).verdict for low in (67, 66)])
         answer = netlist.stress(0, corner=(60, 140))
         self.assertEqual("breaks", answer.verdict)
         self.assert_confirmed(answer)

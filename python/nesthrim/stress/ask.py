@@ -26,6 +26,9 @@ READINGS = ("same", "each")
 # a run for a wide spread is long, so `limit` has a graph for each of these; the first spread that it tries, which doubles as long as it holds
 LADDER, LADDER_FROM = (12, 30, 60, 90), 10
 
+# a run with more changes is cut
+MOST_CHANGES = 300_000
+
 
 def say_nothing(line: str) -> None:
     """Tells nobody how far it is."""
@@ -82,8 +85,15 @@ class Question:
         if widest not in self._timings:
             self.tell("runs the netlist")
             self._reasons = {}
-            self._timings = {widest: Timing(self.netlist, self.spread.at(widest), self.netlist.horizon)}
+            self._timings = {widest: self._cut(Timing(self.netlist, self.spread.at(widest), self.netlist.horizon), widest)}
         return self._timings[widest]
+
+    def _cut(self, timing: Timing, widest: float) -> Timing:
+        """The timing of a shorter run, if this one has more changes than are followed."""
+        if timing.changes <= MOST_CHANGES:
+            return timing
+        until_time = max(1, timing.scale.until * MOST_CHANGES // timing.changes * 9 // 10)
+        return Timing(self.netlist, self.spread.at(widest), until_time)
 
     def unfolded(self, widest: float) -> Optional[Unfoldable]:
         """Unfolds the run of a timing; the reason if it can't be."""
@@ -145,6 +155,9 @@ class _Answer:
         self.runs = Runs(self.timing, self.timing.scale.horizon(self.spread))
         if self.timing.units < UNITS:
             self.notes.append(f"delays are long: one unit is {self.timing.units} finer ones, and not {UNITS}")
+        self.until = self.timing.scale.until
+        if self.until < question.netlist.horizon:
+            self.notes.append(f"the run changes so often that it is followed up to {self.until} alone")
 
     def verdict(self) -> str:
         """The verdict."""
@@ -166,8 +179,8 @@ class _Answer:
         bundles = self._bundles()
         left = self.judge.open_orders(found.undecided) if self.judge and found else []
         verdict = "nothing found" if found is None else _word(found)
-        until_time, units = self.question.netlist.horizon, self.timing.units
-        return Stress(verdict, self.spread.percent, until_time, tuple(bundles), tuple(left), worst, "", self.runs.count, units, tuple(self.notes))
+        units = self.timing.units
+        return Stress(verdict, self.spread.percent, self.until, tuple(bundles), tuple(left), worst, "", self.runs.count, units, tuple(self.notes))
 
     @contextmanager
     def _kept(self) -> Iterator[None]:

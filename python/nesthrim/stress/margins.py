@@ -54,7 +54,7 @@ class Margins:
 
     def sharpen(self) -> None:
         """Looks for worse points, and for better bounds, until both meet or the time is over."""
-        if self.judge.each:
+        if self.judge.each and len(self.timing.graph.time) <= _SMALL:
             self._deepen_each()
             return
         self._look([self._weakest(name) for name in self._orders])
