@@ -250,6 +250,15 @@ class Verdicts(Case):
         self.assertEqual(moved.get("m3"), moved.get("c3"))
         self.assert_confirmed(answer)
 
+    def test_points_keep_the_factor_of_a_group(self) -> None:
+        netlist, chance = Netlist.read(example(MENDED)), random.Random(3)
+        space = judged(netlist, 20, together=STAGES).space
+        for factor in (100, 90):
+            for _ in range(5):
+                point = space.corner({place: chance.choice((-1, 1)) for place in space.units_of}, factor)
+                for places in space.units:
+                    self.assertEqual(1, len({round(point[place] / space.nominal[place], 2) for place in places}))
+
     def test_a_corner_of_the_die(self) -> None:
         # at 70 % a margin of 10 - 7 is 2.1, so a setup of 2 holds and one of 2.2, in finer units, would not
         netlist = Netlist.read(ADDED.replace("sum 1\n", "sum 2\n"))
