@@ -10,6 +10,8 @@ from typing import Tuple
 
 from nesthrim import Netlist
 from nesthrim.stress.command import main
+from nesthrim.stress.delays import Delay
+from nesthrim.stress.races import Link, tolerated
 from tests.stressed import ADDED, ARBITRATED, GAP, fifo
 from tests.support import EXAMPLES, TOP, Case, example
 
@@ -33,6 +35,14 @@ class Chains(Case):
         self.assertEqual(("f7", 6.9, 2), (race.bundle, round(race.tolerance or 0, 2), race.slack))
         self.assertEqual(["f7_reg 1", "f7_logic 12"], [str(link) for link in race.data])
         self.assertEqual(int(race.tolerance or 0), netlist.limit().holds)
+        # (for some of the others, longer chains would tolerate less by their sums, but others decide once these are faster)
+        self.assertEqual([15.38] * 7, [round(each.tolerance or 0, 2) for each in netlist.races().races[1:]])
+
+    def test_a_delay_on_both_chains_counts_where_it_stands_more_often(self) -> None:
+        both, own = (Link(name, units, Delay(name, 0, False, units)) for name, units in (("both", 10), ("own", 5)))
+        self.assertEqual(60, tolerated([both], [both, own], 3))
+        self.assertEqual(12, tolerated([both], [own, own], 2.4))
+        self.assertIsNone(tolerated([both], [both, Link("r", 3)], 1))
 
     def test_a_race_holds_up_to_its_tolerance(self) -> None:
         netlist = fifo(5, 300, 3)

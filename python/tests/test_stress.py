@@ -234,6 +234,9 @@ class Verdicts(Case):
     def test_a_sum_in_a_loop_of_registers(self) -> None:
         netlist = accumulator()
         self.assertEqual(("holds", ()), (netlist.stress(20).verdict, netlist.stress(20).notes))
+        answer = netlist.stress(40)
+        self.assertEqual(("open", [("two", "data-after-opening")]), (answer.verdict, [(each.name, each.rule) for each in answer.open]))
+        self.assertTrue(all(each.bound is not None and -100 < each.bound <= 0 for each in answer.open))
         judge, chance = judged(netlist, 20), random.Random(2)
         with judge.runs as runs:
             for _ in range(8):

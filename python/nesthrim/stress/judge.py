@@ -11,9 +11,10 @@ from .delays import Ranges, Spread
 from .orders import Order, Place
 from .refine import Closed, Deadline, Refiner
 from .search import Reached, descend, weights
+from .separation import separation
 from .space import Space
 from .timing import Timing
-from .windows import Entry
+from .windows import FAR, Entry
 
 Tell = Callable[[str], None]
 
@@ -100,7 +101,7 @@ class Judge:
         for place in places:
             known = reached[place]
             if known.reached.margin <= 0:
-                undecided.append(known)
+                undecided.append(self._bounded(known))
                 continue
             self.tell(f"decides {place[0]} {place[1]}")
             fault, left = self._close_place([entry for entry in self.entries[place] if entry.margin <= 0])
@@ -110,6 +111,13 @@ class Judge:
             if not left:
                 self.closed.add(place)
         return Verdict(None, undecided)
+
+    def _bounded(self, found: Undecided) -> Undecided:
+        """The same with the bound of a sweep over the whole run, if the window has none."""
+        order = self.timing.in_corner(found.order)
+        if found.bound > -FAR / 2:
+            return found
+        return found._replace(bound=self.timing.real_margin(order, separation(self.timing.graph, order, self.space.ends).margin))
 
     def _close_place(self, entries: Sequence[Entry]) -> Tuple[Optional[Fault], List[Undecided]]:
         """Decides the orders of a place that aren't yet: a fault, or those that are left, the weakest first."""

@@ -190,14 +190,14 @@ def _race(timing: Timing, order: Order, ways: Tuple[List[int], List[int], int]) 
         tuple(request),
         timing.setups[order.name] // units,
         slack,
-        _percent(data, request, slack),
+        tolerated(data, request, slack),
         graph.time[order.late] // units,
         timing.real(order),
     )
 
 
-def _percent(data: Sequence[Link], request: Sequence[Link], slack: int) -> Optional[float]:
-    """The change of the delays of two chains up to which the data win."""
+def tolerated(data: Sequence[Link], request: Sequence[Link], slack: float) -> Optional[float]:
+    """The change of the delays of two chains, in per cent, up to which the data win by a slack; `None` if no change of them matters."""
     count: Dict[Delay, int] = {}
     for chain, sign in ((data, 1), (request, -1)):
         for link in chain:

@@ -19,7 +19,8 @@ SHORT, LONG, _BEHIND = 4, 8, 4
 
 RACES = ("setup", "data-after-capture")
 
-_FAR = 1 << 60
+# the bound of what a window doesn't bound
+FAR = 1 << 60
 
 # what a lemma says of an event: it is at most so much later than another one
 Lemma = Tuple[int, float]
@@ -186,7 +187,7 @@ class Windows:
     def _window(self, order: Order, depth: int, lemmas: Lemmas, ends: Ends) -> Tuple[float, Tuple[int, ...], int]:
         """The bound of a margin, its path, and the event at which the path meets a lemma, or -1."""
         latest, _, _, back = self._sweep(order, depth, lemmas, ends)
-        if latest > _FAR // 2 and order.rule in RACES:
+        if latest > FAR // 2 and order.rule in RACES:
             bound = separation(self.graph, order, ends)
             return bound.margin, bound.path, -1
         path, event = path_of(self.graph, order, back)
@@ -210,7 +211,7 @@ class Windows:
         latest = {event: self._at_edge(event, order, to_late, lemmas) for event in edge}
         back: Dict[int, Cause] = {}
         for event in reversed(inside):
-            best, chosen = float(-_FAR), (0, 0)
+            best, chosen = float(-FAR), (0, 0)
             for cause, place in causes[event]:
                 time = latest[cause] + high[place]
                 if time > best:
@@ -264,7 +265,7 @@ class Windows:
 
     def _at_edge(self, event: int, order: Order, to_late: Dict[int, float], lemmas: Lemmas) -> float:
         """By how much an event at the edge of a window can be later than the late one."""
-        latest = -to_late[event] if event in to_late else float(_FAR)
+        latest = -to_late[event] if event in to_late else float(FAR)
         if self.graph.root[event]:
             latest = min(latest, self._latest[event] - self._earliest[order.late])
         for other, later in lemmas.get(event, ()):
