@@ -191,6 +191,21 @@ stim s 1=1
 """
 
 
+# data that change 4 units behind the acknowledge of the data before
+BUSY = """
+horizon 60
+wire s 1 0
+wire r 1 0
+wire k 1 0
+wire d 1 0
+module ask BUF : s > r/10
+module take BUF : r > k/5
+module next BUF : r > d/9
+bundle b r k d 0
+stim s 1=1
+"""
+
+
 def counter(n: Builder, name: str, req: Wire, ack: Wire, data: Wire, pause: int = 4) -> None:
     """A source that sends the next number some units after the one before was acknowledged."""
     s = n.part(name)

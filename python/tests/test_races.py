@@ -35,8 +35,11 @@ class Chains(Case):
         self.assertEqual(("f7", 6.9, 2), (race.bundle, round(race.tolerance or 0, 2), race.slack))
         self.assertEqual(["f7_reg 1", "f7_logic 12"], [str(link) for link in race.data])
         self.assertEqual(int(race.tolerance or 0), netlist.limit().holds)
-        # (for some of the others, longer chains would tolerate less by their sums, but others decide once these are faster)
-        self.assertEqual([15.38] * 7, [round(each.tolerance or 0, 2) for each in netlist.races().races[1:]])
+
+    def test_a_chain_that_decides_no_more_once_it_is_faster(self) -> None:
+        # by their sums alone the longest chains of f7 and f9 would tolerate 1.53 and 4.86 %
+        races = fifo(12, 400, 3).races()
+        self.assertEqual([15.38, 15.38], [round(races.bundle(name).tolerance or 0, 2) for name in ("f7", "f9")])
 
     def test_a_delay_on_both_chains_counts_where_it_stands_more_often(self) -> None:
         both, own = (Link(name, units, Delay(name, 0, False, units)) for name, units in (("both", 10), ("own", 5)))

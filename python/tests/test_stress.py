@@ -17,7 +17,7 @@ from nesthrim.stress.refine import until
 from nesthrim.stress.scene import save, script
 from nesthrim.stress.separation import separation
 from nesthrim.stress.timing import Timing
-from tests.stressed import ADDED, ARBITRATED, BEGUN, CALLED, CAPTURED, GAP, INSIDE, MERGED, MET, STEERED, accumulator, fifo
+from tests.stressed import ADDED, ARBITRATED, BEGUN, BUSY, CALLED, CAPTURED, GAP, INSIDE, MERGED, MET, STEERED, accumulator, fifo
 from tests.support import Case, example, examples, raw
 
 MENDED = "late-by-a-transfer-mended.net"
@@ -215,8 +215,9 @@ class Verdicts(Case):
 
     def test_orders_of_kinds_that_a_rule_of_check_breaks(self) -> None:
         # a call ends at 28 + 27 x, and the next one comes at 31 - 30 x; a level comes at 21 + 20 x, what it steers at 25 - 24 x; the first of two events
-        # comes at 23 + 22 x, the other one at 33 - 12 x; the first event of a C comes at 11 + 10 x, the other one at 15 - 14 x
-        cases = ((CALLED, "use", "call-overlap", 5), (STEERED, "steer", "select-unstable", 9), (MERGED, "merge", "merge-collision", 29), (BEGUN, "meet", "withdrawn", 16))
+        # comes at 23 + 22 x, the other one at 33 - 12 x; the first event of a C comes at 11 + 10 x, the other one at 15 - 14 x; an
+        # acknowledge comes 5 (1 + x) behind a request, the next data 9 (1 - x)
+        cases = ((CALLED, "use", "call-overlap", 5), (STEERED, "steer", "select-unstable", 9), (MERGED, "merge", "merge-collision", 29), (BEGUN, "meet", "withdrawn", 16), (BUSY, "b", "data-while-busy", 28))
         for text, name, code, holds in cases:
             netlist = Netlist.read(text)
             self.assertEqual("holds", netlist.stress(holds).verdict, name)
@@ -268,6 +269,8 @@ class Verdicts(Case):
         self.assertEqual("holds", netlist.stress(0, corner=(70, 140)).verdict)
         once = Netlist.read(ADDED.replace("sum 1\n", "sum 2\n").replace(" 35=9", "").replace(" 35=7", "").replace(" 35=0", ""))
         self.assertEqual(["holds", "breaks"], [once.stress(0, corner=(low, 140)).verdict for low in (67, 66)])
+        # and 3 units at 33 % aren't above a setup of 1
+        self.assertEqual(["holds", "breaks"], [fifo(3, 120).stress(0, corner=(low, 140)).verdict for low in (34, 33)])
         answer = netlist.stress(0, corner=(60, 140))
         self.assertEqual("breaks", answer.verdict)
         self.assert_confirmed(answer)
