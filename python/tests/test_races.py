@@ -23,7 +23,8 @@ class Chains(Case):
         races = Netlist.read(example(MENDED)).races()
         self.assertEqual(["b3", "b4", "b1", "b2"], [race.bundle for race in races.races])
         race = races.bundle("b3")
-        self.assertEqual(("d0", 9, 27, 34, 6), (race.cause, race.time, *(sum(link.units for link in chain) for chain in (race.data, race.request)), race.slack))
+        data, request = (sum(link.units for link in chain) for chain in (race.data, race.request))
+        self.assertEqual(("d0", 9, 27, 34, 6), (race.cause, race.time, data, request, race.slack))
         # 27 units of data slower, and 33 of the request but its stimulus faster: 27 (1 + x) + 1 = 1 + 33 (1 - x)
         self.assertEqual(10, round(race.tolerance or 0, 3))
         self.assertTrue(str(race).startswith("bundle b3 from d0 at 9: data g1 1, a1 2, g2 1, a2 2, g3 1, a3 20 = 27; request r0 after 1, c1 1, "))
@@ -50,7 +51,8 @@ class Chains(Case):
     def test_a_race_holds_up_to_its_tolerance(self) -> None:
         netlist = fifo(5, 300, 3)
         for race in netlist.races().races:
-            moved = {link.delay.words: -1 if link in race.request else 1 for link in (*race.data, *race.request) if link.delay and not (link in race.data and link in race.request)}
+            alone = [link for link in (*race.data, *race.request) if link.delay and not (link in race.data and link in race.request)]
+            moved = {link.delay.words: -1 if link in race.request else 1 for link in alone if link.delay}
             tolerance = race.tolerance or 0
             under, over = (self.margin(netlist, race.bundle, moved, tolerance + more) for more in (-0.5, 0.5))
             self.assertTrue(under > 0 >= over, (race.bundle, under, over))
@@ -139,7 +141,9 @@ class Commands(Case):
         self.assertEqual("holds", Netlist.load(f"{base}.net").stress(10).verdict)
 
     def test_wrong_words_and_netlists(self) -> None:
-        for words in (["stress", "--flip"], ["stress", "--spread", "x"], ["stress", "a", "b"], ["races", "--spread", "3"], ["stress", self.file(ADDED), "--spread", "100"], ["stress", self.file(ADDED), "--corner", "70"]):
+        given = self.file(ADDED)
+        wrong = [["stress", "--flip"], ["stress", "--spread", "x"], ["stress", "a", "b"], ["races", "--spread", "3"]]
+        for words in (*wrong, ["stress", given, "--spread", "100"], ["stress", given, "--corner", "70"]):
             self.assertEqual(2, told(*words)[0], words)
         self.assertEqual((3, ""), told("stress", "/nothing/there")[:2])
         status, _, said = told("races", self.file("horizon 10\nmodule b BUF : x > -\n"))

@@ -41,14 +41,15 @@ def bounds(judge: Judge) -> List[Tuple[Order, float]]:
 def corners(judge: Judge, levels: int) -> Iterator[Tuple[int, ...]]:
     """All points at the ends of the ranges, and with three levels those at nominal values too."""
     ends, nominal = judge.space.ends, judge.space.nominal
-    choices = [sorted({int(low), value, int(high)} if levels == 3 else {int(low), int(high)}) for low, value, high in zip(ends.low, nominal, ends.high)]
+    choices = [sorted({int(low), int(high), *([value] if levels == 3 else [])}) for low, value, high in zip(ends.low, nominal, ends.high)]
     return itertools.product(*choices)
 
 
 class Graphs(Case):
     def test_times_are_those_of_the_program_for_other_delays(self) -> None:
         chance = random.Random(1)
-        for text in (example(MENDED), example("wire-delays.net"), example("register-pipeline.net"), INSIDE, GAP, ADDED, CALLED, STEERED, MERGED, str(fifo(3, 150)), str(accumulator())):
+        texts = [example(name) for name in (MENDED, "wire-delays.net", "register-pipeline.net")]
+        for text in (*texts, INSIDE, GAP, ADDED, CALLED, STEERED, MERGED, str(fifo(3, 150)), str(accumulator())):
             judge = judged(Netlist.read(text), 2)
             for _ in range(4):
                 point = tuple(chance.randint(int(low), int(high)) for low, high in zip(*judge.space.ends))
@@ -118,7 +119,8 @@ class Bounds(Case):
     def test_the_bound_of_a_bundle_is_reached_by_a_corner(self) -> None:
         netlist = Netlist.read(ADDED)
         judge = judged(netlist, 12)
-        found = min(order.margin(judge.timing.graph.times(point), point) for point in corners(judge, 2) for order in judge.timing.orders if order.rule == "setup")
+        setups = [order for order in judge.timing.orders if order.rule == "setup"]
+        found = min(order.margin(judge.timing.graph.times(point), point) for point in corners(judge, 2) for order in setups)
         answer = netlist.stress(12).bundle("t")
         self.assertEqual((2, found / judge.timing.units, found / judge.timing.units), (answer.margin, answer.worst, answer.bound))
 
@@ -214,10 +216,11 @@ class Verdicts(Case):
         self.assertEqual("holds", Netlist.read(ARBITRATED).stress(19).verdict)
 
     def test_orders_of_kinds_that_a_rule_of_check_breaks(self) -> None:
-        # a call ends at 28 + 27 x, and the next one comes at 31 - 30 x; a level comes at 21 + 20 x, what it steers at 25 - 24 x; the first of two events
-        # comes at 23 + 22 x, the other one at 33 - 12 x; the first event of a C comes at 11 + 10 x, the other one at 15 - 14 x; an
+        # a call ends at 28 + 27 x, and the next one comes at 31 - 30 x; a level comes at 21 + 20 x, what it steers at 25 - 24 x; the first of two
+        # events comes at 23 + 22 x, the other one at 33 - 12 x; the first event of a C comes at 11 + 10 x, the other one at 15 - 14 x; an
         # acknowledge comes 5 (1 + x) behind a request, the next data 9 (1 - x)
-        cases = ((CALLED, "use", "call-overlap", 5), (STEERED, "steer", "select-unstable", 9), (MERGED, "merge", "merge-collision", 29), (BEGUN, "meet", "withdrawn", 16), (BUSY, "b", "data-while-busy", 28))
+        cases = [(CALLED, "use", "call-overlap", 5), (STEERED, "steer", "select-unstable", 9), (MERGED, "merge", "merge-collision", 29)]
+        cases += [(BEGUN, "meet", "withdrawn", 16), (BUSY, "b", "data-while-busy", 28)]
         for text, name, code, holds in cases:
             netlist = Netlist.read(text)
             self.assertEqual("holds", netlist.stress(holds).verdict, name)
@@ -289,8 +292,10 @@ class Verdicts(Case):
         netlist = Netlist.read(ADDED)
         self.fault(UnknownName, lambda: netlist.stress(ranges={"nothing": (0, 1)}))
         self.fault(UnknownName, lambda: netlist.stress(together=[["match", "nothing"]]))
-        for wrong in (lambda: netlist.stress(100), lambda: netlist.stress(-1), lambda: netlist.stress(ranges={"match": (5, 9)}), lambda: netlist.stress(corner=(110, 140))):
-            self.fault(ValueError, wrong)
+        for spread in (100, -1):
+            self.fault(ValueError, lambda: netlist.stress(spread))
+        self.fault(ValueError, lambda: netlist.stress(ranges={"match": (5, 9)}))
+        self.fault(ValueError, lambda: netlist.stress(corner=(110, 140)))
         self.fault(ValueError, lambda: netlist.stress(together=[["match"], ["match", "add"]]))
         self.assertEqual([["a", "b"], ["c"]], read_groups("a b # both\n\n# none\nc\n"))
 

@@ -26,8 +26,8 @@ def number(value: float) -> str:
 
 @dataclass(frozen=True)
 class BundleStress:
-    """A bundle's margins above its setup, in units of the netlist: `margin` as the netlist stands, `worst` the least one that was found, `bound` one that
-    none is below. `worst` and `margin` are `None` for a bundle whose data never come before a request."""
+    """A bundle's margins above its setup, in units of the netlist: `margin` as the netlist stands, `worst` the least one that was found, `bound`
+    one that none is below. `worst` and `margin` are `None` for a bundle whose data never come before a request."""
 
     name: str
     margin: Optional[float]
@@ -132,8 +132,8 @@ class Worst:
 class Stress:
     """Whether the netlist works while delays vary by `spread` per cent.
 
-    `verdict` is "holds", "breaks" or "differs", which `worst` shows, "open", with the orders in `open`, "nothing found", or "broken" if the netlist has
-    lines of `check`, `check`, as it stands. `runs` counts the runs of the program, and `until` is the time up to which faults count.
+    `verdict` is "holds", "breaks" or "differs", which `worst` shows, "open", with the orders in `open`, "nothing found", or "broken" if the
+    netlist has lines of `check`, `check`, as it stands. `runs` counts the runs of the program, and `until` is the time up to which faults count.
     """
 
     verdict: str
@@ -185,8 +185,8 @@ class Stress:
 class Limit:
     """The greatest spread, in whole per cents, up to which the netlist holds, and the least one at which it doesn't, of those that were tried.
 
-    `holds` is `None` if not even the netlist as it stands does. `fails` is `None` if it holds up to the most that was asked; `at` is the answer there, or
-    at the greatest spread that holds.
+    `holds` is `None` if not even the netlist as it stands does. `fails` is `None` if it holds up to the most that was asked; `at` is the answer
+    there, or at the greatest spread that holds.
     """
 
     holds: Optional[int]

@@ -56,15 +56,15 @@ class Question:
 
     def bundles(self, percent: float, widest: float) -> List[BundleStress]:
         """The margins of the bundles at a spread, without a verdict; none if there is no graph."""
-        return _Answer(self, percent, widest).bundles()
+        return Answering(self, percent, widest).bundles()
 
     def at(self, percent: float, widest: Optional[float] = None) -> Stress:
         """The answer at a spread. The graph serves spreads up to `widest`."""
-        return _Answer(self, percent, widest or percent).full()
+        return Answering(self, percent, widest or percent).full()
 
     def verdict(self, percent: float, widest: float) -> str:
         """The verdict at a spread, without all that an answer has beside it."""
-        return _Answer(self, percent, widest).verdict()
+        return Answering(self, percent, widest).verdict()
 
     def limit(self, most: int = 60) -> Limit:
         """The greatest spread in whole per cents, up to `most`, at which it holds, and the least one at which it doesn't."""
@@ -143,8 +143,8 @@ def _widest(percent: float) -> float:
     return next((most for most in LADDER if percent <= most), percent)
 
 
-class _Answer:
-    """The work on the answer at one spread."""
+class Answering:
+    """The work on the answer to a question at one spread, with a graph that serves spreads up to `widest`."""
 
     def __init__(self, question: Question, percent: float, widest: float) -> None:
         self.question, self.spread = question, question.spread.at(percent)
@@ -162,23 +162,23 @@ class _Answer:
     def verdict(self) -> str:
         """The verdict."""
         with self.runs:
-            found = self._decide()
+            found = self.decide()
         if found is None:
             return "broken" if not self.timing.check.ok else "nothing found"
-        return _word(found)
+        return word_of(found)
 
     def full(self) -> Stress:
         """The whole answer."""
         found: Optional[Verdict] = None
         with self.runs:
             with self._kept():
-                found = self._decide()
+                found = self.decide()
             if not self.timing.check.ok:
                 return self._broken()
             worst = self._worst(found.fault, found.likely) if found and found.fault else None
         bundles = self._bundles()
         left = self.judge.open_orders(found.undecided) if self.judge and found else []
-        verdict = "nothing found" if found is None else _word(found)
+        verdict = "nothing found" if found is None else word_of(found)
         units = self.timing.units
         return Stress(verdict, self.spread.percent, self.until, tuple(bundles), tuple(left), worst, "", self.runs.count, units, tuple(self.notes))
 
@@ -217,7 +217,7 @@ class _Answer:
         lines = "".join(f"{line}\n" for line in text.splitlines() if not line.startswith("note "))
         return Stress("broken", self.spread.percent, self.question.netlist.horizon, check=lines, units=self.timing.units)
 
-    def _decide(self) -> Optional[Verdict]:
+    def decide(self) -> Optional[Verdict]:
         """What is known; `None` if there is no graph and no fault was found, or nothing to search."""
         if not self.timing.check.ok:
             return None
@@ -243,7 +243,8 @@ class _Answer:
         return Worst(self.runs.text, units, changes, len(self.timing.delays), fault.lines, fault.differs)
 
 
-def _word(verdict: Verdict) -> str:
+def word_of(verdict: Verdict) -> str:
+    """The word of a verdict."""
     if verdict.fault is not None:
         return "breaks" if verdict.fault.lines else "differs"
     return "open" if verdict.undecided else "holds"

@@ -1,9 +1,9 @@
 """Bounds for all orders of a run, each local structure once.
 
-Orders whose events have the same causes at the same nominal distances some steps back are a class, and are bounded once, in a window: the events so
-many steps behind them. What is cut off and leads to the late event is bounded by that. Races, in which data have to come before a request or a capture,
-are taken in the order of time, and the bound of each is a lemma for those behind it: the data that an earlier race bounds aren't followed further back.
-Data never lead to control, and would go back to the source.
+Orders whose events have the same causes at the same nominal distances some steps back are a class, and are bounded once, in a window: the events
+so many steps behind them. What is cut off and leads to the late event is bounded by that. Races, in which data have to come before a request or a
+capture, are taken in the order of time, and the bound of each is a lemma for those behind it: the data that an earlier race bounds aren't followed
+further back. Data never lead to control, and would go back to the source.
 """
 
 from __future__ import annotations
@@ -36,8 +36,8 @@ class Entry(NamedTuple):
 
 
 class Sweep(NamedTuple):
-    """What the sweep of a window gives: by how much the early event can be later than the late one; the longest ways from events to the late one; the next
-    event of such a way; and the cause that makes the bound of an event, each with the place of the input's delay."""
+    """What the sweep of a window gives: by how much the early event can be later than the late one; the longest ways from events to the late one;
+    the next event of such a way; and the cause that makes the bound of an event, each with the place of the input's delay."""
 
     later: float
     to_late: Dict[int, float]
@@ -54,7 +54,9 @@ class Structures:
         own = []
         for event, before in enumerate(causes):
             # (what begins at an absolute time is like nothing else)
-            key: Hashable = -event if graph.root[event] else (graph.wire[event], graph.lane[event], *[(time[event] - time[cause], place) for cause, place in before])
+            key: Hashable = -event
+            if not graph.root[event]:
+                key = (graph.wire[event], graph.lane[event], *[(time[event] - time[cause], place) for cause, place in before])
             own.append(kinds.setdefault(key, len(kinds)))
         self.short = self.long = own
         for step in range(1, LONG + 1):
@@ -179,7 +181,8 @@ class Windows:
         for cause, steps in queue:
             if steps >= 2 and cause in self._lemmas:
                 near[cause] = self._lemmas[cause]
-                key.append((steps, time[event] - time[cause], graph.wire[cause], *[(later, time[other] - time[cause], graph.wire[other]) for other, later in near[cause]]))
+                known = [(later, time[other] - time[cause], graph.wire[other]) for other, later in near[cause]]
+                key.append((steps, time[event] - time[cause], graph.wire[cause], *known))
             elif steps < _BEHIND:
                 queue += [(before, steps + 1) for before, _ in graph.causes[cause]]
         return near, tuple(key)
@@ -226,8 +229,8 @@ class Windows:
         return Sweep(latest[order.early], to_late, effect, back)
 
     def race(self, order: Order) -> Optional[Tuple[List[int], List[int], int]]:
-        """The events behind both events of a race that make its bound, the later ones first, and the last event that both have; `None` if that isn't in
-        a window."""
+        """The events behind both events of a race that make its bound, the later ones first, and the last event that both have; `None` if that
+        isn't in a window."""
         near = self._behind(order.early)[0]
         _, to_late, effect, back = self._sweep(order, LONG, near, self._ends)
         early, event = [], order.early
