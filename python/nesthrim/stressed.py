@@ -20,9 +20,10 @@ Ranges = Mapping[str, Tuple[float, float]]
 class Stressed:
     """What can be asked of a netlist whose delays vary; `docs/STRESS.md` says what the answers promise.
 
-    `ranges` has other changes than the spread, as `{"sink": (-50, 200)}`, for a module, a kind, or the words of an edit, as "delay sink 0". The delays
-    of the modules of a group of `together` have one factor. `corner` has the ends, in per cent, of one more factor of all delays. A counterexample is
-    looked for, and bounds are sharpened, for about so many `seconds`. `UnknownName` for a module that isn't there, `ValueError` for a wrong range.
+    `ranges` has other changes than the spread, as `{"sink": (-50, 200)}`, for a module, a kind, or the words of an edit, as "delay sink 0". The
+    delays of the modules of a group of `together` have one factor. `corner` has the ends, in per cent, of one more factor of all delays. A
+    counterexample is looked for, and bounds are sharpened, for about so many `seconds`. `UnknownName` for a module that isn't there, `ValueError`
+    for a wrong range.
     """
 
     def stress(
@@ -57,7 +58,8 @@ class Stressed:
         return Question(self._own(), asked, reading, seconds).limit(most)
 
     def races(self) -> Races:
-        """For each bundle the transfer that tolerates least: both chains of delays from their last common cause, and the spread up to which it holds."""
+        """For each bundle the transfer that tolerates least: both chains of delays from their last common cause, and the spread up to which it
+        holds."""
         return races(self._own())
 
     def fit(

@@ -145,6 +145,67 @@ stim s 1=1 21=0
 """
 
 
+# an input of a C that begins as if it had come: its first event has to come behind that of the other one
+BEGUN = """
+horizon 60
+wire s 1 0
+wire a 1 0
+wire b 1 0
+wire y 1 0
+module one BUF : s > a/10
+module two BUF : s > b/14
+module meet C 0 0 1 : a b > y/1
+stim s 1=1
+"""
+
+
+# two events that meet, and a merge with a third one
+MET = """
+horizon 60
+wire s 1 0
+wire a 1 0
+wire b 1 0
+wire y 1 0
+wire z 1 0
+wire x 1 0
+module one BUF : s > a/11
+module two BUF : s > b/12
+module meet C 0 0 0 : a b > y/1
+module three BUF : s > z/22
+module merge XOR : y z > x/1
+stim s 1=1
+"""
+
+# a register that closes 4 units before its data change
+CAPTURED = """
+horizon 60
+wire s 1 0
+wire d 1 0
+wire c 1 0
+wire p 1 0
+wire q 1 0
+module far BUF : s > d/29
+module near BUF : s > c/25
+module reg REG 0 : d c p > q/1 -/1 -/1
+stim s 1=1
+"""
+
+
+# data that change 4 units behind the acknowledge of the data before
+BUSY = """
+horizon 60
+wire s 1 0
+wire r 1 0
+wire k 1 0
+wire d 1 0
+module ask BUF : s > r/10
+module take BUF : r > k/5
+module next BUF : r > d/9
+bundle b r k d 0
+stim s 1=1
+"""
+
+
 def counter(n: Builder, name: str, req: Wire, ack: Wire, data: Wire, pause: int = 4) -> None:
     """A source that sends the next number some units after the one before was acknowledged."""
     s = n.part(name)
@@ -157,6 +218,22 @@ def counter(n: Builder, name: str, req: Wire, ack: Wire, data: Wire, pause: int 
     s.reg("after", more, ack, idle, q=held, init=data.level)
 
 
+def accumulator(horizon: int = 300) -> Netlist:
+    """A source of numbers, and their sum, which is kept in a loop of two registers that take turns."""
+    n = Netlist(horizon=horizon)
+    req, ack, data = n.wire("r"), n.wire("k"), n.wire("d", width=8)
+    stage = n.fifo("f", 1, req, ack, data, FifoStage(match=6))[0]
+    counter(n, "source", req, stage["cd"], data)
+    total, summed, kept = n.wire("total", 8), n.wire("summed", 8), n.wire("kept", 8)
+    idle = n.wire("idle", level=1)
+    n.sum("add", stage["d"], total, out=summed, delay=3)
+    n.not_("phase", stage["r"], out=idle)
+    n.reg("one", summed, stage["r"], ack, q=kept)
+    n.reg("two", kept, ack, idle, q=total)
+    n.buf("sink", stage["r"], out=ack, delay=12)
+    return n
+
+
 def fifo(stages: int, horizon: int, slow: int = 0, match: int = 12) -> Netlist:
     """A FIFO with a source and a sink. Its stage `slow`, if that isn't 0, has logic of 12 units."""
     n = Netlist(horizon=horizon)
@@ -165,6 +242,6 @@ def fifo(stages: int, horizon: int, slow: int = 0, match: int = 12) -> Netlist:
     if slow:
         made[slow - 1] = FifoStage(match=match, logic=12, add=1, setup=1)
     parts = n.fifo("f", stages, req, ack, data, made)
-    counter(n, "source", req, parts[0].cd, data)
-    n.buf("sink", parts[-1].r, out=ack, delay=30)
+    counter(n, "source", req, parts[0]["cd"], data)
+    n.buf("sink", parts[-1]["r"], out=ack, delay=30)
     return n

@@ -10,8 +10,10 @@ from typing import Tuple
 
 from nesthrim import Netlist
 from nesthrim.stress.command import main
+from nesthrim.stress.delays import Delay
+from nesthrim.stress.races import Link, tolerated
 from tests.stressed import ADDED, ARBITRATED, GAP, fifo
-from tests.support import EXAMPLES, Case, example
+from tests.support import EXAMPLES, TOP, Case, example
 
 MENDED = "late-by-a-transfer-mended.net"
 
@@ -21,7 +23,8 @@ class Chains(Case):
         races = Netlist.read(example(MENDED)).races()
         self.assertEqual(["b3", "b4", "b1", "b2"], [race.bundle for race in races.races])
         race = races.bundle("b3")
-        self.assertEqual(("d0", 9, 27, 34, 6), (race.cause, race.time, *(sum(link.units for link in chain) for chain in (race.data, race.request)), race.slack))
+        data, request = (sum(link.units for link in chain) for chain in (race.data, race.request))
+        self.assertEqual(("d0", 9, 27, 34, 6), (race.cause, race.time, data, request, race.slack))
         # 27 units of data slower, and 33 of the request but its stimulus faster: 27 (1 + x) + 1 = 1 + 33 (1 - x)
         self.assertEqual(10, round(race.tolerance or 0, 3))
         self.assertTrue(str(race).startswith("bundle b3 from d0 at 9: data g1 1, a1 2, g2 1, a2 2, g3 1, a3 20 = 27; request r0 after 1, c1 1, "))
@@ -34,10 +37,22 @@ class Chains(Case):
         self.assertEqual(["f7_reg 1", "f7_logic 12"], [str(link) for link in race.data])
         self.assertEqual(int(race.tolerance or 0), netlist.limit().holds)
 
+    def test_a_chain_that_decides_no_more_once_it_is_faster(self) -> None:
+        # by their sums alone the longest chains of f7 and f9 would tolerate 1.53 and 4.86 %
+        races = fifo(12, 400, 3).races()
+        self.assertEqual([15.38, 15.38], [round(races.bundle(name).tolerance or 0, 2) for name in ("f7", "f9")])
+
+    def test_a_delay_on_both_chains_counts_where_it_stands_more_often(self) -> None:
+        both, own = (Link(name, units, Delay(name, 0, False, units)) for name, units in (("both", 10), ("own", 5)))
+        self.assertEqual(60, tolerated([both], [both, own], 3))
+        self.assertEqual(12, tolerated([both], [own, own], 2.4))
+        self.assertIsNone(tolerated([both], [both, Link("r", 3)], 1))
+
     def test_a_race_holds_up_to_its_tolerance(self) -> None:
         netlist = fifo(5, 300, 3)
         for race in netlist.races().races:
-            moved = {link.delay.words: -1 if link in race.request else 1 for link in (*race.data, *race.request) if link.delay and not (link in race.data and link in race.request)}
+            alone = [link for link in (*race.data, *race.request) if link.delay and not (link in race.data and link in race.request)]
+            moved = {link.delay.words: -1 if link in race.request else 1 for link in alone if link.delay}
             tolerance = race.tolerance or 0
             under, over = (self.margin(netlist, race.bundle, moved, tolerance + more) for more in (-0.5, 0.5))
             self.assertTrue(under > 0 >= over, (race.bundle, under, over))
@@ -115,6 +130,8 @@ class Commands(Case):
         self.assertEqual(5, told("stress", path, "--out", base, "--plot", f"{base}.svg")[0])
         made = sorted(os.listdir(self.folder.name))
         self.assertEqual(["groups", "worst-data.svg", "worst-request.svg", "worst.csv", "worst.net", "worst.play", "worst.svg"], made)
+        with open(f"{base}.svg", encoding="utf-8") as drawn, open(os.path.join(TOP, "docs", "margins.svg"), encoding="utf-8") as shown:
+            self.assertEqual(shown.read(), drawn.read())
         with open(f"{base}.csv", encoding="utf-8") as table:
             rows = table.read().splitlines()
         self.assertEqual(("spread,b1,b2,b3,b4", "0,2,4,6,8", "10,1.2,2.4,0,1.2"), (rows[0], rows[1], rows[-1]))
@@ -124,7 +141,9 @@ class Commands(Case):
         self.assertEqual("holds", Netlist.load(f"{base}.net").stress(10).verdict)
 
     def test_wrong_words_and_netlists(self) -> None:
-        for words in (["stress", "--flip"], ["stress", "--spread", "x"], ["stress", "a", "b"], ["races", "--spread", "3"], ["stress", self.file(ADDED), "--spread", "100"], ["stress", self.file(ADDED), "--corner", "70"]):
+        given = self.file(ADDED)
+        wrong = [["stress", "--flip"], ["stress", "--spread", "x"], ["stress", "a", "b"], ["races", "--spread", "3"]]
+        for words in (*wrong, ["stress", given, "--spread", "100"], ["stress", given, "--corner", "70"]):
             self.assertEqual(2, told(*words)[0], words)
         self.assertEqual((3, ""), told("stress", "/nothing/there")[:2])
         status, _, said = told("races", self.file("horizon 10\nmodule b BUF : x > -\n"))

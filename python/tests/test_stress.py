@@ -9,14 +9,15 @@ from typing import Iterator, List, Sequence, Tuple
 
 from nesthrim import Netlist, Session, Stress, UnknownName
 from nesthrim.stress.ask import Question
+from nesthrim.stress.confirm import Runs
 from nesthrim.stress.delays import Ranges, Spread, delays_of, read_groups
 from nesthrim.stress.judge import Judge
 from nesthrim.stress.orders import Order
 from nesthrim.stress.refine import until
 from nesthrim.stress.scene import save, script
-from nesthrim.stress.confirm import Runs
+from nesthrim.stress.separation import separation
 from nesthrim.stress.timing import Timing
-from tests.stressed import ADDED, ARBITRATED, CALLED, GAP, INSIDE, MERGED, STEERED, fifo
+from tests.stressed import ADDED, ARBITRATED, BEGUN, BUSY, CALLED, CAPTURED, GAP, INSIDE, MERGED, MET, STEERED, accumulator, fifo
 from tests.support import Case, example, examples, raw
 
 MENDED = "late-by-a-transfer-mended.net"
@@ -40,14 +41,15 @@ def bounds(judge: Judge) -> List[Tuple[Order, float]]:
 def corners(judge: Judge, levels: int) -> Iterator[Tuple[int, ...]]:
     """All points at the ends of the ranges, and with three levels those at nominal values too."""
     ends, nominal = judge.space.ends, judge.space.nominal
-    choices = [sorted({int(low), value, int(high)} if levels == 3 else {int(low), int(high)}) for low, value, high in zip(ends.low, nominal, ends.high)]
+    choices = [sorted({int(low), int(high), *([value] if levels == 3 else [])}) for low, value, high in zip(ends.low, nominal, ends.high)]
     return itertools.product(*choices)
 
 
 class Graphs(Case):
     def test_times_are_those_of_the_program_for_other_delays(self) -> None:
         chance = random.Random(1)
-        for text in (example(MENDED), example("wire-delays.net"), example("register-pipeline.net"), INSIDE, GAP, ADDED, CALLED, STEERED, MERGED, str(fifo(3, 150))):
+        texts = [example(name) for name in (MENDED, "wire-delays.net", "register-pipeline.net")]
+        for text in (*texts, INSIDE, GAP, ADDED, CALLED, STEERED, MERGED, str(fifo(3, 150)), str(accumulator())):
             judge = judged(Netlist.read(text), 2)
             for _ in range(4):
                 point = tuple(chance.randint(int(low), int(high)) for low, high in zip(*judge.space.ends))
@@ -90,10 +92,35 @@ class Bounds(Case):
                 for order, bound in pairs:
                     self.assertGreaterEqual(order.margin(times, point), bound, (order, point))
 
+    def test_the_sweep_is_exact_where_each_event_has_a_delay_of_its_own(self) -> None:
+        for text in (MERGED, CALLED, STEERED, ARBITRATED, BEGUN, MET, CAPTURED):
+            judge = judged(Netlist.read(text), 12)
+            graph, ends = judge.timing.graph, judge.space.ends
+            least = {order: min(self.margins_of_events(judge, order)) for order in judge.timing.orders}
+            for order, margin in least.items():
+                self.assertEqual(margin, separation(graph, order, ends).margin, order)
+
+    def margins_of_events(self, judge: Judge, order: Order) -> Iterator[float]:
+        """The margins of an order at all corners of the delays of single events."""
+        graph, ends = judge.timing.graph, judge.space.ends
+        own = [sorted({ends.low[place], ends.high[place]}) for place in graph.delay]
+        for delays in itertools.product(*own):
+            times = [0.0]
+            for event in range(1, len(delays)):
+                times.append(max(times[cause] for cause, _ in graph.causes[event]) + delays[event])
+            yield times[order.late] - times[order.early] - order.slack
+
+    def test_bounds_of_windows_are_reached(self) -> None:
+        # what is cut off behind a window has no part in the worst case of these bundles
+        judge = judged(fifo(4, 300, 3), 5)
+        found = [min(entry.margin for entry in judge.entries[name, "setup"]) / judge.timing.units for name in ("f1", "f2", "f3", "f4")]
+        self.assertEqual([1.35, 1.35, 0.55, 1.35], found)
+
     def test_the_bound_of_a_bundle_is_reached_by_a_corner(self) -> None:
         netlist = Netlist.read(ADDED)
         judge = judged(netlist, 12)
-        found = min(order.margin(judge.timing.graph.times(point), point) for point in corners(judge, 2) for order in judge.timing.orders if order.rule == "setup")
+        setups = [order for order in judge.timing.orders if order.rule == "setup"]
+        found = min(order.margin(judge.timing.graph.times(point), point) for point in corners(judge, 2) for order in setups)
         answer = netlist.stress(12).bundle("t")
         self.assertEqual((2, found / judge.timing.units, found / judge.timing.units), (answer.margin, answer.worst, answer.bound))
 
@@ -169,6 +196,13 @@ class Verdicts(Case):
         wanted, found = (self.data_at_captures(played, begin) for begin in (0, len(played) - 2))
         self.assertEqual((differs.wanted, differs.level), (wanted[differs.number - 1], found[differs.number - 1]))
 
+    def test_data_that_come_before_the_capture_of_those_before(self) -> None:
+        # the capture comes at 1 + 25 (1 + x), the data at 1 + 29 (1 - x)
+        limit = Netlist.read(CAPTURED).limit()
+        self.assertEqual((7, 8, "differs"), (limit.holds, limit.fails, limit.at.verdict))
+        assert limit.at.worst is not None
+        self.assertTrue(limit.at.worst.line.endswith(" module reg differs 1 for 0"))
+
     def data_at_captures(self, played: List[str], begin: int) -> List[int]:
         """The data at each change of the first of two waves."""
         pairs = [[tuple(map(int, word.split("="))) for word in line.split()[2:]] for line in played[begin : begin + 2]]
@@ -182,9 +216,12 @@ class Verdicts(Case):
         self.assertEqual("holds", Netlist.read(ARBITRATED).stress(19).verdict)
 
     def test_orders_of_kinds_that_a_rule_of_check_breaks(self) -> None:
-        # a call ends at 28 + 27 x, and the next one comes at 31 - 30 x; a level comes at 21 + 20 x, what it steers at 25 - 24 x; the first of two events
-        # comes at 23 + 22 x, the other one at 33 - 12 x
-        for text, name, code, holds in ((CALLED, "use", "call-overlap", 5), (STEERED, "steer", "select-unstable", 9), (MERGED, "merge", "merge-collision", 29)):
+        # a call ends at 28 + 27 x, and the next one comes at 31 - 30 x; a level comes at 21 + 20 x, what it steers at 25 - 24 x; the first of two
+        # events comes at 23 + 22 x, the other one at 33 - 12 x; the first event of a C comes at 11 + 10 x, the other one at 15 - 14 x; an
+        # acknowledge comes 5 (1 + x) behind a request, the next data 9 (1 - x)
+        cases = [(CALLED, "use", "call-overlap", 5), (STEERED, "steer", "select-unstable", 9), (MERGED, "merge", "merge-collision", 29)]
+        cases += [(BEGUN, "meet", "withdrawn", 16), (BUSY, "b", "data-while-busy", 28)]
+        for text, name, code, holds in cases:
             netlist = Netlist.read(text)
             self.assertEqual("holds", netlist.stress(holds).verdict, name)
             limit = netlist.limit(90)
@@ -198,6 +235,17 @@ class Verdicts(Case):
         self.assertEqual((11, 12), (netlist.limit().holds, netlist.limit().breaks))
         self.assert_confirmed(netlist.stress(12))
 
+    def test_a_sum_in_a_loop_of_registers(self) -> None:
+        netlist = accumulator()
+        self.assertEqual(("holds", ()), (netlist.stress(20).verdict, netlist.stress(20).notes))
+        answer = netlist.stress(40)
+        self.assertEqual(("open", [("two", "data-after-opening")]), (answer.verdict, [(each.name, each.rule) for each in answer.open]))
+        self.assertTrue(all(each.bound is not None and -100 < each.bound <= 0 for each in answer.open))
+        judge, chance = judged(netlist, 20), random.Random(2)
+        with judge.runs as runs:
+            for _ in range(8):
+                self.assertIsNone(runs.fault(judge.space.corner({place: chance.choice((-1, 1)) for place in judge.space.units_of}, 100)))
+
     def test_delays_that_vary_together(self) -> None:
         netlist = Netlist.read(example(MENDED))
         self.assertEqual("breaks", netlist.stress(10).verdict)
@@ -209,10 +257,23 @@ class Verdicts(Case):
         self.assertEqual(moved.get("m3"), moved.get("c3"))
         self.assert_confirmed(answer)
 
+    def test_points_keep_the_factor_of_a_group(self) -> None:
+        netlist, chance = Netlist.read(example(MENDED)), random.Random(3)
+        space = judged(netlist, 20, together=STAGES).space
+        for factor in (100, 90):
+            for _ in range(5):
+                point = space.corner({place: chance.choice((-1, 1)) for place in space.units_of}, factor)
+                for places in space.units:
+                    self.assertEqual(1, len({round(point[place] / space.nominal[place], 2) for place in places}))
+
     def test_a_corner_of_the_die(self) -> None:
         # at 70 % a margin of 10 - 7 is 2.1, so a setup of 2 holds and one of 2.2, in finer units, would not
         netlist = Netlist.read(ADDED.replace("sum 1\n", "sum 2\n"))
         self.assertEqual("holds", netlist.stress(0, corner=(70, 140)).verdict)
+        once = Netlist.read(ADDED.replace("sum 1\n", "sum 2\n").replace(" 35=9", "").replace(" 35=7", "").replace(" 35=0", ""))
+        self.assertEqual(["holds", "breaks"], [once.stress(0, corner=(low, 140)).verdict for low in (67, 66)])
+        # and 3 units at 33 % aren't above a setup of 1
+        self.assertEqual(["holds", "breaks"], [fifo(3, 120).stress(0, corner=(low, 140)).verdict for low in (34, 33)])
         answer = netlist.stress(0, corner=(60, 140))
         self.assertEqual("breaks", answer.verdict)
         self.assert_confirmed(answer)
@@ -231,8 +292,10 @@ class Verdicts(Case):
         netlist = Netlist.read(ADDED)
         self.fault(UnknownName, lambda: netlist.stress(ranges={"nothing": (0, 1)}))
         self.fault(UnknownName, lambda: netlist.stress(together=[["match", "nothing"]]))
-        for wrong in (lambda: netlist.stress(100), lambda: netlist.stress(-1), lambda: netlist.stress(ranges={"match": (5, 9)}), lambda: netlist.stress(corner=(110, 140))):
-            self.fault(ValueError, wrong)
+        for spread in (100, -1):
+            self.fault(ValueError, lambda: netlist.stress(spread))
+        self.fault(ValueError, lambda: netlist.stress(ranges={"match": (5, 9)}))
+        self.fault(ValueError, lambda: netlist.stress(corner=(110, 140)))
         self.fault(ValueError, lambda: netlist.stress(together=[["match"], ["match", "add"]]))
         self.assertEqual([["a", "b"], ["c"]], read_groups("a b # both\n\n# none\nc\n"))
 

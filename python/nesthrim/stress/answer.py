@@ -15,6 +15,9 @@ if TYPE_CHECKING:
 # the verdicts, each with the exit status of the command
 STATUS: Dict[str, int] = {"holds": 0, "breaks": 5, "differs": 5, "broken": 5, "open": 6, "nothing found": 6}
 
+# the note of an answer that was cut short
+INTERRUPTED = "interrupted"
+
 
 def number(value: float) -> str:
     """A number as it is written: without zeros at its end."""
@@ -23,8 +26,8 @@ def number(value: float) -> str:
 
 @dataclass(frozen=True)
 class BundleStress:
-    """A bundle's margins above its setup, in units of the netlist: `margin` as the netlist stands, `worst` the least one that was found, `bound` one that
-    none is below. `worst` and `margin` are `None` for a bundle whose data never come before a request."""
+    """A bundle's margins above its setup, in units of the netlist: `margin` as the netlist stands, `worst` the least one that was found, `bound`
+    one that none is below. `worst` and `margin` are `None` for a bundle whose data never come before a request."""
 
     name: str
     margin: Optional[float]
@@ -129,8 +132,8 @@ class Worst:
 class Stress:
     """Whether the netlist works while delays vary by `spread` per cent.
 
-    `verdict` is "holds", "breaks" or "differs", which `worst` shows, "open", with the orders in `open`, "nothing found", or "broken" if the netlist has
-    lines of `check`, `check`, as it stands. `runs` counts the runs of the program, and `until` is the time up to which faults count.
+    `verdict` is "holds", "breaks" or "differs", which `worst` shows, "open", with the orders in `open`, "nothing found", or "broken" if the
+    netlist has lines of `check`, `check`, as it stands. `runs` counts the runs of the program, and `until` is the time up to which faults count.
     """
 
     verdict: str
@@ -182,8 +185,8 @@ class Stress:
 class Limit:
     """The greatest spread, in whole per cents, up to which the netlist holds, and the least one at which it doesn't, of those that were tried.
 
-    `holds` is `None` if not even the netlist as it stands does. `fails` is `None` if it holds up to the most that was asked; `at` is the answer there, or
-    at the greatest spread that holds.
+    `holds` is `None` if not even the netlist as it stands does. `fails` is `None` if it holds up to the most that was asked; `at` is the answer
+    there, or at the greatest spread that holds.
     """
 
     holds: Optional[int]
@@ -203,8 +206,10 @@ class Limit:
     @property
     def line(self) -> str:
         """What is known, in a line."""
-        if "interrupted" in self.at.notes and self.holds is not None:
-            return f"holds up to {self.holds} so far" + (f", and not known at {self.fails}" if self.fails is not None else "")
+        if self.holds is None and self.fails is None:
+            return "nothing is known"
+        if self.at.verdict == "nothing found" and INTERRUPTED in self.at.notes and self.holds is not None:
+            return f"holds up to {self.holds} so far" + (f", and not at {self.fails}" if self.fails is not None else "")
         if self.fails is None:
             return f"holds up to {self.holds}, the most that was asked"
         return f"holds up to {self.holds}, {self.at.verdict} at {self.fails}" if self.holds is not None else f"{self.at.verdict} at {self.fails}"

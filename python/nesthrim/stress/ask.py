@@ -3,9 +3,9 @@
 from __future__ import annotations
 
 from contextlib import contextmanager
-from typing import TYPE_CHECKING, Dict, Iterator, List, Optional
+from typing import TYPE_CHECKING, Dict, FrozenSet, Iterator, List, Optional
 
-from .answer import BundleStress, Limit, Moved, Stress, Worst
+from .answer import INTERRUPTED, BundleStress, Limit, Moved, Stress, Worst
 from .confirm import Fault, Runs, moved
 from .delays import Ranges, Spread, delays_of
 from .graph import Unfoldable
@@ -25,6 +25,9 @@ READINGS = ("same", "each")
 
 # a run for a wide spread is long, so `limit` has a graph for each of these; the first spread that it tries, which doubles as long as it holds
 LADDER, LADDER_FROM = (12, 30, 60, 90), 10
+
+# a run with more changes is cut
+MOST_CHANGES = 300_000
 
 
 def say_nothing(line: str) -> None:
@@ -53,15 +56,15 @@ class Question:
 
     def bundles(self, percent: float, widest: float) -> List[BundleStress]:
         """The margins of the bundles at a spread, without a verdict; none if there is no graph."""
-        return _Answer(self, percent, widest).bundles()
+        return Answering(self, percent, widest).bundles()
 
     def at(self, percent: float, widest: Optional[float] = None) -> Stress:
         """The answer at a spread. The graph serves spreads up to `widest`."""
-        return _Answer(self, percent, widest or percent).full()
+        return Answering(self, percent, widest or percent).full()
 
     def verdict(self, percent: float, widest: float) -> str:
         """The verdict at a spread, without all that an answer has beside it."""
-        return _Answer(self, percent, widest).verdict()
+        return Answering(self, percent, widest).verdict()
 
     def limit(self, most: int = 60) -> Limit:
         """The greatest spread in whole per cents, up to `most`, at which it holds, and the least one at which it doesn't."""
@@ -73,7 +76,7 @@ class Question:
         except KeyboardInterrupt:
             if not self.keeps:
                 raise
-            return Limit(known.holds, known.fails, Stress("nothing found", known.least, self.netlist.horizon, notes=("interrupted",)))
+            return Limit(known.holds, known.fails, Stress("nothing found", known.least, self.netlist.horizon, notes=(INTERRUPTED,)))
 
     # ---- what answers share
 
@@ -82,8 +85,15 @@ class Question:
         if widest not in self._timings:
             self.tell("runs the netlist")
             self._reasons = {}
-            self._timings = {widest: Timing(self.netlist, self.spread.at(widest), self.netlist.horizon)}
+            self._timings = {widest: self._cut(Timing(self.netlist, self.spread.at(widest), self.netlist.horizon), widest)}
         return self._timings[widest]
+
+    def _cut(self, timing: Timing, widest: float) -> Timing:
+        """The timing of a shorter run, if this one has more changes than are followed."""
+        if timing.changes <= MOST_CHANGES:
+            return timing
+        until_time = max(1, timing.scale.until * MOST_CHANGES // timing.changes * 9 // 10)
+        return Timing(self.netlist, self.spread.at(widest), until_time)
 
     def unfolded(self, widest: float) -> Optional[Unfoldable]:
         """Unfolds the run of a timing; the reason if it can't be."""
@@ -133,8 +143,8 @@ def _widest(percent: float) -> float:
     return next((most for most in LADDER if percent <= most), percent)
 
 
-class _Answer:
-    """The work on the answer at one spread."""
+class Answering:
+    """The work on the answer to a question at one spread, with a graph that serves spreads up to `widest`."""
 
     def __init__(self, question: Question, percent: float, widest: float) -> None:
         self.question, self.spread = question, question.spread.at(percent)
@@ -145,29 +155,32 @@ class _Answer:
         self.runs = Runs(self.timing, self.timing.scale.horizon(self.spread))
         if self.timing.units < UNITS:
             self.notes.append(f"delays are long: one unit is {self.timing.units} finer ones, and not {UNITS}")
+        self.until = self.timing.scale.until
+        if self.until < question.netlist.horizon:
+            self.notes.append(f"the run changes so often that it is followed up to {self.until} alone")
 
     def verdict(self) -> str:
         """The verdict."""
         with self.runs:
-            found = self._decide()
+            found = self.decide()
         if found is None:
             return "broken" if not self.timing.check.ok else "nothing found"
-        return _word(found)
+        return word_of(found)
 
     def full(self) -> Stress:
         """The whole answer."""
         found: Optional[Verdict] = None
         with self.runs:
             with self._kept():
-                found = self._decide()
+                found = self.decide()
             if not self.timing.check.ok:
                 return self._broken()
-            worst = self._worst(found.fault) if found and found.fault else None
+            worst = self._worst(found.fault, found.likely) if found and found.fault else None
         bundles = self._bundles()
         left = self.judge.open_orders(found.undecided) if self.judge and found else []
-        verdict = "nothing found" if found is None else _word(found)
-        until_time, units = self.question.netlist.horizon, self.timing.units
-        return Stress(verdict, self.spread.percent, until_time, tuple(bundles), tuple(left), worst, "", self.runs.count, units, tuple(self.notes))
+        verdict = "nothing found" if found is None else word_of(found)
+        units = self.timing.units
+        return Stress(verdict, self.spread.percent, self.until, tuple(bundles), tuple(left), worst, "", self.runs.count, units, tuple(self.notes))
 
     @contextmanager
     def _kept(self) -> Iterator[None]:
@@ -177,8 +190,8 @@ class _Answer:
         except KeyboardInterrupt:
             if not self.question.keeps:
                 raise
-            if "interrupted" not in self.notes:
-                self.notes.append("interrupted")
+            if INTERRUPTED not in self.notes:
+                self.notes.append(INTERRUPTED)
 
     def bundles(self) -> List[BundleStress]:
         """The margins of the bundles alone."""
@@ -191,11 +204,12 @@ class _Answer:
         if self.judge is None:
             return []
         self.question.tell(f"bounds the margins of bundles at {self.spread.percent:g} %")
-        margins = Margins(self.judge)
-        if not self.notes or self.notes[-1] != "interrupted":
-            with self._kept():
+        margins: Optional[Margins] = None
+        with self._kept():
+            margins = Margins(self.judge)
+            if INTERRUPTED not in self.notes:
                 margins.sharpen()
-        return margins.known()
+        return margins.known() if margins else []
 
     def _broken(self) -> Stress:
         check = self.question.netlist.check()
@@ -203,7 +217,7 @@ class _Answer:
         lines = "".join(f"{line}\n" for line in text.splitlines() if not line.startswith("note "))
         return Stress("broken", self.spread.percent, self.question.netlist.horizon, check=lines, units=self.timing.units)
 
-    def _decide(self) -> Optional[Verdict]:
+    def decide(self) -> Optional[Verdict]:
         """What is known; `None` if there is no graph and no fault was found, or nothing to search."""
         if not self.timing.check.ok:
             return None
@@ -219,17 +233,18 @@ class _Answer:
     def _judge(self) -> Judge:
         return Judge(self.timing, self.spread, self.runs, self.over, self.question.tell, self.question.each)
 
-    def _worst(self, fault: Fault) -> Worst:
+    def _worst(self, fault: Fault, likely: FrozenSet[int]) -> Worst:
         self.question.tell("puts delays back")
         space = Space(self.timing, Ranges(self.timing.netlist, self.timing.delays, self.spread, self.timing.units))
         with self._kept():
-            fault = shrink(space, self.runs, fault, self.over)
+            fault = shrink(space, self.runs, fault, likely, self.over)
         units = self.timing.units
         changes = tuple(Moved(delay, value, units) for delay, value in moved(self.timing, fault.point))
         return Worst(self.runs.text, units, changes, len(self.timing.delays), fault.lines, fault.differs)
 
 
-def _word(verdict: Verdict) -> str:
+def word_of(verdict: Verdict) -> str:
+    """The word of a verdict."""
     if verdict.fault is not None:
         return "breaks" if verdict.fault.lines else "differs"
     return "open" if verdict.undecided else "holds"

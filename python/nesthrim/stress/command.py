@@ -49,7 +49,7 @@ class Progress:
     def tell(self, line: str) -> None:
         """Says what is done now."""
         if sys.stderr.isatty() and time.monotonic() > self._from:
-            width = os.get_terminal_size(sys.stderr.fileno()).columns - 1
+            width = (os.get_terminal_size(sys.stderr.fileno()).columns or 80) - 1
             sys.stderr.write(f"\r\033[K{f'mpwb: {line}'[:width]}")
             sys.stderr.flush()
             self._shown = True

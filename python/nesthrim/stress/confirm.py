@@ -1,7 +1,8 @@
 """What the program says of a point: the lines of `check`, and whether other data are taken than in the nominal run.
 
-Neither findings nor the levels of single wires show a datum that is taken a transfer too soon or too late: each wire has the levels of the nominal run
-in turn. So the levels are compared when they are looked at: those of a bundle's data at each request, and those of a register's data at each capture.
+Neither findings nor the levels of single wires show a datum that is taken a transfer too soon or too late: each wire has the levels of the nominal
+run in turn. So the levels are compared when they are looked at: those of a bundle's data at each request, and those of a register's data at each
+capture.
 """
 
 from __future__ import annotations

@@ -1,7 +1,7 @@
 """The delays that vary, and between which ends each does.
 
-A delay varies if it is that of an output that drives a wire, or that of an input and above 0. A range is two changes in per cent, as -10 and 10. Delays
-that stand together in a group have one factor; a corner is a factor of all delays, as that of a slow or a fast die.
+A delay varies if it is that of an output that drives a wire, or that of an input and above 0. A range is two changes in per cent, as -10 and 10.
+Delays that stand together in a group have one factor; a corner is a factor of all delays, as that of a slow or a fast die.
 """
 
 from __future__ import annotations

@@ -1,7 +1,8 @@
 """Sizing: matched delays are lengthened until each bundle holds.
 
-A matched delay is a BUF that drives the request of a bundle. What a bundle lacks at its worst is added to it, divided by the part of it that is left at its
-low end, and the question is asked again, since a later request moves what follows. At the end each delay is taken back as far as all still holds.
+A matched delay is a BUF that drives the request of a bundle. What a bundle lacks at its worst is added to it, divided by the part of it that is
+left at its low end, and the question is asked again, since a later request moves what follows. At the end each delay is taken back as far as all
+still holds.
 """
 
 from __future__ import annotations
@@ -38,8 +39,9 @@ class Fitted:
 class Fit:
     """A netlist that was sized for a spread.
 
-    `stress` is the answer for `netlist`: it holds, unless something else than a bundle's margin doesn't, or a request isn't driven by a BUF. `period` and
-    `period_before` are the mean gap of the slowest request in the second half of the run, or in all of it if none comes twice there; `None` if none does.
+    `stress` is the answer for `netlist`: it holds, unless something else than a bundle's margin doesn't, or a request isn't driven by a BUF.
+    `period` and `period_before` are the mean gap of the slowest request in the second half of the run, or in all of it if none comes twice there;
+    `None` if none does.
     """
 
     netlist: Netlist

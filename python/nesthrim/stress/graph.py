@@ -1,9 +1,9 @@
 """The events of a run with their causes: a graph from which the times of the run follow for any delays.
 
-An event is a change of a wire. It happens at `max over causes u of (t(u) + e) + d`, where `e` is the delay of the input that u reaches and `d` that of
-the output that drives the wire. The origin, event 0, is at time 0. A change as the run settles has the origin as its cause; one that a stimulus makes
-has the one before it, of any stimulus, with the gap between them as a delay that doesn't vary. Events are numbered by their nominal times, so a cause
-has a lower number than its effect.
+An event is a change of a wire. It happens at `max over causes u of (t(u) + e) + d`, where `e` is the delay of the input that u reaches and `d`
+that of the output that drives the wire. The origin, event 0, is at time 0. A change as the run settles has the origin as its cause; one that a
+stimulus makes has the one before it, of any stimulus, with the gap between them as a delay that doesn't vary. Events are numbered by their nominal
+times, so a cause has a lower number than its effect.
 
 The graph is the run as long as the order constraints of `orders` hold.
 """

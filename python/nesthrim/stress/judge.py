@@ -3,17 +3,18 @@
 from __future__ import annotations
 
 from dataclasses import dataclass
-from typing import Callable, Dict, List, NamedTuple, Optional, Sequence, Set, Tuple
+from typing import Callable, Dict, FrozenSet, List, NamedTuple, Optional, Sequence, Set, Tuple
 
 from .answer import OpenOrder
 from .confirm import Fault, Runs
 from .delays import Ranges, Spread
 from .orders import Order, Place
 from .refine import Closed, Deadline, Refiner
-from .search import Reached, descend
+from .search import Reached, descend, weights
+from .separation import separation
 from .space import Space
 from .timing import Timing
-from .windows import Entry
+from .windows import FAR, Entry
 
 Tell = Callable[[str], None]
 
@@ -31,10 +32,14 @@ class Undecided(NamedTuple):
 
 @dataclass
 class Verdict:
-    """What is known of a spread: a fault, or the orders that aren't decided; there are none if it holds."""
+    """What is known of a spread: a fault, or the orders that aren't decided; there are none if it holds.
+
+    `likely` has the units of delays that make the fault, as far as the graph tells.
+    """
 
     fault: Optional[Fault]
     undecided: List[Undecided]
+    likely: FrozenSet[int] = frozenset()
 
     @property
     def holds(self) -> bool:
@@ -62,7 +67,7 @@ class Judge:
     def decide(self) -> Verdict:
         """A fault that the program confirms, or what isn't decided."""
         weak = sorted((min(entry.margin for entry in entries), place) for place, entries in self.entries.items())
-        differs: Optional[Fault] = None
+        differs: Optional[Verdict] = None
         reached: Dict[Place, Undecided] = {}
         for bound, place in weak:
             if bound > 0:
@@ -71,12 +76,19 @@ class Judge:
             found = self.try_class(min(self.entries[place], key=lambda entry: entry.margin))
             reached[place] = found
             fault = self.runs.fault(found.reached.point) if found.reached.margin <= 0 else None
-            if fault is not None and fault.lines:
-                return Verdict(fault, [])
-            differs = differs or fault
+            if fault is not None and (fault.lines or differs is None):
+                differs = Verdict(fault, [], self._likely(found))
+                if fault.lines:
+                    return differs
         if differs is not None:
-            return Verdict(differs, [])
+            return differs
         return self._close([place for bound, place in weak if bound <= 0], reached)
+
+    def _likely(self, found: Undecided) -> FrozenSet[int]:
+        """The units of the delays on both critical chains of an order where it was reached."""
+        order, point = found.order, found.reached.point
+        times = self.timing.graph.times(point, max(order.early, order.late))
+        return frozenset(self.space.sums(weights(self.timing.graph, order, times, point)))
 
     def try_class(self, entry: Entry) -> Undecided:
         """The least margin that is found for a class."""
@@ -89,7 +101,7 @@ class Judge:
         for place in places:
             known = reached[place]
             if known.reached.margin <= 0:
-                undecided.append(known)
+                undecided.append(self._bounded(known))
                 continue
             self.tell(f"decides {place[0]} {place[1]}")
             fault, left = self._close_place([entry for entry in self.entries[place] if entry.margin <= 0])
@@ -99,6 +111,13 @@ class Judge:
             if not left:
                 self.closed.add(place)
         return Verdict(None, undecided)
+
+    def _bounded(self, found: Undecided) -> Undecided:
+        """The same with the bound of a sweep over the whole run, if the window has none."""
+        order = self.timing.in_corner(found.order)
+        if found.bound > -FAR / 2:
+            return found
+        return found._replace(bound=self.timing.real_margin(order, separation(self.timing.graph, order, self.space.ends).margin))
 
     def _close_place(self, entries: Sequence[Entry]) -> Tuple[Optional[Fault], List[Undecided]]:
         """Decides the orders of a place that aren't yet: a fault, or those that are left, the weakest first."""

@@ -1,8 +1,8 @@
 """The margins of bundles: of each the least one that is found over the ranges, and a bound that none is below.
 
-One evaluation of the graph gives the margins of all bundles at a point. So the corner of the paths of all bundles together comes first, which is the
-worst one of each where no delay stands on the path of one bundle and beside that of another. Then come the corners of single bundles, and where the bound
-still isn't reached, longer windows.
+One evaluation of the graph gives the margins of all bundles at a point. So the corner of the paths of all bundles together comes first, which is
+the worst one of each where no delay stands on the path of one bundle and beside that of another. Then come the corners of single bundles, and
+where the bound still isn't reached, longer windows.
 """
 
 from __future__ import annotations
@@ -54,7 +54,7 @@ class Margins:
 
     def sharpen(self) -> None:
         """Looks for worse points, and for better bounds, until both meet or the time is over."""
-        if self.judge.each:
+        if self.judge.each and len(self.timing.graph.time) <= _SMALL:
             self._deepen_each()
             return
         self._look([self._weakest(name) for name in self._orders])

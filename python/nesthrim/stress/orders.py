@@ -174,7 +174,9 @@ class Orders:
         graph = self.graph
         requests, acks = graph.times_of(bundle.req), graph.times_of(bundle.ack)
         own, answers = graph.of[bundle.req], graph.of[bundle.ack]
-        turns = sorted([(time, event, "request-while-busy") for time, event in zip(requests, own)] + [(time, event, "ack-while-idle") for time, event in zip(acks, answers)])
+        turns = [(time, event, "request-while-busy") for time, event in zip(requests, own)]
+        turns += [(time, event, "ack-while-idle") for time, event in zip(acks, answers)]
+        turns.sort()
         for (_, early, _), (_, late, rule) in zip(turns, turns[1:]):
             self.found.append(Order(bundle.name, rule, early, late))
         for time, event in zip(graph.times_of(bundle.data), graph.of[bundle.data]):

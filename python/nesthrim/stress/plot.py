@@ -86,5 +86,6 @@ class _Axes:
             parts.append(f'<text x="{x - 8:.1f}" y="{y + 4:.1f}" text-anchor="end">{number(round(margin, 2))}</text>')
         middle = _LEFT + (_WIDTH - _LEFT - _RIGHT) / 2
         parts.append(f'<text x="{middle}" y="{_HEIGHT - 10}" text-anchor="middle">spread of all delays, in per cent</text>')
-        parts.append(f'<text x="16" y="{_HEIGHT / 2}" text-anchor="middle" transform="rotate(-90 16 {_HEIGHT / 2})">worst margin above the setup, in units</text>')
+        turned = f'text-anchor="middle" transform="rotate(-90 16 {_HEIGHT / 2})"'
+        parts.append(f'<text x="16" y="{_HEIGHT / 2}" {turned}>worst margin above the setup, in units</text>')
         return parts

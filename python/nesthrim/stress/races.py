@@ -1,7 +1,8 @@
 """Races: for each bundle the transfer that tolerates least, with both chains of causes from the last event that both have.
 
-The data win as long as `data (1 + x) + setup < request (1 - x)` for the sums of both chains, if all their delays vary by x. A delay that stands on both
-chains counts as often as it stands more on one of them. Only these chains are looked at, and each at its nominal causes: `stress` looks at all.
+The data win as long as `data (1 + x) + setup < request (1 - x)` for the sums of both chains, if all their delays vary by x. A delay that stands on
+both chains counts as often as it stands more on one of them. Only these chains are looked at, and each at its nominal causes: `stress` looks at
+all.
 """
 
 from __future__ import annotations
@@ -25,8 +26,8 @@ if TYPE_CHECKING:
 # the spread at which the chains are chosen: where several causes come at once, those that matter at a small spread
 LOOK = 1
 
-# of how many races of a bundle, those that tolerate least by their sums, the tolerance is measured: of all but where a run has many events; up to which
-# change, and how nearly
+# of how many races of a bundle, those that tolerate least by their sums, the tolerance is measured: of all but where a run has many events; up to
+# which change, and how nearly
 _MEASURED, _MANY, MOST, _NEAR = 4, 5_000, 95, 0.002
 
 # of how many classes of transfers of a bundle, the weakest ones, the chains are walked
@@ -47,10 +48,12 @@ class Link:
 
 @dataclass(frozen=True)
 class Race:
-    """A bundle's transfer that tolerates least: both chains begin at a change of the wire `cause` at `time`, or at the begin of the run, with None.
+    """A bundle's transfer that tolerates least: both chains begin at a change of the wire `cause` at `time`, or at the begin of the run, with
+    None.
 
-    `data` and `request` are the chains, the cause first. `slack` is the time, above the setup, by which the data win. `tolerance` is the change of these
-    delays alone, in per cent, up to which they do; `None` if no change of them matters. `at` is the nominal time of the request, and `order` the order of both events.
+    `data` and `request` are the chains, the cause first. `slack` is the time, above the setup, by which the data win. `tolerance` is the change of
+    these delays alone, in per cent, up to which they do; `None` if no change of them matters. `at` is the nominal time of the request, and `order`
+    the order of both events.
     """
 
     bundle: str
@@ -190,14 +193,14 @@ def _race(timing: Timing, order: Order, ways: Tuple[List[int], List[int], int]) 
         tuple(request),
         timing.setups[order.name] // units,
         slack,
-        _percent(data, request, slack),
+        tolerated(data, request, slack),
         graph.time[order.late] // units,
         timing.real(order),
     )
 
 
-def _percent(data: Sequence[Link], request: Sequence[Link], slack: int) -> Optional[float]:
-    """The change of the delays of two chains up to which the data win."""
+def tolerated(data: Sequence[Link], request: Sequence[Link], slack: float) -> Optional[float]:
+    """The change of the delays of two chains, in per cent, up to which the data win by a slack; `None` if no change of them matters."""
     count: Dict[Delay, int] = {}
     for chain, sign in ((data, 1), (request, -1)):
         for link in chain:
@@ -215,6 +218,7 @@ def _links(timing: Timing, chain: Sequence[int], common: int) -> List[Link]:
             links.append(Link(graph.wire_of(event) or "", timing.nominal[graph.delay[event]] // timing.units))
         else:
             reached = dict(graph.causes[event])[before]
-            links += [Link(delay.module, delay.nominal, delay) for delay in (timing.delay_at(place) for place in (reached, graph.delay[event]) if place != NONE)]
+            delays = [timing.delay_at(place) for place in (reached, graph.delay[event]) if place != NONE]
+            links += [Link(delay.module, delay.nominal, delay) for delay in delays]
         before = event
     return links

@@ -1,8 +1,8 @@
 """Sharper bounds: longer windows, and then, for delays that are the same all through the run, branch and bound over the ranges.
 
-A delay that stands on both sides of an order pulls both ways, so its worst value may be inside its range, and no corner shows it. The range of such a
-delay is halved until the bounds of all parts are above 0, or a point is found at which the margin isn't. At a single point the sweep is exact. A group
-is halved as one: the range of its factor.
+A delay that stands on both sides of an order pulls both ways, so its worst value may be inside its range, and no corner shows it. The range of
+such a delay is halved until the bounds of all parts are above 0, or a point is found at which the margin isn't. At a single point the sweep is
+exact. A group is halved as one: the range of its factor.
 """
 
 from __future__ import annotations
@@ -166,7 +166,8 @@ class Refiner:
             low, high = part.groups[unit]
             for half in ((low, (low + high) / 2), ((low + high) / 2, high)):
                 groups = part.groups[:unit] + (half,) + part.groups[unit + 1 :]
-                yield self._with(part, {place: (self.space.nominal[place] * half[0], self.space.nominal[place] * half[1]) for place in self.space.units[unit]}), groups
+                nominal = {place: self.space.nominal[place] for place in self.space.units[unit]}
+                yield self._with(part, {place: (value * half[0], value * half[1]) for place, value in nominal.items()}), groups
             return
         place = self.space.units[unit][0]
         first, last = part.ends.low[place], part.ends.high[place]

@@ -1,7 +1,7 @@
 """A search without a graph: runs of the program at points of the ranges, for netlists whose run has no graph.
 
-It follows the causes of each bundle's least margin, as `why` tells them, and then tries corners by chance. It proves nothing: what it finds is certain,
-and if it finds nothing, nothing is known.
+It follows the causes of each bundle's least margin, as `why` tells them, and then tries corners by chance. It proves nothing: what it finds is
+certain, and if it finds nothing, nothing is known.
 """
 
 from __future__ import annotations

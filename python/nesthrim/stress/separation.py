@@ -1,13 +1,13 @@
 """How much later one event can be than another, over all delays in their ranges, each occurrence of a delay by itself.
 
 The greatest `t(a) - t(b)` is the maximum over the paths P to a of P at its high ends, less the longest path to b with the delays of P high and all
-others low. So it is reached at a corner of the ranges, and one sweep finds it (McMillan and Dill, Algorithms for interface timing verification, 1992):
-let m(v) be the longest path from v to b at low ends; then `s(v) = min(max over causes u of (s(u) + high), -m(v))`, without the second term for a v that
-doesn't lead to b, bounds `t(v) - t(b)`. What a and b have in common behind them cancels. Hulgaard, Burns, Amon and Borriello (An algorithm for exact
-bounds on the time separation of events in concurrent systems, 1995) carry it on for ever in periodic systems; a run is finite.
+others low. So it is reached at a corner of the ranges, and one sweep finds it (McMillan and Dill, Algorithms for interface timing verification,
+1992): let m(v) be the longest path from v to b at low ends; then `s(v) = min(max over causes u of (s(u) + high), -m(v))`, without the second term
+for a v that doesn't lead to b, bounds `t(v) - t(b)`. What a and b have in common behind them cancels. Hulgaard, Burns, Amon and Borriello (An
+algorithm for exact bounds on the time separation of events in concurrent systems, 1995) carry it on for ever in periodic systems; a run is finite.
 
-Where delays are the same all through the run, the sweep is a bound: a delay that stands more often in P than on the way to b, or on both, pulls both
-ways.
+Where delays are the same all through the run, the sweep is a bound: a delay that stands more often in P than on the way to b, or on both, pulls
+both ways.
 """
 
 from __future__ import annotations
@@ -20,8 +20,8 @@ from .orders import Order
 
 
 class Bound(NamedTuple):
-    """`margin` is at least this. `path` has the delays on the way to the early event that makes it, and `beside` those on the longest way to the late event
-    from the same event on, each as often as it stands there."""
+    """`margin` is at least this. `path` has the delays on the way to the early event that makes it, and `beside` those on the longest way to the
+    late event from the same event on, each as often as it stands there."""
 
     margin: float
     path: Tuple[int, ...]

@@ -5,7 +5,7 @@ is followed by itself: it may make one change of the output, at its own time. Th
 acknowledge, and so has each. A change that doesn't show since another comes at the same time costs nothing.
 
 A register makes several changes of its output if several changes of its data come in one opening. Where there are more than a few, those that come
-while it is held are taken as one, at its opening, and then they have to come before that.
+while it is held are taken as one, at its opening, and then they have to come before that. So the changes in a loop of registers don't grow in number.
 """
 
 from __future__ import annotations
@@ -20,8 +20,8 @@ from .unfold import SETTLED, Causes, Changes, Run
 # what hands data on, change by change
 _PASSES = ("BUF", "NOT", "ADDC", "XORC", "BIT", "SUM")
 
-# a window of a register has at most so many changes that are followed each by itself, and a run at most so many events
-FEW, MOST_EVENTS = 4, 400_000
+# so many changes that come in one window of a register while it is held are followed each by itself, so many in a window in all, and so many in a run
+FEW, MANY, MOST_EVENTS = 2, 32, 400_000
 
 
 class Settles(NamedTuple):
@@ -152,13 +152,13 @@ class Settling:
             return
         opening = (opens.event, opens.place)
         made = self._windows.setdefault((module.name, number), [])
-        if len(made) < FEW:
-            made.append(self._add(module, output, max(time, opens.time) + self._delay(module), (cause, opening)))
+        if time <= opens.time and len(made) >= FEW:
+            self._add(module, output, opens.time + self._delay(module), (opening,))
+            self.settles.append(Settles(module.name, cause, opening))
             return
-        if time > opens.time:
+        if len(made) >= MANY:
             raise Unfoldable(module.name, "takes more changes of its data in one opening than are followed")
-        self._add(module, output, opens.time + self._delay(module), (opening,))
-        self.settles.append(Settles(module.name, cause, opening))
+        made.append(self._add(module, output, max(time, opens.time) + self._delay(module), (cause, opening)))
 
     def _add(self, module: Module, wire: str, time: int, causes: Causes) -> int:
         known = self._made.get((wire, causes))

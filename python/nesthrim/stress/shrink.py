@@ -5,16 +5,19 @@ This is delta debugging (Zeller and Hildebrandt, Simplifying and isolating failu
 
 from __future__ import annotations
 
-from typing import List
+from typing import Collection, List
 
 from .confirm import Fault, Runs
 from .refine import Deadline
 from .space import Point, Space
 
 
-def shrink(space: Space, runs: Runs, fault: Fault, over: Deadline) -> Fault:
-    """The same fault with fewer delays moved."""
+def shrink(space: Space, runs: Runs, fault: Fault, likely: Collection[int], over: Deadline) -> Fault:
+    """The same fault with fewer delays moved. All units but the `likely` ones are put back first."""
     units = [unit for unit, places in enumerate(space.units) if any(fault.point[place] != space.nominal[place] for place in places)]
+    others = [unit for unit in units if unit not in likely]
+    fault, left = _pass(space, runs, fault, others, max(1, len(others)), over)
+    units = [unit for unit in units if unit in likely or unit in left]
     size = max(1, len(units) // 2)
     while units:
         before = len(units)

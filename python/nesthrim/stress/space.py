@@ -45,7 +45,9 @@ class Space:
         return (self._at(place, self.ends.low[place], factor),), (self._at(place, self.ends.high[place], factor),)
 
     def _scaled(self, places: Iterable[int], own: float, factor: float) -> Tuple[int, ...]:
-        return tuple(self._at(place, min(max(round(self.nominal[place] * own), self.ends.low[place]), self.ends.high[place]), factor) for place in places)
+        low, high = self.ends
+        values = [min(max(round(self.nominal[place] * own), low[place]), high[place]) for place in places]
+        return tuple(self._at(place, value, factor) for place, value in zip(places, values))
 
     def _at(self, place: int, value: float, factor: float) -> int:
         if factor == 100:

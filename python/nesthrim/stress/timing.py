@@ -12,7 +12,7 @@ from .orders import Order, Orders
 from .registers import Phases
 from .scale import Scale, scale_for, scaled_text
 from .separation import Ends
-from .settling import MOST_EVENTS, Settles, Settling, settling_wires
+from .settling import Settles, Settling, settling_wires
 from .unfold import Changes, Run, graph_of
 from .windows import Windows
 
@@ -40,6 +40,8 @@ class Timing:
         with Session(self.text(self.horizon), netlist.program) as session:
             self.check: Check = session.check()
             self._waves = session.waves() if self.check.ok else None
+        # how many changes the run has
+        self.changes = str(self._waves).count("=") if self._waves is not None else 0
 
     @property
     def units(self) -> int:
@@ -53,10 +55,7 @@ class Timing:
     def unfold(self) -> None:
         """Makes the graph, its orders and their classes. `Unfoldable` if there is no graph."""
         assert self._waves is not None
-        run = Run(self.netlist, self._waves, self.places, self.units)
-        if run.count > MOST_EVENTS:
-            raise Unfoldable("run", "has too many events")
-        self._build(run)
+        self._build(Run(self.netlist, self._waves, self.places, self.units))
         self._waves = None
 
     def _build(self, run: Run) -> None:

@@ -1,9 +1,9 @@
 """Bounds for all orders of a run, each local structure once.
 
-Orders whose events have the same causes at the same nominal distances some steps back are a class, and are bounded once, in a window: the events so
-many steps behind them. What is cut off and leads to the late event is bounded by that. Races, in which data have to come before a request or a capture,
-are taken in the order of time, and the bound of each is a lemma for those behind it: the data that an earlier race bounds aren't followed further back.
-Data never lead to control, and would go back to the source.
+Orders whose events have the same causes at the same nominal distances some steps back are a class, and are bounded once, in a window: the events
+so many steps behind them. What is cut off and leads to the late event is bounded by that. Races, in which data have to come before a request or a
+capture, are taken in the order of time, and the bound of each is a lemma for those behind it: the data that an earlier race bounds aren't followed
+further back. Data never lead to control, and would go back to the source.
 """
 
 from __future__ import annotations
@@ -19,7 +19,8 @@ SHORT, LONG, _BEHIND = 4, 8, 4
 
 RACES = ("setup", "data-after-capture")
 
-_FAR = 1 << 60
+# the bound of what a window doesn't bound
+FAR = 1 << 60
 
 # what a lemma says of an event: it is at most so much later than another one
 Lemma = Tuple[int, float]
@@ -35,8 +36,8 @@ class Entry(NamedTuple):
 
 
 class Sweep(NamedTuple):
-    """What the sweep of a window gives: by how much the early event can be later than the late one; the longest ways from events to the late one; the next
-    event of such a way; and the cause that makes the bound of an event, each with the place of the input's delay."""
+    """What the sweep of a window gives: by how much the early event can be later than the late one; the longest ways from events to the late one;
+    the next event of such a way; and the cause that makes the bound of an event, each with the place of the input's delay."""
 
     later: float
     to_late: Dict[int, float]
@@ -53,7 +54,9 @@ class Structures:
         own = []
         for event, before in enumerate(causes):
             # (what begins at an absolute time is like nothing else)
-            key: Hashable = -event if graph.root[event] else (graph.wire[event], graph.lane[event], *[(time[event] - time[cause], place) for cause, place in before])
+            key: Hashable = -event
+            if not graph.root[event]:
+                key = (graph.wire[event], graph.lane[event], *[(time[event] - time[cause], place) for cause, place in before])
             own.append(kinds.setdefault(key, len(kinds)))
         self.short = self.long = own
         for step in range(1, LONG + 1):
@@ -178,7 +181,8 @@ class Windows:
         for cause, steps in queue:
             if steps >= 2 and cause in self._lemmas:
                 near[cause] = self._lemmas[cause]
-                key.append((steps, time[event] - time[cause], graph.wire[cause], *[(later, time[other] - time[cause], graph.wire[other]) for other, later in near[cause]]))
+                known = [(later, time[other] - time[cause], graph.wire[other]) for other, later in near[cause]]
+                key.append((steps, time[event] - time[cause], graph.wire[cause], *known))
             elif steps < _BEHIND:
                 queue += [(before, steps + 1) for before, _ in graph.causes[cause]]
         return near, tuple(key)
@@ -186,7 +190,7 @@ class Windows:
     def _window(self, order: Order, depth: int, lemmas: Lemmas, ends: Ends) -> Tuple[float, Tuple[int, ...], int]:
         """The bound of a margin, its path, and the event at which the path meets a lemma, or -1."""
         latest, _, _, back = self._sweep(order, depth, lemmas, ends)
-        if latest > _FAR // 2 and order.rule in RACES:
+        if latest > FAR // 2 and order.rule in RACES:
             bound = separation(self.graph, order, ends)
             return bound.margin, bound.path, -1
         path, event = path_of(self.graph, order, back)
@@ -210,7 +214,7 @@ class Windows:
         latest = {event: self._at_edge(event, order, to_late, lemmas) for event in edge}
         back: Dict[int, Cause] = {}
         for event in reversed(inside):
-            best, chosen = float(-_FAR), (0, 0)
+            best, chosen = float(-FAR), (0, 0)
             for cause, place in causes[event]:
                 time = latest[cause] + high[place]
                 if time > best:
@@ -225,8 +229,8 @@ class Windows:
         return Sweep(latest[order.early], to_late, effect, back)
 
     def race(self, order: Order) -> Optional[Tuple[List[int], List[int], int]]:
-        """The events behind both events of a race that make its bound, the later ones first, and the last event that both have; `None` if that isn't in
-        a window."""
+        """The events behind both events of a race that make its bound, the later ones first, and the last event that both have; `None` if that
+        isn't in a window."""
         near = self._behind(order.early)[0]
         _, to_late, effect, back = self._sweep(order, LONG, near, self._ends)
         early, event = [], order.early
@@ -264,7 +268,7 @@ class Windows:
 
     def _at_edge(self, event: int, order: Order, to_late: Dict[int, float], lemmas: Lemmas) -> float:
         """By how much an event at the edge of a window can be later than the late one."""
-        latest = -to_late[event] if event in to_late else float(_FAR)
+        latest = -to_late[event] if event in to_late else float(FAR)
         if self.graph.root[event]:
             latest = min(latest, self._latest[event] - self._earliest[order.late])
         for other, later in lemmas.get(event, ()):
