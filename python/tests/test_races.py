@@ -143,7 +143,7 @@ class Commands(Case):
     def test_wrong_words_and_netlists(self) -> None:
         given = self.file(ADDED)
         wrong = [["stress", "--flip"], ["stress", "--spread", "x"], ["stress", "a", "b"], ["races", "--spread", "3"]]
-        for words in (*wrong, ["stress", given, "--spread", "100"], ["stress", given, "--corner", "70"]):
+        for words in (*wrong, ["stress", given, "--limit", "--most", "100"], ["stress", given, "--spread", "100"], ["stress", given, "--corner", "70"]):
             self.assertEqual(2, told(*words)[0], words)
         self.assertEqual((2, ""), told("stress", given, "--spread", "12", "--out", given[: -len(".net")])[:2])
         self.assertEqual((2, ""), told("stress", given, "--plot", given)[:2])

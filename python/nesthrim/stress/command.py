@@ -129,6 +129,8 @@ def _keep_given(words: argparse.Namespace) -> None:
 
 def _stress(words: argparse.Namespace, progress: Progress) -> int:
     _keep_given(words)
+    if not 0 < words.most < 100:
+        raise Ended(2, "mpwb: --most is a number of per cent from 1 to 99")
     netlist = _netlist(words.file)
     question = _question(words, netlist, progress)
     if words.fit:
