@@ -143,8 +143,12 @@ class Commands(Case):
     def test_wrong_words_and_netlists(self) -> None:
         given = self.file(ADDED)
         wrong = [["stress", "--flip"], ["stress", "--spread", "x"], ["stress", "a", "b"], ["races", "--spread", "3"]]
-        for words in (*wrong, ["stress", given, "--spread", "100"], ["stress", given, "--corner", "70"]):
+        for words in (*wrong, ["stress", given, "--limit", "--most", "100"], ["stress", given, "--spread", "100"], ["stress", given, "--corner", "70"]):
             self.assertEqual(2, told(*words)[0], words)
+        self.assertEqual((2, ""), told("stress", given, "--spread", "12", "--out", given[: -len(".net")])[:2])
+        self.assertEqual((2, ""), told("stress", given, "--plot", given)[:2])
+        with open(given, encoding="utf-8") as file:
+            self.assertEqual(ADDED, file.read())
         self.assertEqual((3, ""), told("stress", "/nothing/there")[:2])
         status, _, said = told("races", self.file("horizon 10\nmodule b BUF : x > -\n"))
         self.assertEqual((1, "mpwb: line 2: 7 Refused: 3 NoSuchWire"), (status, said.splitlines()[0]))

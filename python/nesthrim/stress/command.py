@@ -120,7 +120,17 @@ def _question(words: argparse.Namespace, netlist: Netlist, progress: Progress) -
     return question
 
 
+def _keep_given(words: argparse.Namespace) -> None:
+    """Refuses to write over the netlist that is read."""
+    for made in ([f"{words.out}.net"] if words.out else []) + ([words.plot] if words.plot else []):
+        if words.file != "-" and os.path.exists(made) and os.path.exists(words.file) and os.path.samefile(made, words.file):
+            raise Ended(2, f"mpwb: {made} is the netlist that is read, and would be written over: choose another name")
+
+
 def _stress(words: argparse.Namespace, progress: Progress) -> int:
+    _keep_given(words)
+    if not 0 < words.most < 100:
+        raise Ended(2, "mpwb: --most is a number of per cent from 1 to 99")
     netlist = _netlist(words.file)
     question = _question(words, netlist, progress)
     if words.fit:

@@ -231,20 +231,22 @@ class Windows:
     def race(self, order: Order) -> Optional[Tuple[List[int], List[int], int]]:
         """The events behind both events of a race that make its bound, the later ones first, and the last event that both have; `None` if that
         isn't in a window."""
-        near = self._behind(order.early)[0]
-        _, to_late, effect, back = self._sweep(order, LONG, near, self._ends)
-        early, event = [], order.early
-        while event in back:
-            early.append(event)
-            event = back[event][0]
-        if event in to_late:
-            return early, _way(effect, event, order.late), event
-        known = [(later - to_late[other], other) for other, later in near.get(event, ()) if other in to_late]
-        if not known or self.graph.root[event]:
-            return None
-        other = min(known)[1]
-        more = self.race(self._lemma_orders[event, other])
-        return more and (early + more[0], _way(effect, other, order.late) + more[1], more[2])
+        early: List[int] = []
+        late: List[int] = []
+        while True:
+            near, event = self._behind(order.early)[0], order.early
+            _, to_late, effect, back = self._sweep(order, LONG, near, self._ends)
+            while event in back:
+                early.append(event)
+                event = back[event][0]
+            if event in to_late:
+                return early, late + _way(effect, event, order.late), event
+            known = [(later - to_late[other], other) for other, later in near.get(event, ()) if other in to_late]
+            if not known or self.graph.root[event]:
+                return None
+            # (from here on the ways are those of the race that bounds the event)
+            late += _way(effect, min(known)[1], order.late)
+            order = self._lemma_orders[event, min(known)[1]]
 
     def _inside(self, order: Order, depth: int, lemmas: Lemmas) -> Tuple[List[int], List[int]]:
         """The events of a window, the later ones first, and those at its edge."""
