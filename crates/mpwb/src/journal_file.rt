@@ -17,6 +17,8 @@ pub(crate) struct JournalFile<'a> {
 }
 
 impl<'a> JournalFile<'a> {
+    ghost use Rattle.std.specs.Prelude.{◌≡◌, ◌<◌, ◌≤◌, length, IfSome};
+
     /// The file that was opened at a path. What it takes is on the disk before it answers, if that is asked for.
     pub(crate) fn new(
         files: &'a HostRuntime,
@@ -33,14 +35,20 @@ impl<'a> JournalFile<'a> {
         }
     }
 
-    /// Writes bytes from the front, and returns how many; `None` if that fails.
-    fn write(&mut self, bytes: &[u8]) -> Option<usize> {
+    /// Writes bytes from the front, and returns how many; `None` if that fails, or if none is written.
+    fn write(&mut self, bytes: &[u8]) -> Option<usize>
+        ensures count { IfSome result (λ n. (0 < n) × (n ≤ length bytes.now)) }
+        ensures faults { self.new.faults ≡ self.old.faults }
+    {
         let there = fs::metadata(self.files, self.path).ok()?;
         let opened = self.file.metadata().ok()?;
         if !is_same(&there, &opened) {
             return None;
         }
         let count = self.file.write(bytes).ok()?;
+        if count == 0 {
+            return None;
+        }
         if self.is_synced {
             self.file.sync_data().ok()?;
         }
@@ -57,8 +65,8 @@ impl Sink for JournalFile<'_> {
 
     fn put(&mut self, bytes: &[u8]) -> Result<usize, Failed> {
         match self.write(bytes) {
-            Some(count) if count > 0 => Ok(count),
-            _ => {
+            Some(count) => Ok(count),
+            None => {
                 self.faults = self.faults.saturating_add(1);
                 Err(Failed)
             }

@@ -7,7 +7,7 @@ use Rattle.mp_session.specs.contracts.session.Session
 use Rattle.mp_session.proofs.session.Session.TheSendSync as session
 use Rattle.mpwb.proofs.live_desk.serve_lines.Goals as goal
 
--- a search that goes down through the session and the journal runs out of steps, so the session's part is given
+-- a search that goes down through the session runs out of steps, so its part is given
 pub serve_live-requires-send-S : goal.serve_live-requires-send-S
 serve_live-requires-send-S g c κs =
     let netlist : IsSend (Session.the_row OpenGate.the_row ghosts) = session.the_send OpenGate.the_row ghosts gate.the_send in
