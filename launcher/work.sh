@@ -9,15 +9,19 @@ leash=() # stands before a command that ends with whoever has started it, where 
 
 find_leash() { if setpriv --pdeathsig KILL true 2>/dev/null; then leash=(setpriv --pdeathsig KILL); fi; }
 
+# (an interrupt waits until it is known what has to be removed)
 begin_work() {
+    local is_ended=""
     if [ -n "$room" ]; then return; fi
-    if ! room=$(mktemp -d 2>/dev/null); then
-        room=""
+    trap 'is_ended=yes' INT TERM HUP
+    room=$(trap '' INT TERM HUP && mktemp -d 2>/dev/null) || room=""
+    trap end_work EXIT
+    trap 'exit 130' INT TERM HUP
+    if [ -n "$is_ended" ]; then exit 130; fi
+    if [ -z "$room" ]; then
         echo "mpwb: can't make a folder in ${TMPDIR:-/tmp}: the variable TMPDIR has to name a folder that takes files" >&2
         exit 3
     fi
-    trap end_work EXIT
-    trap 'exit 130' INT TERM HUP
     touch "$room/began"
 }
 
@@ -36,15 +40,18 @@ end_process() {
     wait "$1" 2>/dev/null || true
 }
 
-# Ends a group of processes. It first removes what it made; if that takes longer than two seconds it is killed.
+# Ends a group of processes, once it is one. It first removes what it made; if that takes longer than two seconds it is killed.
 end_group() {
-    local tenths
-    kill -- "-$1" 2>/dev/null || true
+    local tenths is_told=""
     for ((tenths = 0; tenths < 20; tenths++)); do
-        if ! kill -0 -- "-$1" 2>/dev/null; then return 0; fi
+        if [ -z "$is_told" ] && kill -- "-$1" 2>/dev/null; then
+            is_told=yes
+        elif ! kill -0 "$1" 2>/dev/null && ! kill -0 -- "-$1" 2>/dev/null; then
+            return 0
+        fi
         sleep 0.1
     done
-    kill -KILL -- "-$1" 2>/dev/null || true
+    kill -KILL -- "$1" "-$1" 2>/dev/null || true
 }
 
 # puts a program in its place, which may be that of one that runs; it is as old as what it was made from
