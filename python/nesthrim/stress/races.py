@@ -8,6 +8,7 @@ all.
 from __future__ import annotations
 
 import heapq
+import time as clock
 from dataclasses import dataclass, field, replace
 from typing import TYPE_CHECKING, Dict, Iterator, List, Optional, Sequence, Tuple
 
@@ -16,12 +17,16 @@ from .answer import number
 from .delays import Delay, Ranges, Spread
 from .graph import NONE, Unfoldable
 from .orders import Order
+from .refine import Deadline
 from .search import nearest
 from .timing import Timing
 from .windows import Entry
 
 if TYPE_CHECKING:
     from ..netlist import Netlist
+
+# after so many seconds of the processor tolerances are told as the sums tell them: then a transfer may tolerate more
+SECONDS = 20
 
 # the spread at which the chains are chosen: where several causes come at once, those that matter at a small spread
 LOOK = 1
@@ -117,7 +122,8 @@ def races(netlist: Netlist) -> Races:
         return Races((), "", str(reason))
     ends = timing.ends(Ranges(netlist, timing.delays, Spread(LOOK), timing.units))
     entries = timing.windows.bounds(ends, timing.graph.times(list(ends.low)), timing.last(Spread(0)))
-    found = [_least(timing, classes) for (_, rule), classes in entries.items() if rule == "setup"]
+    end = clock.process_time() + SECONDS
+    found = [_least(timing, classes, lambda: clock.process_time() > end) for (_, rule), classes in entries.items() if rule == "setup"]
     return Races(tuple(sorted(found, key=lambda race: (_tolerance(race), race.bundle))))
 
 
@@ -125,14 +131,14 @@ def _tolerance(race: Race) -> float:
     return race.tolerance if race.tolerance is not None else float("inf")
 
 
-def _least(timing: Timing, classes: Sequence[Entry]) -> Race:
+def _least(timing: Timing, classes: Sequence[Entry], over: Deadline) -> Race:
     """The race that tolerates least, of one transfer of each of the weakest classes of a bundle."""
     weakest = heapq.nsmallest(_WALKED, classes, key=lambda entry: (entry.margin, entry.members[0].early))
     found = sorted((race for entry in weakest for race in _races(timing, entry.members[0])), key=lambda race: (_tolerance(race), race.at))
     best = found[0] if _tolerance(found[0]) == float("inf") else None
     for race in found[: _MEASURED if len(timing.graph.time) > _MANY else None]:
         if best is None or _tolerance(race) < _tolerance(best):
-            real = replace(race, tolerance=_measured(timing, race))
+            real = race if over() else replace(race, tolerance=_measured(timing, race))
             best = real if best is None or _tolerance(real) < _tolerance(best) else best
     assert best is not None
     return best
