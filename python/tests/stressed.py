@@ -235,7 +235,7 @@ def accumulator(horizon: int = 300) -> Netlist:
 
 
 def fifo(stages: int, horizon: int, slow: int = 0, match: int = 12) -> Netlist:
-    """A FIFO with a source and a sink. Its stage `slow`, if that isn't 0, has logic of 12 units."""
+    """A FIFO with a source and a sink. Stage number `slow`, if that isn't 0, has logic of 12 units."""
     n = Netlist(horizon=horizon)
     req, ack, data = n.wire("r"), n.wire("k"), n.wire("d", width=16)
     made = [FifoStage(match=4, logic=4, add=1, setup=1) for _ in range(stages)]
