@@ -49,8 +49,10 @@ impl<'a> JournalFile<'a> {
         if count == 0 {
             return None;
         }
-        if self.is_synced {
-            self.file.sync_data().ok()?;
+        if self.is_synced && self.file.sync_data().is_err() {
+            // else the next desk would make an edit that was refused
+            self.file.set_len(there.len()).ok()?;
+            return None;
         }
         Some(count)
     }
