@@ -34,8 +34,8 @@ _NO_LOCK = 3
 class Seat(Talk):
     """Somebody at a seat of a live desk, as "designer-1" or "viewer-2", that was started by `mpwb desk FILE --at FOLDER`.
 
-    A designer edits and asks; a viewer asks, and edits are refused (22 NotADesigner). `NoSeat` if no desk runs at the folder, the seat is taken,
-    nobody serves it within `seconds`, or a line isn't written and answered within them.
+    A designer edits and asks; a viewer asks, and edits are refused (22 NotADesigner). Edits that the desk can't keep are refused too (24 NotKept).
+    `NoSeat` if no desk runs at the folder, the seat is taken, nobody serves it within `seconds`, or a line isn't written and answered within them.
     """
 
     def __init__(self, folder: Path, name: str, seconds: float = 60.0, program: Optional[Program] = None) -> None:

@@ -20,7 +20,12 @@ T = TypeVar("T", bound="Talk")
 
 _ACCEPTED = re.compile(r"accepted (\d+)\n")
 _FAULT = re.compile(r"(refused|unread) (\d+) ([A-Z]\w*)(?: (\d+) (\d+) ([A-Z]\w*))?\n")
-_MEANINGS = {3: "no wire has this name", 22: "a viewer asks, and edits nothing", 23: "only a session of `play` knows this"}
+_MEANINGS = {
+    3: "no wire has this name",
+    22: "a viewer asks, and edits nothing",
+    23: "only a session of `play` knows this",
+    24: "the desk can't keep it",
+}
 
 
 def _fault_in(answer: str, line: str) -> Optional[Fault]:

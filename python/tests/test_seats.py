@@ -52,6 +52,16 @@ class Seats(Case):
                 with desk.seat("designer-1") as seat:
                     self.assertEqual(number, seat.edit(f"delay c1 0 {number}"))
 
+    def test_an_edit_that_is_not_kept(self) -> None:
+        with Desk(two_stages(), self.folder, designers=1, viewers=0) as desk:
+            with desk.seat("designer-1") as seat:
+                self.assertEqual(1, seat.edit("delay c1 0 4"))
+                os.remove(os.path.join(self.folder, "edits"))
+                fault = self.fault(Refused, lambda: seat.edit("delay c1 0 5"))
+                self.assertEqual((24, "NotKept", "the desk can't keep it"), (fault.code, fault.name, fault.meaning))
+                self.assertEqual(["1 delay c1 0 4"], [str(edit) for edit in seat.edits()])
+            self.fault(ProgramFailed, desk.end)
+
     def test_threads_at_their_seats(self) -> None:
         with Desk(two_stages(), self.folder, designers=2, viewers=2) as desk:
 
