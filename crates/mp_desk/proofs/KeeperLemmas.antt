@@ -1,6 +1,6 @@
 -- What a call that succeeded or failed tells.
-use Rattle.std.proofs.Common.{◌≡◌, ◌⊎◌, inl, inr, Bool, true, false, Result, Ok, Err, is_err, ⊎_elim, subst, sym}
-use Rattle.std.specs.Prelude.{OnOk, OnErr, IfErr}
+use Rattle.std.proofs.Common.{◌≡◌, ◌⊎◌, inl, inr, Bool, true, false, Result, Ok, Err, is_err, subst, sym}
+use Rattle.std.specs.Prelude.{OnOk, OnErr}
 use Rattle.mp_records.specs.declared.edit.Edit.{Edit}
 use Rattle.mp_records.specs.declared.edit_error.EditError.TheVariants.{OutOfMemory}
 use Rattle.mp_netlist.specs.Circuit.{Circuit}

@@ -8,7 +8,7 @@ use Rattle.mp_streams.specs.Outgoing.{Outgoing}
 use Rattle.mp_streams.specs.WriteErrors.{Writes}
 use Rattle.mp_streams.specs.declared.write_error.WriteError.{WriteError}
 use Rattle.mp_text.specs.declared.question.Question.{Question}
-use Rattle.mp_text.specs.declared.script_line.Line.TheVariants.{Empty, Ask}
+use Rattle.mp_text.specs.declared.script_line.Line.TheVariants.{Empty}
 use Rattle.mp_text.specs.ScriptLines.{line_at}
 use Rattle.mp_version.specs.Stories.{Story}
 use Rattle.mp_desk.specs.Extending.{Extends}
@@ -19,7 +19,7 @@ use Rattle.mp_seats.specs.declared.refusal.Refusal.TheVariants as refusals
 use Rattle.mp_seats.specs.declared.reply.Reply.{Reply}
 use Rattle.mp_seats.specs.declared.reply.Reply.TheVariants as replies
 use Rattle.mp_seats.specs.Widths.{written_length}
-use Rattle.mp_seats.specs.Replies.{Writing, signed_writing, IsEditLine, IsQuestionLine, IsAnswerAt, IsRefusal, IsRefusalAt, IsReadRefusal, IsReadAnswer}
+use Rattle.mp_seats.specs.Replies.{Writing, signed_writing, IsEditLine, IsQuestionLine, IsRefusal, IsRefusalAt, IsReadRefusal, IsReadAnswer}
 use Rattle.mp_seats.specs.Steps.{Seated, with_seen, with_read, with_refusal, AddsRead, Submits, IsRefusedLine, IsStep, IsSignedStep, PutsEdit, PutsAsked}
 
 -- an edit that was refused

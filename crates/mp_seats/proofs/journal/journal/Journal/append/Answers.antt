@@ -1,4 +1,4 @@
-use Rattle.std.proofs.Common.{◌≡◌, ◌++◌, ◌∷◌, [], false, true, is_err, subst, sym, ap, ◌∙◌, rules}
+use Rattle.std.proofs.Common.{◌≡◌, ◌++◌, ◌∷◌, [], false, true, is_err, subst, sym, rules}
 use Rattle.mp_text.specs.edit_lines.EditLines.{edit_text}
 use Rattle.mp_seats.specs.journal.Journals.{Journal, Passes}
 use Rattle.mp_seats.proofs.lemmas.journal.JournalLemmas.{continued, torn_at}
