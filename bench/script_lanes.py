@@ -8,7 +8,8 @@ import time
 from script_copy import wait_for
 from seat_checks import SECONDS, Wrong, expect
 
-sys.path.insert(0, f"{os.path.dirname(os.path.dirname(os.path.abspath(__file__)))}/launcher")
+TOP = os.path.dirname(os.path.dirname(os.path.abspath(__file__)))
+sys.path.insert(0, f"{TOP}/launcher")
 sys.dont_write_bytecode = True  # (what is installed is a copy of that folder)
 import lanes  # noqa: E402
 
@@ -57,6 +58,13 @@ def expect_lanes():
     served = [nice[name] for name in ("low", "beside", "middle", "top", "aside", "last")]
     expect("who is served first", (mine, sorted(served), True), (served[0], served, served[-1] > mine or mine == 19))
     expect("how many ran at once", True, 2 <= ample.most <= 4)
+    with open(f"{TOP}/crates.txt", encoding="utf-8") as file:
+        crates = {line.partition(":")[0] for line in file}
+    expect("crates whose seconds are known", set(), {*lanes.SECONDS} - crates)
+    # mp_request has the most lines of all crates, and mp_near more seconds behind it
+    tasks = {("mp_near", "proof"): ([], 1863, 1e9), ("mpwb", "proof"): ([("mp_near", "proof")], 1174, 1e9), ("mp_request", "proof"): ([], 4695, 1e9)}
+    behind = lanes.seconds_behind(tasks)
+    expect("seconds and not lines say who is first", ("mp_near", "proof"), max(behind, key=behind.get))
     for memory in (1e9, 0.5e9):
         short = Done(memory)
         expect(f"with {memory} bytes", (1, {1}), (short.most, {had[0] for had in short.had.values()}))

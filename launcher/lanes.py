@@ -31,13 +31,28 @@ MOST_JOBS = 8  # more seldom help
 NICEST = 19
 BYTES_OF_A_CHECK = 5_000_000_000  # which no check by one job takes
 
+# the seconds of a processor that the proof of each crate took when docs/PERFORMANCE.md was measured. A line of one takes five times as long as of another
+SECONDS = {
+    "mp_streams": 91, "mp_wave": 168, "mp_modules": 116, "mp_records": 232, "mp_netlist": 466, "mp_model": 237, "mp_kernel": 271, "mp_partition": 316,
+    "mp_simulation": 359, "mp_version": 172, "mp_phase": 242, "mp_text": 587, "mp_engine": 553, "mp_depend": 164, "mp_active": 308, "mp_redo": 859,
+    "mp_near": 286, "mp_session": 169, "mp_desk": 674, "mp_report": 142, "mp_questions": 418, "mp_check": 207, "mp_picture": 508, "mp_exports": 416,
+    "mp_seats": 676, "mp_commands": 505, "mp_request": 428, "mpwb": 536,
+}  # fmt: skip
+SECONDS_OF_A_LINE = 0.17  # of other crates
 
-def lines_behind(tasks: Dict[Key, Task]) -> Dict[Key, int]:
-    """The lines of the longest chain of tasks that begins with each, itself included. (A task comes after those that it waits for.)"""
-    behind = {key: 0 for key in tasks}
+
+def seconds_of(key: Key, lines: int) -> float:
+    """How long a task takes one processor, as far as is known beforehand."""
+    others = SECONDS_OF_A_LINE * lines
+    return SECONDS.get(key[0], others) if key[1] == "proof" else others
+
+
+def seconds_behind(tasks: Dict[Key, Task]) -> Dict[Key, float]:
+    """The seconds of the longest chain of tasks that begins with each, itself included. (A task comes after those that it waits for.)"""
+    behind = {key: 0.0 for key in tasks}
     for key in reversed([*tasks]):
         waits, lines = tasks[key][:2]
-        behind[key] += lines
+        behind[key] += seconds_of(key, lines)
         for before in waits:
             behind[before] = max(behind[before], behind[key])
     return behind
@@ -67,7 +82,7 @@ class Lanes:
 
     def __init__(self, tasks: Dict[Key, Task], processors: int, memory: float) -> None:
         self.tasks, self.processors, self.memory = tasks, processors, memory
-        self.behind = lines_behind(tasks)
+        self.behind = seconds_behind(tasks)
         self.left = sorted(tasks, key=lambda it: -self.behind[it])
         self.rank = {key: at for at, key in enumerate(self.left)}
         self.running: Dict[Future[Any], Tuple[Key, float]] = {}
