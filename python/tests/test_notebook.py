@@ -6,6 +6,7 @@ import ast
 import contextlib
 import io
 import os
+import re
 import xml.etree.ElementTree
 from typing import Any, Dict, List, Tuple
 
@@ -15,7 +16,7 @@ from tests.support import EXAMPLES, Case
 def cells() -> List[Tuple[str, str]]:
     """The cells of code, and what each prints."""
     with open(os.path.join(EXAMPLES, "notebook.py"), encoding="utf-8") as file:
-        texts = file.read().split("# %%")[1:]
+        texts = re.split(r"^# %%", file.read(), flags=re.MULTILINE)[1:]
     codes = [text.partition("\n")[2] for text in texts if not text.startswith(" [markdown]")]
     return [(code, "".join(f"{line[3:]}\n" for line in code.splitlines() if line.startswith("#> "))) for code in codes]
 

@@ -4,18 +4,21 @@ from __future__ import annotations
 
 import csv
 import io
+import os
 import pickle
+import shutil
 import sys
+import tempfile
 import unittest
 import xml.etree.ElementTree
 from typing import Any, Dict, List
 from unittest import mock
 
-from nesthrim import Netlist, PackageMissing, Page, Session
+from nesthrim import Netlist, PackageMissing, Page, Program, Refused, Session, find_program
 from nesthrim.answers.measure import read_measure
 from nesthrim.answers.report import read_check
 from nesthrim.answers.waves import read_wave, read_waves
-from tests.support import Case, example, examples, has
+from tests.support import TOP, Case, example, examples
 from tests.test_netlist import ALL_KINDS, all_kinds
 
 try:
@@ -151,10 +154,28 @@ class Notebooks(Case):
         self.assertIn('<iframe srcdoc="&lt;p&gt;a &quot;page&quot; &amp; more&lt;/p&gt;"', page._repr_html_())
         self.assertEqual("<page of 22 bytes>", repr(page))
 
-    @unittest.skipUnless(has("page"), "only the script ./mpwb makes pages")
     def test_the_script_makes_pages(self) -> None:
         n = Netlist.read(example("slow-stage.net"))
-        self.assertIn(str(n), str(n.page()))
-        with Session(n) as session:
-            session.edit("delay c3 0 6")
-            self.assertIn("> q3/6", str(session.page()))
+        with tempfile.TemporaryDirectory() as folder:
+            n.program = script_over(find_program(), folder)
+            page = n.page()
+            self.assertIn(str(n), page.text)
+            page.save(os.path.join(folder, "page.html"))
+            with open(os.path.join(folder, "page.html"), encoding="utf-8") as file:
+                self.assertEqual(str(page), file.read())
+            with Session(n) as session:
+                session.edit("delay c3 0 6")
+                self.assertIn("> q3/6", session.page().text)
+            n.module("c3").delay = 0
+            self.assertEqual(8, self.fault(Refused, n.page).code)
+
+
+def script_over(program: Program, folder: str) -> Program:
+    """The script `./mpwb`, as it is installed over a compiled program; the program itself if it is the script."""
+    if program.is_script():
+        return program
+    for part in ("launcher", "viewer"):
+        shutil.copytree(os.path.join(TOP, part), os.path.join(folder, part))
+    os.mkdir(os.path.join(folder, "bin"))
+    os.symlink(program.path, os.path.join(folder, "bin", "mpwb"))
+    return Program(shutil.copy(os.path.join(TOP, "mpwb"), folder))
