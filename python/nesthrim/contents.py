@@ -102,7 +102,7 @@ class Contents(Builder):
         if isinstance(thing, Thing):
             thing._owner = self
 
-    def _note(self, thing: Statement) -> None:
+    def _note(self, thing: Union[Thing, Stimulus]) -> None:
         """Takes note of where a thing was made or changed."""
         self._made_at[type(thing).__name__, _key(thing)] = _caller()
         self._revision += 1
@@ -112,7 +112,9 @@ class Contents(Builder):
             return self._wires
         if isinstance(thing, Module):
             return self._modules
-        return self._stimuli if isinstance(thing, Stimulus) else self._bundles
+        if isinstance(thing, Stimulus):
+            return self._stimuli
+        return self._bundles
 
     def _set_stimulus(self, wire: str, values: Optional[Pairs]) -> None:
         if values is not None:
@@ -157,7 +159,8 @@ class Contents(Builder):
         wires = {thing.name for thing in gone if isinstance(thing, Wire)}
         if not wires:
             return
-        for user in (*self._modules.values(), *self._bundles.values()):
+        users: List[Union[Module, Bundle]] = [*self._modules.values(), *self._bundles.values()]
+        for user in users:
             used = next((name for name in _wires_of(user) if name in wires), None)
             if used is not None and id(user) not in going:
                 meaning = f"{type(user).__name__.lower()} {user.name} names this wire; remove both at once, or change that first"
@@ -233,7 +236,7 @@ class Contents(Builder):
                 thing._owner = self
 
 
-def _key(thing: Statement) -> str:
+def _key(thing: Union[Thing, Stimulus]) -> str:
     return thing.wire if isinstance(thing, Stimulus) else thing.name
 
 

@@ -5,7 +5,7 @@ from __future__ import annotations
 from typing import Any, Dict, NamedTuple, Optional, Sequence, Tuple, Union
 
 from .errors import UnknownName
-from .things import Thing, whole
+from .things import Settable, Thing, whole
 from .wires import Bundle, End, Stimulus, Wire, port_of
 
 Inputs = Tuple[Tuple[str, int], ...]
@@ -184,13 +184,11 @@ class Pin:
     def _port(self) -> Tuple[Optional[str], int]:
         return self.module.inputs[self.number] if self.is_input else self.module.outputs[self.number]
 
-    @property
-    def wire(self) -> Optional[str]:
+    def _get_wire(self) -> Optional[str]:
         """The name of its wire. Set to a wire or a name, it keeps its delay; set to `wire / D` it has the delay D."""
         return self._port()[0]
 
-    @wire.setter
-    def wire(self, end: Optional[End]) -> None:
+    def _put_wire(self, end: Optional[End]) -> None:
         if end is None:
             if self.is_input:
                 raise ValueError(f"an input reads a wire: {self!r} can't be without one")
@@ -200,6 +198,8 @@ class Pin:
         if port.bubble:
             raise ValueError(f"{self!r} can't be inverted so: `bubbles` of a C says which inputs are")
         self.module._set_port(self.is_input, self.number, port.wire, self.delay if port.delay is None else port.delay)
+
+    wire = Settable(_get_wire, _put_wire)
 
     @property
     def delay(self) -> int:

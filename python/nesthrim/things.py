@@ -4,15 +4,32 @@ from __future__ import annotations
 
 from abc import ABC, abstractmethod
 from operator import index
-from typing import TYPE_CHECKING, Any, Optional, Tuple
+from typing import TYPE_CHECKING, Any, Callable, Generic, Optional, Tuple, TypeVar
 
 if TYPE_CHECKING:
     from .contents import Contents
+
+G = TypeVar("G")
+S = TypeVar("S")
 
 
 def whole(number: int) -> int:
     """A whole number of any type. `TypeError` for one that isn't, as 2.0."""
     return int(index(number))
+
+
+class Settable(Generic[G, S]):
+    """A property that may be set to more than it gives, as to a wire where it gives the wire's name."""
+
+    def __init__(self, get: Callable[[Any], G], put: Callable[[Any, S], None]) -> None:
+        self._get, self._put = get, put
+        self.__doc__ = get.__doc__
+
+    def __get__(self, thing: Any, kind: Any = None) -> G:
+        return self._get(thing) if thing is not None else self  # type: ignore[return-value]
+
+    def __set__(self, thing: Any, value: S) -> None:
+        self._put(thing, value)
 
 
 class Thing(ABC):

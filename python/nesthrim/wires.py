@@ -7,7 +7,7 @@ from typing import Any, Iterable, Mapping, Optional, Tuple, Union
 
 from .errors import UnknownName
 from .names import plain_name
-from .things import Thing, whole
+from .things import Settable, Thing, whole
 
 Pairs = Tuple[Tuple[int, int], ...]
 Values = Union[Mapping[int, int], Iterable[Tuple[int, int]]]
@@ -75,17 +75,17 @@ class Wire(Thing):
         self._level = whole(level)
         self._changed()
 
-    @property
-    def stimulus(self) -> Optional[Pairs]:
+    def _get_stimulus(self) -> Optional[Pairs]:
         """What is set on it from outside, as pairs of a time and a level; `None` if nothing is. It can be set as `stim` sets it, or to `None`."""
         found = None if self._owner is None else self._owner.known_stimuli.get(self._name)
         return None if found is None else found.values
 
-    @stimulus.setter
-    def stimulus(self, values: Optional[Values]) -> None:
+    def _put_stimulus(self, values: Optional[Values]) -> None:
         if self._owner is None:
             raise UnknownName(3, "NoSuchWire", word=self._name, meaning="no netlist has this wire, so nothing can be set on it")
         self._owner._set_stimulus(self._name, None if values is None else pairs_of(values))
+
+    stimulus = Settable(_get_stimulus, _put_stimulus)
 
     def __invert__(self) -> Port:
         return Port(self._name, None, True)
@@ -105,6 +105,26 @@ AnyWire = Union[str, Wire]
 End = Union[str, Wire, Port]
 
 
+def name_of(wire: AnyWire) -> str:
+    """The name of a wire that is given by its name or as an object."""
+    return wire.name if isinstance(wire, Wire) else plain_name(wire)
+
+
+def _wire_of(slot: str, doc: str) -> Settable[str, AnyWire]:
+    """A wire of a bundle."""
+
+    def get(bundle: Bundle) -> str:
+        name: str = getattr(bundle, slot)
+        return name
+
+    def put(bundle: Bundle, wire: AnyWire) -> None:
+        setattr(bundle, slot, name_of(wire))
+        bundle._changed()
+
+    get.__doc__ = doc
+    return Settable(get, put)
+
+
 class Bundle(Thing):
     """A request, an acknowledge and data that belong together; the data have to stand more than `setup` units before each request.
 
@@ -117,35 +137,9 @@ class Bundle(Thing):
         super().__init__(name)
         self._req, self._ack, self._data, self._setup = req, ack, data, setup
 
-    @property
-    def req(self) -> str:
-        """The name of the request."""
-        return self._req
-
-    @req.setter
-    def req(self, wire: AnyWire) -> None:
-        self._req = name_of(wire)
-        self._changed()
-
-    @property
-    def ack(self) -> str:
-        """The name of the acknowledge."""
-        return self._ack
-
-    @ack.setter
-    def ack(self, wire: AnyWire) -> None:
-        self._ack = name_of(wire)
-        self._changed()
-
-    @property
-    def data(self) -> str:
-        """The name of the data."""
-        return self._data
-
-    @data.setter
-    def data(self, wire: AnyWire) -> None:
-        self._data = name_of(wire)
-        self._changed()
+    req = _wire_of("_req", "The name of the request.")
+    ack = _wire_of("_ack", "The name of the acknowledge.")
+    data = _wire_of("_data", "The name of the data.")
 
     @property
     def setup(self) -> int:
@@ -163,11 +157,6 @@ class Bundle(Thing):
 
     def _fields(self) -> Tuple[Any, ...]:
         return self._name, self._req, self._ack, self._data, self._setup
-
-
-def name_of(wire: AnyWire) -> str:
-    """The name of a wire that is given by its name or as an object."""
-    return wire.name if isinstance(wire, Wire) else plain_name(wire)
 
 
 def port_of(end: End) -> Port:

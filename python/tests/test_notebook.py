@@ -24,7 +24,10 @@ def cells() -> List[Tuple[str, str]]:
 def run(code: str, names: Dict[str, Any]) -> Tuple[str, Any]:
     """What a cell prints, and the value of the expression that it ends with."""
     tree = ast.parse(code)
-    last = ast.Expression(tree.body.pop().value) if isinstance(tree.body[-1], ast.Expr) else None
+    end = tree.body[-1]
+    last = ast.Expression(end.value) if isinstance(end, ast.Expr) else None
+    if last is not None:
+        tree.body.pop()
     printed = io.StringIO()
     with contextlib.redirect_stdout(printed):
         exec(compile(tree, "notebook", "exec"), names)

@@ -169,7 +169,8 @@ class Removals(Case):
 
 class Copies(Case):
     def test_a_copy_is_a_netlist_of_its_own(self) -> None:
-        for made in (lambda n: n.copy(), copy.copy, copy.deepcopy, lambda n: pickle.loads(pickle.dumps(n))):
+        ways: List[Callable[[Netlist], Netlist]] = [lambda n: n.copy(), copy.copy, copy.deepcopy, lambda n: pickle.loads(pickle.dumps(n))]  # type: ignore[no-any-return]
+        for made in ways:
             n = all_kinds()
             copied = made(n)
             self.assertEqual(ALL_KINDS, str(copied))

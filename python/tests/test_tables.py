@@ -3,6 +3,7 @@
 from __future__ import annotations
 
 import csv
+import importlib
 import io
 import os
 import pickle
@@ -22,7 +23,7 @@ from tests.support import TOP, Case, example, examples
 from tests.test_netlist import ALL_KINDS, all_kinds
 
 try:
-    import networkx
+    networkx: Any = importlib.import_module("networkx")
 except ImportError:
     networkx = None
 
@@ -83,7 +84,8 @@ class Rows(Case):
 
     def test_an_answer_goes_to_another_process(self) -> None:
         n = Netlist.read(example("slow-stage.net"))
-        for answer in (n.waves(), n.why("q1"), n.check(), n.latency("q1", "q3")):
+        answers: List[Any] = [n.waves(), n.why("q1"), n.check(), n.latency("q1", "q3")]
+        for answer in answers:
             self.assertEqual(answer.rows(), pickle.loads(pickle.dumps(answer)).rows())
 
 

@@ -51,7 +51,8 @@ class Latency:
 
 def latency_between(first: Wave, second: Wave, start: int, end: int) -> Latency:
     """The latency from one wave to another, of the changes at the times from `start` to before `end`."""
-    asked, pairs = first.times, []
+    asked = first.times
+    pairs: List[Tuple[int, int]] = []
     for answer in second.times:
         place = len(pairs)
         if place < len(asked) and asked[place] < answer:
