@@ -42,6 +42,8 @@ class Rows(Case):
         self.assertEqual([w, {**dict.fromkeys(w), "name": "v", "events": 0}], measure.wires.rows())
         b = {"name": "b", "requests": 2, "setup": 1, "least_response": 3, "most_response": 4, "late": None}
         self.assertEqual([b], measure.bundles.rows())
+        keys = dict.fromkeys(["sort", *w, *b])
+        self.assertEqual([{**keys, **w, "sort": "wire"}, {**keys, **b, "sort": "bundle"}], measure.rows()[::2])
 
     def test_rows_of_a_check(self) -> None:
         lines = ["9 bundle b setup", "22 bundle b late 4", "0 deadlock c3 waits for q4, c4 waits for q3", "note wire r is unused"]
@@ -70,7 +72,7 @@ class Rows(Case):
         for name in examples():
             n = Netlist.read(example(name))
             measure = n.measure()
-            for rows in (n.rows(), n.waves().rows(), n.check().rows(), measure.wires.rows(), measure.bundles.rows(), n.waits().rows()):
+            for rows in (n.rows(), n.waves().rows(), n.check().rows(), measure.rows(), measure.wires.rows(), measure.bundles.rows(), n.waits().rows()):
                 self.assertLessEqual(len({tuple(row) for row in rows}), 1)
 
     def test_the_modules_as_a_file_of_rows(self) -> None:

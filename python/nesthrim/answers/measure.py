@@ -114,6 +114,13 @@ class Measure:
         """The lines that `mpwb measure` writes."""
         return "".join(f"{line}\n" for line in (*self.wires.values(), *self.bundles.values()))
 
+    def rows(self) -> List[Row]:
+        """A row for each wire and each bundle: its `sort`, and the figures of both sorts, `None` where its sort has none. `wires` and `bundles` have
+        rows of their own."""
+        found = [{"sort": "wire", **row} for row in self.wires.rows()] + [{"sort": "bundle", **row} for row in self.bundles.rows()]
+        keys = dict.fromkeys(["sort", *WireMeasure._fields, "period", *BundleMeasure._fields])
+        return [{**keys, **row} for row in found]
+
     def wire(self, name: str) -> WireMeasure:
         """The measures of a wire."""
         return self.wires[name]
