@@ -14,6 +14,7 @@ from .answers.report import Check, Report, read_check, read_report
 from .answers.table import Items
 from .answers.waves import Wave, Waves, read_wave, read_waves
 from .answers.work import MadeEdit, Work, read_edits, read_version, read_work
+from .errors import ProgramFailed
 from .system import asking_the_system
 from .wires import AnyWire, name_of
 
@@ -21,6 +22,9 @@ from .wires import AnyWire, name_of
 END = 2**64 - 1
 
 Path = Union[str, "os.PathLike[str]"]
+
+# the status of a program that doesn't have the command
+_NO_COMMAND = 2
 
 # the first words of edits
 _EDITS = {"wire", "module", "stim", "bundle", "remove", "input", "output", "indelay", "delay", "clear", "batch"}
@@ -145,7 +149,12 @@ class Questions(ABC):
 
     def page(self) -> Page:
         """The waves as an HTML page, which a notebook shows. Only the script `./mpwb` makes one: `ProgramFailed` if MPWB names another program."""
-        return Page(self._run(["page"]))
+        try:
+            return Page(self._run(["page"]))
+        except ProgramFailed as fault:
+            if fault.status != _NO_COMMAND:
+                raise
+            raise ProgramFailed("only the script makes pages: set MPWB to the path of ./mpwb of a checkout of Nesthrim", fault.status, fault.said) from fault
 
     def latency(self, first: AnyWire, second: AnyWire, start: int = 0, end: int = END) -> Latency:
         """How long changes of the wire `first`, at the times from `start` to before `end`, take to be answered by changes of the wire `second`.

@@ -15,7 +15,7 @@ import xml.etree.ElementTree
 from typing import Any, Dict, List
 from unittest import mock
 
-from nesthrim import Netlist, PackageMissing, Page, Program, Refused, Session, find_program
+from nesthrim import Netlist, PackageMissing, Page, Program, ProgramFailed, Refused, Session, find_program
 from nesthrim.answers.measure import read_measure
 from nesthrim.answers.report import read_check
 from nesthrim.answers.waves import read_wave, read_waves
@@ -172,6 +172,12 @@ class Notebooks(Case):
                 self.assertIn("> q3/6", session.page().text)
             n.module("c3").delay = 0
             self.assertEqual(8, self.fault(Refused, n.page).code)
+
+    @unittest.skipIf(find_program().is_script(), "the program is the script")
+    def test_a_compiled_program_makes_no_pages(self) -> None:
+        fault = self.fault(ProgramFailed, all_kinds().page)
+        self.assertIn("only the script makes pages", str(fault))
+        self.assertEqual(2, fault.status)
 
 
 def script_over(program: Program, folder: str) -> Program:
