@@ -5,7 +5,7 @@ from __future__ import annotations
 import html
 import re
 from contextlib import contextmanager
-from typing import TYPE_CHECKING, Any, Dict, Iterable, Iterator, List, Optional, Sequence, Tuple
+from typing import TYPE_CHECKING, Any, Iterable, Iterator, List, Optional, Sequence, Tuple
 
 from .answers.table import Row, module_row
 from .contents import Contents
