@@ -129,6 +129,6 @@ def compare_commands(run, wrong):
 def compare_examples(wrong):
     """The table of examples in docs/COMMANDS.md has each of them, and no other."""
     documented = {name for cells in table("docs/COMMANDS.md", "Examples") for name in re.findall(r"`([^`]+)`", cells[0])}
-    there = {os.path.basename(path) for ending in ("net", "play", "desk") for path in glob.glob(f"{TOP}/examples/*.{ending}")}
+    there = {os.path.basename(path) for ending in ("net", "play", "desk", "py") for path in glob.glob(f"{TOP}/examples/*.{ending}")}
     if documented != there:
         wrong("docs/COMMANDS.md, Examples", sorted(documented - there), sorted(there - documented))

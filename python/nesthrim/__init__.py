@@ -13,8 +13,9 @@ All answers are those of the program `mpwb`, which is found as `find_program` sa
 """
 
 from .answers.causes import Event, PathPart, Step, Wait
+from .answers.latency import Latency
 from .answers.measure import BundleMeasure, Measure, WireMeasure
-from .answers.picture import Picture
+from .answers.picture import Page, Picture
 from .answers.report import Check, Deadlock, Finding, Late, Note, Report
 from .answers.waves import Wave, Waves
 from .answers.work import MadeEdit, Outcome, Work
@@ -26,8 +27,10 @@ from .errors import (
     Closed,
     Fault,
     NesthrimError,
+    NoEdit,
     NoSeat,
     OutOfMemory,
+    PackageMissing,
     ProgramFailed,
     ProgramMissing,
     Refused,
@@ -35,6 +38,7 @@ from .errors import (
     UnknownName,
     Unread,
 )
+from .modules import Module, Pin
 from .netlist import Netlist
 from .program import Program, find_program
 from .questions import END
@@ -43,14 +47,14 @@ from .session import Session
 from .stress import BundleStress, Differs, Fit, Limit, Moved, OpenOrder, Race, Races, Stress, Worst
 from .sweep import sweep
 from .variants import Variant
-from .wires import Bundle, Module, Port, Stimulus, Wire
+from .wires import Bundle, Port, Stimulus, Wire
 
 __version__ = "0.1.0"
 
 __all__ = [
     "END", "AnswerError", "BrokenPipe", "Bundle", "BundleMeasure", "BundleStress", "Check", "Closed", "Deadlock", "Desk", "Differs", "Event",
-    "Fault", "FifoStage", "Finding", "Fit", "Late", "Limit", "MadeEdit", "Measure", "Module", "Moved", "NesthrimError", "Netlist", "NoSeat", "Note",
-    "OpenOrder", "OutOfMemory", "Outcome", "Part", "PathPart", "Picture", "Port", "Program", "ProgramFailed", "ProgramMissing", "Race",
-    "Races", "Refused", "Report", "Seat", "Session", "Step", "Stimulus", "Stress", "SystemFailed", "UnknownName", "Unread", "Variant", "Wait", "Wave",
-    "Waves", "Wire", "WireMeasure", "Work", "Worst", "find_program", "sweep",
+    "Fault", "FifoStage", "Finding", "Fit", "Late", "Latency", "Limit", "MadeEdit", "Measure", "Module", "Moved", "NesthrimError", "Netlist", "NoEdit",
+    "NoSeat", "Note", "OpenOrder", "OutOfMemory", "Outcome", "PackageMissing", "Page", "Part", "PathPart", "Picture", "Pin", "Port", "Program",
+    "ProgramFailed", "ProgramMissing", "Race", "Races", "Refused", "Report", "Seat", "Session", "Step", "Stimulus", "Stress", "SystemFailed",
+    "UnknownName", "Unread", "Variant", "Wait", "Wave", "Waves", "Wire", "WireMeasure", "Work", "Worst", "find_program", "sweep",
 ]  # fmt: skip

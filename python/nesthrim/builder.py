@@ -3,12 +3,14 @@
 from __future__ import annotations
 
 from abc import abstractmethod
-from typing import TYPE_CHECKING, Tuple, Union
+from typing import TYPE_CHECKING, Optional, Tuple, overload
 
 from .circuits import Circuits
 from .errors import UnknownName
+from .modules import Module, Statement
 from .names import asked_name, find, plain_name
-from .wires import Bundle, Module, Statement, Stimulus, Values, Wire, pairs_of, whole
+from .things import whole
+from .wires import AnyWire, Bundle, Stimulus, Values, Wire, pairs_of
 
 if TYPE_CHECKING:
     from .netlist import Netlist
@@ -20,6 +22,8 @@ class Builder(Circuits):
     A name that is given as text is one of this builder's. A dot in it is written `_`. `Refused` (2 BadName) for what can't be a name, and
     (1 NameTaken) for one that is taken; all else is judged by the program when it is asked first.
     """
+
+    __slots__ = ()
 
     @property
     @abstractmethod
@@ -34,7 +38,10 @@ class Builder(Circuits):
         self._add(module)
         return module
 
-    def _wire_name(self, wire: Union[str, Wire]) -> str:
+    def _module(self, name: str) -> Module:
+        return find(self.netlist.known_modules, self._asked_name(name), "module")
+
+    def _wire_name(self, wire: AnyWire) -> str:
         return wire.name if isinstance(wire, Wire) else self._full_name(wire)
 
     def wire(self, name: str, width: int = 1, level: int = 0) -> Wire:
@@ -47,17 +54,31 @@ class Builder(Circuits):
         """New wires of one width and level."""
         return tuple(self.wire(name, width, level) for name in names)
 
-    def stim(self, wire: Union[str, Wire], values: Values) -> None:
+    def stim(self, wire: AnyWire, values: Values) -> None:
         """Sets a wire from outside: `values` has a level for each time, as {1: 1, 4: 0}. It takes the place of an earlier stimulus."""
         self._add(Stimulus(self._wire_name(wire), pairs_of(values)))
 
-    def events(self, wire: Union[str, Wire], *times: int) -> None:
+    def events(self, wire: AnyWire, *times: int) -> None:
         """Sets a wire of width 1 from outside so that it changes at each of these times."""
         found = self[wire] if isinstance(wire, str) else wire
         self.stim(found, [(time, (found.level + place) % 2) for place, time in enumerate(times, 1)])
 
-    def bundle(self, name: str, req: Union[str, Wire], ack: Union[str, Wire], data: Union[str, Wire], setup: int = 0) -> Bundle:
-        """A request, an acknowledge and data that belong together; the data have to stand more than `setup` units before each request."""
+    @overload
+    def bundle(self, name: str) -> Bundle: ...
+
+    @overload
+    def bundle(self, name: str, req: AnyWire, ack: AnyWire, data: AnyWire, setup: int = 0) -> Bundle: ...
+
+    def bundle(self, name: str, req: Optional[AnyWire] = None, ack: Optional[AnyWire] = None, data: Optional[AnyWire] = None, setup: int = 0) -> Bundle:
+        """The bundle of a name, which may be changed. `UnknownName` (5 NoSuchBundle) if there is none.
+
+        With wires it is a new one: a request, an acknowledge and data that belong together; the data have to stand more than `setup` units before
+        each request.
+        """
+        if req is None and ack is None and data is None:
+            return find(self.netlist.known_bundles, self._asked_name(name), "bundle")
+        if req is None or ack is None or data is None:
+            raise TypeError("a new bundle has a request, an acknowledge and data: n.bundle(name, req, ack, data, setup)")
         wires = [self._wire_name(wire) for wire in (req, ack, data)]
         bundle = Bundle(self._full_name(name), wires[0], wires[1], wires[2], whole(setup))
         self._add(bundle)
@@ -78,6 +99,8 @@ class Builder(Circuits):
 
 class Part(Builder):
     """A part of a netlist, whose names begin with a prefix."""
+
+    __slots__ = ("_netlist", "prefix")
 
     def __init__(self, netlist: Netlist, prefix: str) -> None:
         self._netlist = netlist

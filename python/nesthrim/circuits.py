@@ -10,7 +10,8 @@ from dataclasses import dataclass
 from typing import TYPE_CHECKING, List, Optional, Sequence, Union
 
 from .kinds import Kinds
-from .wires import Port, Wire, whole
+from .things import whole
+from .wires import Port, Wire
 
 if TYPE_CHECKING:
     from .builder import Part
@@ -36,6 +37,8 @@ class FifoStage:
 
 class Circuits(Kinds):
     """Adds whole circuits. Each method returns the parts that it has made; `part.q` is the wire `q` of a part."""
+
+    __slots__ = ()
 
     @abstractmethod
     def part(self, prefix: str) -> Part:

@@ -2,11 +2,11 @@
 
 from __future__ import annotations
 
-from typing import Any, Dict, Optional, Tuple
+from typing import Any, Dict, Optional, Sequence, Tuple
 
 
-# of a line so much is shown
-_MOST_SHOWN = 300
+# of a line so much is shown, and of differences so many
+_MOST_SHOWN, _MOST_DIFFERENCES = 300, 10
 
 
 def shortened(line: str) -> str:
@@ -60,6 +60,24 @@ class SystemFailed(NesthrimError, OSError):
 
 class Closed(NesthrimError):
     """A session, a seat or a variant is used after its end."""
+
+
+class NoEdit(NesthrimError):
+    """A difference of two netlists that no edits of a session make, as another horizon: `differences` has a line for each."""
+
+    def __init__(self, differences: Sequence[str]) -> None:
+        super().__init__(tuple(differences))
+        self.differences = tuple(differences)
+
+    def __str__(self) -> str:
+        many = len(self.differences) - _MOST_DIFFERENCES
+        more = f"; and {many} more" if many > 0 else ""
+        shown = "; ".join(self.differences[:_MOST_DIFFERENCES])
+        return f"no edits make this difference: {shown}{more}: open another session, Session(n), on the netlist as it is to be"
+
+
+class PackageMissing(NesthrimError, ImportError):
+    """A package of Python that this one does without, but not for what was asked."""
 
 
 class AnswerError(NesthrimError):

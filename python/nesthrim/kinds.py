@@ -3,10 +3,12 @@
 from __future__ import annotations
 
 from abc import ABC, abstractmethod
-from typing import Optional, Sequence, Tuple
+from typing import Optional, Sequence, Tuple, overload
 
 from .errors import Unread
-from .wires import End, Module, Port, port_of, whole
+from .modules import Module
+from .things import whole
+from .wires import End, Port, port_of
 
 
 class Kinds(ABC):
@@ -17,6 +19,8 @@ class Kinds(ABC):
     returns the module.
     """
 
+    __slots__ = ()
+
     @abstractmethod
     def _full_name(self, name: str) -> str:
         """The name in the netlist of what has this name here."""
@@ -24,6 +28,10 @@ class Kinds(ABC):
     @abstractmethod
     def _add_module(self, module: Module) -> Module:
         """Adds a module with full names."""
+
+    @abstractmethod
+    def _module(self, name: str) -> Module:
+        """The module that has this name here. `UnknownName` (4 NoSuchModule) if there is none."""
 
     def _port(self, end: End) -> Port:
         return port_of(self._full_name(end) if isinstance(end, str) else end)
@@ -36,8 +44,22 @@ class Kinds(ABC):
             raise ValueError(f"an output has no bubble: {port.wire} can't be inverted here")
         return port.wire, delay if port.delay is None else port.delay
 
-    def module(self, name: str, kind: str, ins: Sequence[End], outs: Sequence[Optional[End]], params: Sequence[int] = (), delay: int = 1) -> Module:
-        """A module of any kind, by its ports and parameters in the order of the kind. `Unread` (2 UnknownStatement) if the kind isn't a word."""
+    @overload
+    def module(self, name: str) -> Module: ...
+
+    @overload
+    def module(self, name: str, kind: str, ins: Sequence[End], outs: Sequence[Optional[End]], params: Sequence[int] = (), delay: int = 1) -> Module: ...
+
+    def module(
+        self, name: str, kind: str = "", ins: Sequence[End] = (), outs: Sequence[Optional[End]] = (), params: Sequence[int] = (), delay: int = 1
+    ) -> Module:
+        """The module of a name, which may be changed. `UnknownName` (4 NoSuchModule) if there is none.
+
+        With a kind it is a new module of this kind, by its ports and parameters in the order of the kind. `Unread` (2 UnknownStatement) if the kind
+        isn't a word.
+        """
+        if not (kind or ins or outs or params):
+            return self._module(name)
         if not (kind.isascii() and kind.isalnum()):
             raise Unread(2, "UnknownStatement", word=kind, meaning="a kind is a word, as BUF; `mpwb explain` lists them")
         ports = [self._port(end) for end in ins]

@@ -45,6 +45,10 @@ def find(things: Mapping[str, T], name: str, sort: str) -> T:
 def unknown(name: str, names: Iterable[str], sort: str) -> UnknownName:
     """The exception that tells that there is no wire, module or bundle of this name."""
     near = difflib.get_close_matches(asked_name(name), list(names), 1)
-    meaning = f"there is no {sort} of this name" + (f"; did you mean {near[0]!r}?" if near else "")
+    return not_there(name, sort, f"there is no {sort} of this name" + (f"; did you mean {near[0]!r}?" if near else ""))
+
+
+def not_there(name: str, sort: str, meaning: str) -> UnknownName:
+    """The exception for a wire, a module or a bundle that isn't there."""
     code, title = _NOTHING[sort]
     return UnknownName(code, title, word=name, meaning=meaning)

@@ -7,21 +7,24 @@ from abc import ABC, abstractmethod
 from typing import Any, Callable, Dict, Iterable, Optional, Sequence, Tuple, Union
 
 from .answers.causes import PathPart, Step, Wait, read_path, read_waits, read_why
+from .answers.latency import Latency, latency_between
 from .answers.measure import Measure, read_measure
-from .answers.picture import Picture
+from .answers.picture import Page, Picture
 from .answers.report import Check, Report, read_check, read_report
+from .answers.table import Items
 from .answers.waves import Wave, Waves, read_wave, read_waves
 from .answers.work import MadeEdit, Work, read_edits, read_version, read_work
-from .names import plain_name
+from .errors import ProgramFailed
 from .system import asking_the_system
-from .wires import Wire
+from .wires import AnyWire, name_of
 
 # a time above all horizons: the program reads it as the last time, and at the end of a range as the horizon
 END = 2**64 - 1
 
 Path = Union[str, "os.PathLike[str]"]
-AnyWire = Union[str, Wire]
 
+# the status of a program that doesn't have the command
+_NO_COMMAND = 2
 
 # the first words of edits
 _EDITS = {"wire", "module", "stim", "bundle", "remove", "input", "output", "indelay", "delay", "clear", "batch"}
@@ -59,11 +62,6 @@ READERS: Dict[str, Callable[[str, str], Any]] = {
 }
 
 
-def wire_name(wire: AnyWire) -> str:
-    """The name of a wire that is given by its name or as an object."""
-    return wire.name if isinstance(wire, Wire) else plain_name(wire)
-
-
 def write_file(path: Optional[Path], text: str) -> None:
     """Writes a text to a file, if one is named."""
     if path is not None:
@@ -78,13 +76,15 @@ class Questions(ABC):
     the netlist, and `AnswerError` if the answer can't be understood.
     """
 
+    __slots__ = ()
+
     @abstractmethod
     def _ask(self, words: Sequence[str]) -> str:
         """What the program writes for the words of a question."""
 
     @abstractmethod
-    def _draw(self, words: Sequence[str]) -> str:
-        """What the program's command `show` writes with these words behind it."""
+    def _run(self, words: Sequence[str]) -> str:
+        """What a command of the program, with these words, writes for the netlist as it is."""
 
     def ask(self, line: str) -> str:
         """The answer to a line of a script that asks, as "measure 0 100": the text that the program writes. `ValueError` for an edit."""
@@ -105,7 +105,7 @@ class Questions(ABC):
 
     def wave(self, wire: AnyWire) -> Wave:
         """The wave of one wire."""
-        wave: Wave = self._answer(["wave", wire_name(wire)])
+        wave: Wave = self._answer(["wave", name_of(wire)])
         return wave
 
     def report(self) -> Report:
@@ -123,29 +123,49 @@ class Questions(ABC):
         measure: Measure = self._answer(["measure", str(start), str(end)])
         return measure
 
-    def why(self, wire: AnyWire, time: int = END, steps: int = 20) -> Tuple[Step, ...]:
+    def why(self, wire: AnyWire, time: int = END, steps: int = 20) -> Items[Step]:
         """The chain of causes of the wire's level at a time, the last change first, of at most `steps` steps."""
-        why: Tuple[Step, ...] = self._answer(["why", wire_name(wire), str(time), str(steps)])
+        why: Items[Step] = self._answer(["why", name_of(wire), str(time), str(steps)])
         return why
 
-    def path(self, wire: AnyWire, time: int = END) -> Tuple[PathPart, ...]:
+    def path(self, wire: AnyWire, time: int = END) -> Items[PathPart]:
         """Where the time of this chain went: the modules that set the pace, the slowest first."""
-        path: Tuple[PathPart, ...] = self._answer(["path", wire_name(wire), str(time)])
+        path: Items[PathPart] = self._answer(["path", name_of(wire), str(time)])
         return path
 
-    def waits(self, time: int = END) -> Tuple[Wait, ...]:
+    def waits(self, time: int = END) -> Items[Wait]:
         """Which modules and bundles wait at a time."""
-        waits: Tuple[Wait, ...] = self._answer(["waits", str(time)])
+        waits: Items[Wait] = self._answer(["waits", str(time)])
         return waits
 
     def show(self, start: int = 0, end: int = END, wires: Iterable[AnyWire] = ()) -> str:
         """The timing diagram of a range, of these wires or of all, as text."""
-        return self._ask(["show", str(start), str(end), *map(wire_name, wires)])
+        return self._ask(["show", str(start), str(end), *map(name_of, wires)])
 
     def svg(self, start: int = 0, end: int = END, wires: Iterable[AnyWire] = (), columns: int = 72) -> Picture:
         """The timing diagram as an SVG picture, which a notebook shows."""
-        chosen = [f"--wire={wire_name(wire)}" for wire in wires]
-        return Picture(self._draw(["--svg", f"--from={start}", f"--to={end}", f"--columns={columns}", *chosen]))
+        chosen = [f"--wire={name_of(wire)}" for wire in wires]
+        return Picture(self._run(["show", "--svg", f"--from={start}", f"--to={end}", f"--columns={columns}", *chosen]))
+
+    def page(self) -> Page:
+        """The waves as an HTML page, which a notebook shows. Only the script `./mpwb` makes one: `ProgramFailed` if MPWB names another program."""
+        try:
+            return Page(self._run(["page"]))
+        except ProgramFailed as fault:
+            if fault.status != _NO_COMMAND:
+                raise
+            raise ProgramFailed("only the script makes pages: set MPWB to the path of ./mpwb of a checkout of Nesthrim", fault.status, fault.said) from fault
+
+    def latency(self, first: AnyWire, second: AnyWire, start: int = 0, end: int = END) -> Latency:
+        """How long changes of the wire `first`, at the times from `start` to before `end`, take to be answered by changes of the wire `second`.
+
+        A change of `second` answers the earliest change of `first` before it that no change has answered yet. So changes neither overtake each
+        other nor get lost, as in a pipeline; a change of `second` before which all are answered is none's answer.
+        """
+        return latency_between(*self._two_waves(first, second), start, end)
+
+    def _two_waves(self, first: AnyWire, second: AnyWire) -> Tuple[Wave, Wave]:
+        return self.wave(first), self.wave(second)
 
     def graph(self) -> str:
         """The netlist as a graph for `dot`."""
@@ -176,12 +196,12 @@ class EditQuestions(Questions):
         version: int = self._answer(["version"])
         return version
 
-    def edits(self, start: int = 1) -> Tuple[MadeEdit, ...]:
+    def edits(self, start: int = 1) -> Items[MadeEdit]:
         """The accepted edits from this number on, each as the line of a script that makes it."""
-        edits: Tuple[MadeEdit, ...] = self._answer(["edits", str(start)])
+        edits: Items[MadeEdit] = self._answer(["edits", str(start)])
         return edits
 
-    def work(self) -> Tuple[Work, ...]:
+    def work(self) -> Items[Work]:
         """What was evaluated again for the last edit that was accepted. A seat refuses this (23 NoWork)."""
-        work: Tuple[Work, ...] = self._answer(["work"])
+        work: Items[Work] = self._answer(["work"])
         return work

@@ -5,7 +5,8 @@ from __future__ import annotations
 from typing import Optional, Sequence, Tuple
 
 from .errors import AnswerError
-from .wires import Bundle, Module, Statement, Stimulus, Wire
+from .modules import Module, Statement
+from .wires import Bundle, Stimulus, Wire
 
 
 def statement_of(line: str) -> Statement:

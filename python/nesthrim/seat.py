@@ -61,8 +61,8 @@ class Seat(Talk):
         self._channel.close()
         return BrokenPipe(f"the desk has left the seat {self.name} before it answered: it has ended, or had no memory for the answer; take the seat again")
 
-    def _draw(self, words: Sequence[str]) -> str:
-        return _drawn(self.program or find_program(), words, self.text())
+    def _run(self, words: Sequence[str]) -> str:
+        return _run_on(self.program or find_program(), words, self.text())
 
     def close(self) -> None:
         """Leaves the seat: it is free once the desk has seen that, which is waited for."""
@@ -79,8 +79,8 @@ class Seat(Talk):
         return f"<seat {self.name}, {'taken' if self._channel.is_open else 'left'}>"
 
 
-def _drawn(program: Program, words: Sequence[str], text: str) -> str:
-    output = program.run(["show", *words], text)
+def _run_on(program: Program, words: Sequence[str], text: str) -> str:
+    output = program.run(words, text)
     if output.status != 0:
         raise fault_of(output, program, text, lambda line: None)
     return output.written
@@ -272,8 +272,8 @@ class Desk(Talk):
             return BrokenPipe("the desk has gone away before it answered; start it again", status, said)
         return fault_of(Output(status, "", said), self.program, self._text, self._origin)
 
-    def _draw(self, words: Sequence[str]) -> str:
-        return _drawn(self.program, words, self.text())
+    def _run(self, words: Sequence[str]) -> str:
+        return _run_on(self.program, words, self.text())
 
     def end(self) -> str:
         """Ends the desk once all seats are left, and gives what it writes then: what came of each seat, and the waves."""

@@ -7,8 +7,9 @@ import weakref
 from typing import TYPE_CHECKING, Optional, Sequence, Union
 
 from .channel import Channel
-from .errors import BrokenPipe, NesthrimError
+from .errors import BrokenPipe, NesthrimError, NoEdit
 from .faults import Origin, fault_of
+from .lines import LONGEST_LINE, MOST_EDITS, batch_of, has_room
 from .program import Complaints, Output, Program, find_program
 from .talk import Talk
 
@@ -47,12 +48,27 @@ class Session(Talk):
             return BrokenPipe("the program has gone away before it answered; open another session", status, said)
         return fault_of(Output(status, "", said), self.program, self._text, self._origin)
 
-    def _draw(self, words: Sequence[str]) -> str:
+    def _run(self, words: Sequence[str]) -> str:
         text = self.text()
-        output = self.program.run(["show", *words], text)
+        output = self.program.run(words, text)
         if output.status != 0:
             raise fault_of(output, self.program, text, lambda line: None)
         return output.written
+
+    def to(self, netlist: Netlist) -> int:
+        """Makes the edits by which the session's netlist becomes this one, as one batch; nothing if it is this one. How many edits were accepted.
+
+        Names tell what is the same (`Netlist.edits_to`). `NoEdit`, before anything is sent, for another horizon, another width or level of a wire
+        that both have, and for more edits than a batch takes; `Refused` (21 InBatch) if the program doesn't take the netlist. Nothing is changed
+        then.
+        """
+        edits = self.netlist().edits_to(netlist)
+        if not edits:
+            return self.version()
+        if not has_room(edits):
+            many = f"{len(edits)} edits of {len(batch_of(edits))} bytes in all"
+            raise NoEdit([f"it takes {many}, and a batch has {MOST_EDITS} edits and {LONGEST_LINE} bytes at most"])
+        return self.batch(*edits)
 
     def close(self) -> None:
         self._end()

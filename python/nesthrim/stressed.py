@@ -26,6 +26,8 @@ class Stressed:
     for a wrong range.
     """
 
+    __slots__ = ()
+
     def stress(
         self,
         spread: float = 10,

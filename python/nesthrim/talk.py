@@ -9,7 +9,7 @@ from typing import TYPE_CHECKING, Any, Dict, Optional, Sequence, Type, TypeVar
 from .answers.work import Outcome
 from .channel import Channel, Ended, Silent
 from .errors import Fault, NesthrimError, NoSeat, Refused, UnknownName, Unread, shortened
-from .lines import without_comment
+from .lines import batch_of
 from .program import Program
 from .questions import EditQuestions
 
@@ -121,4 +121,4 @@ class Talk(EditQuestions):
 
         A comment of an edit is left out.
         """
-        return self.edit("batch " + " ; ".join(map(without_comment, lines)))
+        return self.edit(batch_of(lines))

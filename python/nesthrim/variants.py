@@ -6,7 +6,7 @@ from contextlib import contextmanager
 from typing import TYPE_CHECKING, Iterator, List, Optional, Sequence, Tuple
 
 from .errors import Closed, Fault
-from .lines import parts_of
+from .lines import batch_of, has_room, parts_of
 from .questions import Questions
 from .session import Session
 from .undo import Undo
@@ -16,9 +16,6 @@ if TYPE_CHECKING:
 
 # the code by which a session refuses all edits that follow
 _HISTORY_FULL = 18
-
-# what a batch, and a line, has at most
-_MOST_EDITS, _LONGEST_LINE = 256, 65_536
 
 
 class Variant(Questions):
@@ -36,8 +33,8 @@ class Variant(Questions):
     def _ask(self, words: Sequence[str]) -> str:
         return self._open()._ask(words)
 
-    def _draw(self, words: Sequence[str]) -> str:
-        return self._open()._draw(words)
+    def _run(self, words: Sequence[str]) -> str:
+        return self._open()._run(words)
 
     def _end(self) -> None:
         self._session = None
@@ -134,7 +131,5 @@ def _as_batch(undo: Sequence[str], edits: Sequence[str]) -> Optional[str]:
     if not undo or not edits:
         return None
     parts = [*undo, *(part for edit in edits for part in parts_of(edit))]
-    line = "batch " + " ; ".join(parts)
     # (a `;` that divides no batch is a fault of its line)
-    has_room = len(parts) <= _MOST_EDITS and len(line) <= _LONGEST_LINE
-    return line if has_room and not any(";" in part.split() for part in parts) else None
+    return batch_of(parts) if has_room(parts) and not any(";" in part.split() for part in parts) else None

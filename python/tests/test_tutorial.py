@@ -2,6 +2,7 @@
 
 from __future__ import annotations
 
+import importlib.util
 import os
 import re
 import subprocess
@@ -14,14 +15,26 @@ from tests.support import TOP, Case
 
 # a block, and what it prints if a block of text follows
 _BLOCK = re.compile(r"^```python\n(.*?)^```\n(?:\n^```\n(.*?)^```\n)?", re.MULTILINE | re.DOTALL)
+# one that needs a package, and is a program of its own
+_NEEDS = re.compile(r"^```python needs (\w+)\n(.*?)^```\n\n^```\n(.*?)^```\n", re.MULTILINE | re.DOTALL)
 _MARK = "======== the next block"
+# what `pytest` does with a file of tests
+_RUN_TESTS = """
+for name, test in list(globals().items()):
+    if name.startswith("test_"):
+        test()
+"""
+
+
+def readme() -> str:
+    with open(os.path.join(TOP, "python", "README.md"), encoding="utf-8") as file:
+        return file.read()
 
 
 def blocks() -> Iterator[Tuple[str, str]]:
-    """The blocks of the tutorial with what they print."""
-    with open(os.path.join(TOP, "python", "README.md"), encoding="utf-8") as file:
-        for found in _BLOCK.finditer(file.read()):
-            yield found[1], found[2] or ""
+    """The blocks of the tutorial with what they print. The tests of one that has tests are run."""
+    for found in _BLOCK.finditer(readme()):
+        yield found[1] + (_RUN_TESTS if "def test_" in found[1] else ""), found[2] or ""
 
 
 class Tutorial(Case):
@@ -31,6 +44,13 @@ class Tutorial(Case):
         self.assertEqual(len(every), len(found))
         for (code, printed), text in zip(every, found):
             self.assertEqual(printed, text, code)
+
+    def test_blocks_that_need_a_package(self) -> None:
+        needing = list(_NEEDS.findall(readme()))
+        self.assertEqual(["networkx"], [package for package, _, _ in needing])
+        for package, code, printed in needing:
+            if importlib.util.find_spec(package):
+                self.assertEqual([printed], self.printed([code]))
 
     def printed(self, codes: List[str]) -> List[str]:
         """What each block prints in a program of all of them."""

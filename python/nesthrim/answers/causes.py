@@ -8,6 +8,7 @@ from typing import Optional, Tuple
 
 from ..errors import AnswerError
 from .reading import NAME, match
+from .table import Items
 
 _STEP = re.compile(rf"({NAME}) (\d+)=(\d+)(?: (declared)| < (stim)| < ({NAME}) ([A-Z]+)/(\d+) < (start|.+))")
 _EVENT = re.compile(rf"({NAME}) (\d+)=(\d+)(?:/(\d+))?")
@@ -102,15 +103,15 @@ def _read_step(line: str, question: str) -> Step:
     return Step(*at, "events", module, kind, int(delay), _read_events(source, line, question))
 
 
-def read_why(text: str, question: str) -> Tuple[Step, ...]:
+def read_why(text: str, question: str) -> Items[Step]:
     """What `why` writes."""
-    return tuple(_read_step(line, question) for line in text.splitlines())
+    return Items(_read_step(line, question) for line in text.splitlines())
 
 
-def read_path(text: str, question: str) -> Tuple[PathPart, ...]:
+def read_path(text: str, question: str) -> Items[PathPart]:
     """What `path` writes."""
     found = [match(_PART, line, question) for line in text.splitlines()]
-    return tuple(PathPart(each[1], int(each[2]), int(each[3])) for each in found)
+    return Items(PathPart(each[1], int(each[2]), int(each[3])) for each in found)
 
 
 def _read_wait(line: str, question: str) -> Wait:
@@ -122,6 +123,6 @@ def _read_wait(line: str, question: str) -> Wait:
     return Wait(name, kind, does, what, None, int(since))
 
 
-def read_waits(text: str, question: str) -> Tuple[Wait, ...]:
+def read_waits(text: str, question: str) -> Items[Wait]:
     """What `waits` writes."""
-    return tuple(_read_wait(line, question) for line in text.splitlines())
+    return Items(_read_wait(line, question) for line in text.splitlines())

@@ -4,11 +4,12 @@ from __future__ import annotations
 
 import re
 from dataclasses import dataclass
-from typing import Callable, Iterable, Iterator, Mapping, NamedTuple, Optional, Sequence, TypeVar
+from typing import Callable, Iterable, Iterator, List, Mapping, NamedTuple, Optional, Sequence, TypeVar
 
 from ..errors import AnswerError
 from ..names import find
 from .reading import NAME, number
+from .table import Row
 
 # all lines at once: a sweep reads many of these answers
 _WIRE = re.compile(rf"^wire ({NAME}) (\d+)(?: (\d+) (\d+)(?: (\d+) (\d+))?)?$", re.MULTILINE)
@@ -42,6 +43,10 @@ class WireMeasure(NamedTuple):
             return None
         return (self.last - self.first) / (self.events - 1)
 
+    def row(self) -> Row:
+        """Its figures by their names, the period among them."""
+        return {**self._asdict(), "period": self.period}
+
 
 class BundleMeasure(NamedTuple):
     """The requests of a bundle in a range of times.
@@ -67,6 +72,10 @@ class BundleMeasure(NamedTuple):
         late = [] if self.late is None else ["late", self.late]
         return _joined("bundle", self.name, self.requests, *setup, *response, *late)
 
+    def row(self) -> Row:
+        """Its figures by their names."""
+        return self._asdict()
+
 
 M = TypeVar("M", WireMeasure, BundleMeasure)
 
@@ -89,17 +98,28 @@ class Measures(Mapping[str, M]):
     def __len__(self) -> int:
         return len(self._found)
 
+    def rows(self) -> List[Row]:
+        """A row for each of them: its figures by their names."""
+        return [each.row() for each in self.values()]
+
 
 @dataclass(frozen=True)
 class Measure:
-    """The measures of all wires and of all bundles, by name. `UnknownName` for a name that none of them has."""
+    """The measures of all wires and of all bundles, by name, each a table by `rows()`. `UnknownName` for a name that none of them has."""
 
-    wires: Mapping[str, WireMeasure]
-    bundles: Mapping[str, BundleMeasure]
+    wires: Measures[WireMeasure]
+    bundles: Measures[BundleMeasure]
 
     def __str__(self) -> str:
         """The lines that `mpwb measure` writes."""
         return "".join(f"{line}\n" for line in (*self.wires.values(), *self.bundles.values()))
+
+    def rows(self) -> List[Row]:
+        """A row for each wire and each bundle: its `sort`, and the figures of both sorts, `None` where its sort has none. `wires` and `bundles` have
+        rows of their own."""
+        found = [{"sort": "wire", **row} for row in self.wires.rows()] + [{"sort": "bundle", **row} for row in self.bundles.rows()]
+        keys = dict.fromkeys(["sort", *WireMeasure._fields, "period", *BundleMeasure._fields])
+        return [{**keys, **row} for row in found]
 
     def wire(self, name: str) -> WireMeasure:
         """The measures of a wire."""

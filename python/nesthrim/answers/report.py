@@ -4,10 +4,11 @@ from __future__ import annotations
 
 import re
 from dataclasses import dataclass
-from typing import Iterator, List, Sequence, Tuple, Union, overload
+from typing import Iterator, List, Optional, Sequence, Tuple, Union, overload
 
 from ..errors import AnswerError
 from .reading import NAME, match
+from .table import Row, row_of
 
 _FINDING = re.compile(rf"(\d+) (module|bundle) ({NAME}) ([a-z-]+)")
 _LATE = re.compile(rf"(\d+) bundle ({NAME}) late (\d+)")
@@ -97,6 +98,10 @@ class Report(Sequence[Finding]):
     def __repr__(self) -> str:
         return f"<report of {len(self)} findings>"
 
+    def rows(self) -> List[Row]:
+        """A row for each finding: `time`, `sort`, `name`, `code`."""
+        return [row_of(finding) for finding in self._findings]
+
 
 @dataclass(frozen=True)
 class Check:
@@ -115,6 +120,21 @@ class Check:
     def __str__(self) -> str:
         """The lines that `mpwb check` writes."""
         return str(self.findings) + "".join(f"{line}\n" for line in (*self.late, *self.deadlocks, *self.notes))
+
+    def rows(self) -> List[Row]:
+        """A row for each finding, and for each other line one that has the `code` "late", "deadlock" or "note".
+
+        Beside `time`, `sort`, `name` and `code` each has `more`: by how many units data are late, what waits for what, or what is to be noted.
+        """
+        found: List[Row] = [{**row, "more": None} for row in self.findings.rows()]
+        found += [_row(late.time, "bundle", late.name, "late", late.by) for late in self.late]
+        for deadlock in self.deadlocks:
+            found += [_row(deadlock.since, "module", module, "deadlock", f"waits for {wire}") for module, wire in deadlock.waits]
+        return found + [_row(None, "wire", note.wire, "note", note.text) for note in self.notes]
+
+
+def _row(time: Optional[int], sort: str, name: str, code: str, more: Union[int, str]) -> Row:
+    return {"time": time, "sort": sort, "name": name, "code": code, "more": more}
 
 
 def _read_finding(line: str, question: str) -> Finding:

@@ -9,7 +9,9 @@ from typing import Iterator, List, Mapping, Tuple
 
 from ..errors import AnswerError
 from ..names import find
+from .drawing import drawn
 from .reading import NAME, match
+from .table import Row
 
 _LINE = re.compile(rf"({NAME}) (\d+)((?: \d+=\d+)*)")
 
@@ -41,6 +43,13 @@ class Wave:
         at = bisect_right(self._times, time)
         return self.changes[at - 1][1] if at else self.initial
 
+    def rows(self) -> List[Row]:
+        """A row for the level at time 0 and one for each change: `wire`, `time`, `level`."""
+        return [{"wire": self.name, "time": time, "level": level} for time, level in ((0, self.initial), *self.changes)]
+
+    def _repr_svg_(self) -> str:
+        return drawn([(self.name, self.initial, self.changes)])
+
     def __str__(self) -> str:
         return " ".join([self.name, str(self.initial), *(f"{time}={level}" for time, level in self.changes)])
 
@@ -63,6 +72,13 @@ class Waves(Mapping[str, Wave]):
     def __str__(self) -> str:
         """The lines that `mpwb waves` writes."""
         return "".join(f"{line}\n" for line in self._lines.values())
+
+    def rows(self) -> List[Row]:
+        """The rows of all waves: `wire`, `time`, `level`."""
+        return [row for wave in self.values() for row in wave.rows()]
+
+    def _repr_svg_(self) -> str:
+        return drawn([(wave.name, wave.initial, wave.changes) for wave in self.values()])
 
     def __repr__(self) -> str:
         return f"<waves of {len(self)} wires>"

@@ -4,10 +4,11 @@ from __future__ import annotations
 
 import re
 from dataclasses import dataclass
-from typing import Optional, Tuple
+from typing import Optional
 
 from ..errors import Fault
 from .reading import NAME, match
+from .table import Items
 
 _WORK = re.compile(rf"({NAME}) (\d+) (\d+)")
 _EDIT = re.compile(r"(\d+) (.+?)(?: # (designer-\d+))?")
@@ -49,16 +50,16 @@ class Outcome:
         return self.fault is None
 
 
-def read_work(text: str, question: str) -> Tuple[Work, ...]:
+def read_work(text: str, question: str) -> Items[Work]:
     """What is answered to `work`."""
     found = [match(_WORK, line, question) for line in text.splitlines()]
-    return tuple(Work(each[1], int(each[2]), int(each[3])) for each in found)
+    return Items(Work(each[1], int(each[2]), int(each[3])) for each in found)
 
 
-def read_edits(text: str, question: str) -> Tuple[MadeEdit, ...]:
+def read_edits(text: str, question: str) -> Items[MadeEdit]:
     """What is answered to `edits`."""
     found = [match(_EDIT, line, question) for line in text.splitlines()]
-    return tuple(MadeEdit(int(each[1]), each[2], each[3]) for each in found)
+    return Items(MadeEdit(int(each[1]), each[2], each[3]) for each in found)
 
 
 def read_version(text: str, question: str) -> int:

@@ -5,6 +5,7 @@ from __future__ import annotations
 from dataclasses import dataclass, field
 from typing import TYPE_CHECKING, Dict, List, Optional, Tuple
 
+from ..answers.table import Row, row_of
 from ..names import find
 from .confirm import Differs
 from .delays import Delay, percent_of
@@ -179,6 +180,10 @@ class Stress:
 
     def __repr__(self) -> str:
         return f"<stress: {self.verdict} at {number(self.spread)} %>"
+
+    def rows(self) -> List[Row]:
+        """A row for each bundle: `name`, `margin`, `worst`, `bound`."""
+        return [row_of(each) for each in self.bundles]
 
 
 @dataclass(frozen=True)

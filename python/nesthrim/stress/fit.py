@@ -8,9 +8,10 @@ still holds.
 from __future__ import annotations
 
 import math
-from dataclasses import dataclass, replace
+from dataclasses import dataclass
 from typing import TYPE_CHECKING, Dict, List, Optional, Set, Tuple
 
+from ..answers.table import Row, row_of
 from .answer import Stress, number
 from .ask import Question
 from .judge import Tell
@@ -69,6 +70,10 @@ class Fit:
     def __repr__(self) -> str:
         return f"<fit: {len(self.changes)} delays lengthened, {self.stress.verdict}>"
 
+    def rows(self) -> List[Row]:
+        """A row for each delay that was lengthened: `module`, `before`, `after`."""
+        return [row_of(each) for each in self.changes]
+
 
 class _Sizing:
     def __init__(self, netlist: Netlist, spread: Spread, seconds: float, tell: Tell) -> None:
@@ -77,13 +82,10 @@ class _Sizing:
 
     def netlist(self) -> Netlist:
         """The netlist with the delays so far."""
-        from ..netlist import Netlist
-
-        text = str(self.first)
+        netlist = self.first.copy()
         for name, delay in self.delays.items():
-            module = self.first.known_modules[name]
-            text = text.replace(f"{module.statement}\n", f"{replace(module, outputs=((module.outputs[0][0], delay),)).statement}\n")
-        return Netlist.written(text, program=self.first.program)
+            netlist.module(name).delay = delay
+        return netlist
 
     def ask(self) -> Stress:
         """The answer with the delays so far."""

@@ -16,7 +16,8 @@ from __future__ import annotations
 from bisect import bisect_left
 from typing import Callable, Dict, List, NamedTuple, Sequence, Tuple
 
-from ..wires import Bundle, Module
+from ..modules import Module
+from ..wires import Bundle
 from .graph import NONE, Graph, Unfoldable
 from .registers import Phase, Phases
 

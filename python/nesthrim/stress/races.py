@@ -12,6 +12,7 @@ import time as clock
 from dataclasses import dataclass, field, replace
 from typing import TYPE_CHECKING, Dict, Iterator, List, Optional, Sequence, Tuple
 
+from ..answers.table import Row, row_of
 from ..names import find
 from .answer import number
 from .delays import Delay, Ranges, Spread
@@ -108,6 +109,10 @@ class Races:
 
     def __repr__(self) -> str:
         return f"<races of {len(self.races)} bundles>"
+
+    def rows(self) -> List[Row]:
+        """A row for each race: its attributes by their names, the chains as texts."""
+        return [row_of(each) for each in self.races]
 
 
 def races(netlist: Netlist) -> Races:

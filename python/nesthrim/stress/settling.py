@@ -13,7 +13,7 @@ from __future__ import annotations
 import heapq
 from typing import Dict, List, NamedTuple, Set, Tuple
 
-from ..wires import Module
+from ..modules import Module
 from .graph import NONE, Cause, Unfoldable
 from .unfold import SETTLED, Causes, Changes, Run
 

@@ -9,7 +9,7 @@ from __future__ import annotations
 from bisect import bisect_left, bisect_right
 from typing import TYPE_CHECKING, Callable, Collection, Dict, Iterator, List, Mapping, Optional, Sequence, Tuple
 
-from ..wires import Module
+from ..modules import Module
 from .graph import NONE, Cause, Graph, Unfoldable
 from .registers import Phase, Phases
 
