@@ -15,7 +15,7 @@ use Rattle.mp_netlist.specs.Circuit.{Circuit, IsModule}
 use Rattle.mp_netlist.specs.Readers.{ports_at, readers, readers_in}
 use Rattle.mp_picture.specs.ReaderRows.{AreReaders, HasMore, port_at, row_at}
 
-abbrev Rows : Type 0
+abbrev pub Rows : Type 0
 Rows = List (List (ModuleId × ℕ))
 
 -- ---- one list element more

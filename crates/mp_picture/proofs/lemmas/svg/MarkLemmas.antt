@@ -16,6 +16,7 @@ use Rattle.mp_picture.specs.declared.columns.Columns.{Columns}
 use Rattle.mp_picture.specs.Columns.{column_of}
 use Rattle.mp_picture.specs.Found.{is_place}
 use Rattle.mp_picture.specs.PlaceKeys.{numbered_order}
+use Rattle.mp_picture.specs.svg.FoundGroups.{row_among}
 use Rattle.mp_picture.specs.svg.MarkNumbers.{is_mark, mark_key}
 use Rattle.mp_picture.specs.declared.svg.mark_rows.MarkRow.{MarkRow}
 use Rattle.mp_picture.specs.svg.MarkRows as marks
@@ -76,3 +77,10 @@ module _ {X : Type 0} (test : X → Bool) (xs : List X) where
       let first = position_or_len test xs in
       ap (λ (o : Option ℕ). unwrap_or o (length xs)) is
       ∙ found_or first (nat_lt first (length xs)) (past_all first (length xs) (prefix_len-le-length (λ x. not (test x)) xs))
+
+-- so many stand before the row of a finding, and no more than there are
+pub rows_before : (rows all : List MarkRow) (f : Finding) (row : ℕ) → rows ≡ all → row ≡ row_among rows f → (row ≡ row_among all f) × (row ≤ length all)
+rows_before rows all f row same is =
+    let value = is ∙ ap (λ (rs : List MarkRow). row_among rs f) same in
+    let most = prefix_len-le-length (λ (r : MarkRow). not (marks.is_at r.place r.code f)) all in
+    (value, omega (arith, value, most))

@@ -1,12 +1,14 @@
-use Rattle.std.proofs.Common.{◌≡◌, ◌<◌, ℕ, List, [], None, length, replicate, ap, sym, subst, ◌∙◌, arith}
-use Rattle.mp_records.specs.declared.ids.ModuleId.{ModuleId}
+use Rattle.std.proofs.Common.{◌≡◌, ◌<◌, ℕ, [], None, length, replicate, ap, sym, subst, ◌∙◌, arith}
 use Rattle.mp_netlist.specs.Readers.{readers_in}
 use Rattle.mp_picture.specs.ReaderRows.{HasMore}
-use Rattle.mp_picture.proofs.ReaderLemmas.{more_none, more_next, readers_all}
+use Rattle.mp_picture.proofs.ReaderLemmas.{Rows, more_none, more_next, readers_all}
 use Rattle.mp_picture.proofs.readers.Readers.of.Goals as goal
 
 pub loop-m-init : goal.loop-m-init
-loop-m-init c = ?
+loop-m-init c =
+    let empty : Rows = replicate (length c.args.netlist.now.wires) [] in
+    let is : c.in_ok-rows.rows.items ≡ empty = c.in_ok-rows.ensures ∙ ap (λ (k : ℕ). replicate k []) c.wire_slots.ensures.value in
+    subst (λ (rows : Rows). HasMore empty rows (λ w. [])) (sym is) (more_none empty)
 
 pub loop-m-preserved : goal.loop-m-preserved
 loop-m-preserved c =
