@@ -38,9 +38,11 @@ module _ (places : List Place) (p : Place) (added known : Bool) (tells : added �
   -- a place that was seen isn't appended
   pub place_stays : added ≡ false → places ≡ places ++ cond (list_any (is_place p) places) [] (p ∷ [])
   place_stays old = sym (ap (λ (b : Bool). places ++ cond b [] (p ∷ [])) (sym is ∙ seen_so known (sym tells ∙ old)) ∙ append-nil places)
+
   -- one that is new is
   pub place_comes : added ≡ true → places ++ p ∷ [] ≡ places ++ cond (list_any (is_place p) places) [] (p ∷ [])
   place_comes new = sym (ap (λ (b : Bool). places ++ cond b [] (p ∷ [])) (sym is ∙ new_so known (sym tells ∙ new)))
+
 pub either_of : (known here : Bool) → cond here true known ≡ (known || here)
 either_of true true = refl
 either_of true false = refl

@@ -98,11 +98,7 @@ fn empty_rows(alloc: Global, count: u32) -> Result<Vec<PortRow>, AllocError>
 }
 
 /// Adds the input ports of a module, if it exists, to the rows of the wires that they read.
-fn push_module(
-    rows: &mut Vec<PortRow>,
-    netlist: &Netlist,
-    id: ModuleId,
-) -> Result<(), AllocError>
+fn push_module(rows: &mut Vec<PortRow>, netlist: &Netlist, id: ModuleId) -> Result<(), AllocError>
     ensures { OnOk result (HasMore rows.old.items rows.new.items (λ w. readers_in w (id.0, module_at netlist.now id.0))) }
 {
     match netlist.module(id) {

@@ -43,11 +43,7 @@ pub(crate) fn mark_rows(
 }
 
 /// The column of the last finding of each code at each place.
-fn lasts_of(
-    alloc: Global,
-    columns: Columns,
-    found: &[Finding],
-) -> Result<MarkNumbers, AllocError>
+fn lasts_of(alloc: Global, columns: Columns, found: &[Finding]) -> Result<MarkNumbers, AllocError>
     requires { All (λ (f : Found). IsTrue (is_within columns f)) found.now }
     ensures { IfOk result (λ lasts. (place : AnyPlace) (code : AnyCode) → number_of lasts place code ≡ last_of columns place code found.now) }
 {
@@ -60,11 +56,7 @@ fn lasts_of(
 }
 
 /// Puts a row behind the others for each code that has a last column at a place.
-fn push_rows(
-    rows: &mut Vec<MarkRow>,
-    lasts: &MarkNumbers,
-    place: Place,
-) -> Result<(), AllocError>
+fn push_rows(rows: &mut Vec<MarkRow>, lasts: &MarkNumbers, place: Place) -> Result<(), AllocError>
     ensures { OnOk result (rows.new.items ≡ rows.old.items ++ flat_map (λ code. row_if place code (number_of lasts.now place code)) by_number) }
 {
     for code in FindingCode::by_number() {

@@ -20,7 +20,7 @@ loop-finding-init c = record {
 pub loop-finding-preserved : goal.loop-finding-preserved
 loop-finding-preserved c = record {
   places =
-    c.in_ok-push_new.ensures.places
-    ∙ place_next c.args.found.now c.loop-finding.finding-index none c.loop-finding.places.items c.loop-finding-test.true c.loop-finding.invariant.places;
+      c.in_ok-push_new.ensures.places
+      ∙ place_next c.args.found.now c.loop-finding.finding-index none c.loop-finding.places.items c.loop-finding-test.true c.loop-finding.invariant.places;
   seen = c.in_ok-push_new.ensures.seen;
 }
