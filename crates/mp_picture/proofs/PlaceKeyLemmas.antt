@@ -27,12 +27,12 @@ pub same_either_way : (a b : ℕ) → (a == b) ≡ (b == a)
 same_either_way a b = grind (arith, nat_tests)
 
 seen_so : (b : Bool) → not b ≡ false → b ≡ true
-seen_so true no = refl
-seen_so false no = sym no
+seen_so true is = refl
+seen_so false is = sym is
 
 new_so : (b : Bool) → not b ≡ true → b ≡ false
-new_so true no = sym no
-new_so false no = refl
+new_so true is = sym is
+new_so false is = refl
 
 module _ (places : List Place) (p : Place) (added known : Bool) (tells : added ≡ not known) (is : known ≡ list_any (is_place p) places) where
   -- a place that was seen isn't appended

@@ -60,16 +60,16 @@ module _ {X : Type 0} (f : ℕ → ℕ × X → List (ModuleId × ℕ)) (xs : Li
 
 -- ---- the inputs of a module
 
-port_first : (b : Bool) (m : ℕ) (port : ℕ × Input) (rest : List (ℕ × Input))
-    → cond b ((record { 0 = m }, port.0) ∷ []) [] ++ map (λ (p : ℕ × Input). (record { 0 = m }, p.0)) rest ≡ map (λ (p : ℕ × Input). (record { 0 = m }, p.0)) (cond b (port ∷ rest) rest)
-port_first true m port rest = refl
-port_first false m port rest = refl
+one_first : {X Y : Type 0} (f : X → Y) (b : Bool) (x : X) (xs : List X) → cond b (f x ∷ []) [] ++ map f xs ≡ map f (cond b (x ∷ xs) xs)
+one_first f true x xs = refl
+one_first f false x xs = refl
 
 ports_are : (w m : ℕ) (ports : List (ℕ × Input)) → flat_map (port_at w m) ports ≡ ports_at w m ports
 ports_are w m [] = refl
 ports_are w m (port ∷ ports) =
+    let named : ℕ × Input → ModuleId × ℕ = (λ (p : ℕ × Input). (record { 0 = m }, p.0)) in
     ap (λ (rs : List (ModuleId × ℕ)). port_at w m port ++ rs) (ports_are w m ports)
-    ∙ port_first (port.1.wire.0 == w) m port (filter (λ (p : ℕ × Input). p.1.wire.0 == w) ports)
+    ∙ one_first named (port.1.wire.0 == w) port (filter (λ (p : ℕ × Input). p.1.wire.0 == w) ports)
 
 -- all inputs
 pub inputs_all : (m : ℕ) (inputs : List Input) (i : ℕ) (old new : Rows) → i ≡ length inputs → HasMore old new (λ w. flat_map (port_at w m) (take i (enumerate_from 0 inputs)))

@@ -60,9 +60,22 @@ fn push_rows(rows: &mut Vec<MarkRow>, lasts: &MarkNumbers, place: Place) -> Resu
     ensures { OnOk result (rows.new.items ≡ rows.old.items ++ flat_map (λ code. row_if place code (number_of lasts.now place code)) by_number) }
 {
     for code in FindingCode::by_number() {
-        if let Some(last) = lasts.get(place, code) {
-            rows.push(MarkRow { place, code, last })?;
-        }
+        push_row(rows, place, code, lasts.get(place, code))?;
+    }
+    Ok(())
+}
+
+/// Puts a row behind the others for a code that has this last column at a place, if it has one.
+fn push_row(
+    rows: &mut Vec<MarkRow>,
+    place: Place,
+    code: FindingCode,
+    last: Option<u32>,
+) -> Result<(), AllocError>
+    ensures { OnOk result (rows.new.items ≡ rows.old.items ++ row_if place code last) }
+{
+    if let Some(last) = last {
+        rows.push(MarkRow { place, code, last })?;
     }
     Ok(())
 }
@@ -114,7 +127,7 @@ impl MarkRows {
     {
         match self.firsts.get(finding.place, finding.code) {
             Some(row) => row,
-            None => self.rows.len() as u32,
+            None => self.as_slice().len() as u32,
         }
     }
 }

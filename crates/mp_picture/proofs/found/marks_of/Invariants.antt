@@ -5,4 +5,4 @@ use Rattle.mp_picture.proofs.found.marks_of.Given as goal
 
 -- the marks so far
 abbrev pub invariant-loop-column : goal.invariant-loop-column
-invariant-loop-column l = l.marks.items ≡ map (mark_in l.marked l.place) (take l.column (numbers l.columns))
+invariant-loop-column l = l.marks.items ≡ map (mark_in l.marked l.place) (take l.column (numbers l.fn.columns))

@@ -2,8 +2,8 @@ use Rattle.std.proofs.Common.{arith}
 use Rattle.mp_picture.proofs.ReaderLemmas.{port_pushed, port_outside}
 use Rattle.mp_picture.proofs.readers.push_port.Goals as goal
 
-pub returns-then-place-rows : goal.returns-then-place-rows
-returns-then-place-rows c = port_outside c.args.rows.now.items c.args.id.0 c.args.port c.args.input (omega arith)
+pub returns-then-place-len : goal.returns-then-place-len
+returns-then-place-len c = port_outside c.args.rows.now.items c.args.id.0 c.args.port c.args.input (omega arith)
 
 pub returns : goal.returns
 returns c =

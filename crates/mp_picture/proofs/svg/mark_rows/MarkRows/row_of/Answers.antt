@@ -1,9 +1,5 @@
-use Rattle.std.proofs.Common.{◌≡◌, ◌≤◌, ℕ, Bool, List, Option, Some, None, length, subst, ap, ◌∙◌, arith}
-use Rattle.std.proofs.lemmas.List.Sums.{prefix_len-le-length}
-use Rattle.std.specs.List.{position}
-use Rattle.mp_model.specs.declared.finding.Finding.{Finding}
+use Rattle.std.proofs.Common.{Bool, Some, None, length, ap, sym, ◌∙◌}
 use Rattle.mp_picture.specs.declared.svg.mark_rows.MarkRow.{MarkRow}
-use Rattle.mp_picture.specs.svg.FoundGroups.{row_among}
 use Rattle.mp_picture.specs.svg.MarkNumbers.{is_mark}
 use Rattle.mp_picture.proofs.lemmas.svg.MarkLemmas.{before_first, rows_before}
 use Rattle.mp_picture.proofs.svg.mark_rows.MarkRows.row_of.Goals as goal
@@ -23,5 +19,6 @@ returns-in-None c =
     let f = c.args.finding in
     let test : MarkRow → Bool = (λ (r : MarkRow). is_mark r.place r.code f.place f.code) in
     let value = before_first test rows None (c.in-None.ensures ∙ c.self.invariant f.place f.code) in
-    let found = rows_before rows c.args.self.now f (length rows) c.self.view_is value in
+    let size = ap (length {A = MarkRow}) (c.as_slice.ensures ∙ sym c.self.view_is) in
+    let found = rows_before rows c.args.self.now f (length c.as_slice.result.now) c.self.view_is (size ∙ value) in
     record { value = found.0; within = found.1 }
