@@ -1,5 +1,5 @@
 -- Numbers of codes at places.
-use Rattle.std.specs.Prelude.{◌≡◌, ℕ, ◌==◌, ◌&&◌, Bool, Option}
+use Rattle.std.specs.Prelude.{ℕ, ◌==◌, ◌&&◌, Bool, Option}
 use Rattle.std.specs.BTreeMap.{get}
 use Rattle.mp_modules.specs.Findings.{code_number}
 use Rattle.mp_modules.specs.declared.finding_code.FindingCode.{FindingCode}

@@ -51,18 +51,17 @@ rows_more c fs places i d lasts within are =
     ap (λ (rs : List MarkRow). first ++ rs) (here ∙ sym (append-nil (rows_at c fs p)))
     ∙ sym (ap (flat_map (rows_at c fs)) (take_more places i d within) ∙ flat_map-append (rows_at c fs) (take i places) (p ∷ []))
 
--- the rows of the codes with that of one more
-pub codes_more : (row : FindingCode → List MarkRow) (codes : List FindingCode) (i : ℕ) (d : FindingCode) (first items new : List MarkRow) → i < length codes → codes ≡ by_number
-    → items ≡ first ++ flat_map row (take i by_number) → new ≡ items ++ row (get_or codes i d) → new ≡ first ++ flat_map row (take (i + 1) by_number)
-codes_more row codes i d first items new within are before now =
+-- the rows of codes with that of one more
+pub codes_more : (row : FindingCode → List MarkRow) (all codes : List FindingCode) (i : ℕ) (d : FindingCode) (first items new : List MarkRow) → i < length all → codes ≡ all
+    → items ≡ first ++ flat_map row (take i all) → new ≡ items ++ row (get_or codes i d) → new ≡ first ++ flat_map row (take (i + 1) all)
+codes_more row all codes i d first items new within are before now =
     now
-    ∙ ap (λ (rs : List MarkRow). rs ++ row (get_or codes i d)) before
-    ∙ append_assoc first (flat_map row (take i by_number)) (row (get_or codes i d))
+    ∙ ap (λ (cs : List FindingCode). items ++ row (get_or cs i d)) are
+    ∙ ap (λ (rs : List MarkRow). rs ++ row (get_or all i d)) before
+    ∙ append_assoc first (flat_map row (take i all)) (row (get_or all i d))
     ∙ ap (λ (rs : List MarkRow). first ++ rs)
-    (ap (λ (cs : List FindingCode). flat_map row (take i cs) ++ row (get_or codes i d)) (sym are)
-    ∙ ap (λ (rs : List MarkRow). flat_map row (take i codes) ++ rs) (sym (append-nil (row (get_or codes i d))))
-    ∙ sym (ap (flat_map row) (take_more codes i d within) ∙ flat_map-append row (take i codes) (get_or codes i d ∷ []))
-    ∙ ap (λ (cs : List FindingCode). flat_map row (take (i + 1) cs)) are)
+    (ap (λ (rs : List MarkRow). flat_map row (take i all) ++ rs) (sym (append-nil (row (get_or all i d))))
+    ∙ sym (ap (flat_map row) (take_more all i d within) ∙ flat_map-append row (take i all) (get_or all i d ∷ [])))
 
 -- ---- first rows
 

@@ -1,12 +1,9 @@
-use Rattle.std.proofs.Common.{◌==◌, ◌&&◌, ◌||◌, ℕ, Bool, true, cond, get_or, take, sym, ap, ◌∙◌}
+use Rattle.std.proofs.Common.{ap, ◌∙◌}
 use Rattle.std.specs.BTreeMap.{is_at}
-use Rattle.std.specs.BTreeSet.{contains}
 use Rattle.std.specs.List.{list_any}
 use Rattle.mp_modules.specs.declared.finding_code.FindingCode.TheVariants.{MergeCollision}
 use Rattle.mp_model.specs.declared.finding.Finding.{Finding}
 use Rattle.mp_model.specs.Findings.{module_place}
-use Rattle.mp_picture.specs.Columns.{column_of}
-use Rattle.mp_picture.specs.Found.{is_marked}
 use Rattle.mp_picture.specs.PlaceKeys.{numbered_order, place_key}
 use Rattle.mp_picture.proofs.MarkedLemmas.{marked_more}
 use Rattle.mp_picture.proofs.marked_columns.MarkedColumns.of.Goals as goal

@@ -6,7 +6,7 @@ use Rattle.mp_modules.specs.declared.finding_code.FindingCode.TheVariants.{Merge
 use Rattle.mp_model.specs.declared.finding.Place.{Place}
 use Rattle.mp_model.specs.Findings.{module_place}
 use Rattle.mp_picture.specs.declared.svg.mark_rows.MarkRow.{MarkRow}
-use Rattle.mp_picture.specs.svg.MarkNumbers.{is_mark, number_of}
+use Rattle.mp_picture.specs.svg.MarkNumbers.{is_mark}
 use Rattle.mp_picture.proofs.lemmas.svg.MarkLemmas.{first_sooner, first_of_all}
 use Rattle.mp_picture.proofs.svg.mark_rows.first_rows.Goals as goal
 

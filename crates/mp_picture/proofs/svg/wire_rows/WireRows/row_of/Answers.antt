@@ -1,4 +1,4 @@
-use Rattle.std.proofs.Common.{◌==◌, Bool, List, Some, None, length, ap, sym, ◌∙◌}
+use Rattle.std.proofs.Common.{◌==◌, List, Some, None, length, ap, sym, ◌∙◌}
 use Rattle.mp_records.specs.declared.ids.WireId.{WireId}
 use Rattle.mp_picture.specs.svg.FoundGroups.{wire_among}
 use Rattle.mp_picture.proofs.lemmas.svg.MarkLemmas.{before_first}
