@@ -1,5 +1,5 @@
 -- The places of findings, and marks.
-use Rattle.std.proofs.Common.{◌≡◌, ℕ, ◌+◌, ◌<◌, Bool, true, false, not, cond, ◌||◌, ◌&&◌, List, [], ◌∷◌, ◌++◌, length, get_or, take, refl, sym, ap, ◌∙◌, append-nil, arith}
+use Rattle.std.proofs.Common.{◌≡◌, ℕ, ◌+◌, ◌<◌, Bool, true, false, not, cond, ◌||◌, ◌&&◌, List, [], ◌∷◌, ◌++◌, length, get_or, take, refl, sym, ap, ◌∙◌, arith}
 use Rattle.std.proofs.lemmas.Bool.Decides.{nat_tests}
 use Rattle.std.proofs.lemmas.Bool.{eqb-true}
 use Rattle.std.specs.List.{filter, list_any}
@@ -18,7 +18,7 @@ one_place (Module m) (Bundle b) is = cc
 one_place (Bundle b) (Module m) is = cc
 one_place (Bundle b) (Bundle d) is = ap (λ n. Bundle (record { 0 = n })) (eqb-true b.0 d.0 is)
 
-either_way : (p q : Place) → is_place p q ≡ is_place q p
+pub either_way : (p q : Place) → is_place p q ≡ is_place q p
 either_way (Module m) (Module k) = grind (arith, nat_tests)
 either_way (Module m) (Bundle b) = refl
 either_way (Bundle b) (Module m) = refl
@@ -65,19 +65,11 @@ places_more f (g ∷ gs) =
     (filter-append (others g.place) (places_of gs) (cond (list_any (is_place f.place) (places_of gs)) [] (f.place ∷ []))
     ∙ ap (λ (ps : List Place). filter (others g.place) (places_of gs) ++ ps) (by_first f g gs (is_place g.place f.place) refl))
 
-module _ (fs : List Finding) (i : ℕ) (d : Finding) (known : Bool) (slice items : List Place) (within : i < length fs)
-    (is : known ≡ list_any (is_place (get_or fs i d).place) slice) (same : slice ≡ items) (done : items ≡ places_of (take i fs)) where
-  place_next : places_of (take (i + 1) fs) ≡ items ++ cond known [] ((get_or fs i d).place ∷ [])
-  place_next =
-      ap places_of (take_more fs i d within)
-      ∙ places_more (get_or fs i d) (take i fs)
-      ∙ ap (λ (ps : List Place). ps ++ cond (list_any (is_place (get_or fs i d).place) ps) [] ((get_or fs i d).place ∷ [])) (sym done)
-      ∙ ap (λ (b : Bool). items ++ cond b [] ((get_or fs i d).place ∷ [])) (sym (is ∙ ap (list_any (is_place (get_or fs i d).place)) same))
-
-  -- a place that is new comes last
-  pub place_added : known ≡ false → items ++ (get_or fs i d).place ∷ [] ≡ places_of (take (i + 1) fs)
-  place_added new = sym (place_next ∙ ap (λ (b : Bool). items ++ cond b [] ((get_or fs i d).place ∷ [])) new)
-
-  -- one that is known stays where it is
-  pub place_known : known ≡ true → items ≡ places_of (take (i + 1) fs)
-  place_known old = sym (place_next ∙ ap (λ (b : Bool). items ++ cond b [] ((get_or fs i d).place ∷ [])) old ∙ append-nil items)
+-- with the place of one finding more
+pub place_next : (fs : List Finding) (i : ℕ) (d : Finding) (items : List Place) → i < length fs → items ≡ places_of (take i fs)
+    → items ++ cond (list_any (is_place (get_or fs i d).place) items) [] ((get_or fs i d).place ∷ []) ≡ places_of (take (i + 1) fs)
+place_next fs i d items within done =
+    sym
+    (ap places_of (take_more fs i d within)
+    ∙ places_more (get_or fs i d) (take i fs)
+    ∙ ap (λ (ps : List Place). ps ++ cond (list_any (is_place (get_or fs i d).place) ps) [] ((get_or fs i d).place ∷ [])) (sym done))

@@ -5,6 +5,9 @@ pub mod CellLemmas
 pub mod EventLemmas
 pub mod RowLemmas
 pub mod FoundLemmas
+pub mod PlaceKeyLemmas
+pub mod MarkedLemmas
+pub mod ReaderLemmas
 pub mod LevelLemmas
 pub mod WaveLemmas
 pub mod MarginLemmas

@@ -7,7 +7,10 @@ pub mod Marks
 pub mod Levels
 pub mod Rows
 pub mod Found
+pub mod PlaceKeys
+pub mod MarkedColumns
 pub mod Diagrams
+pub mod ReaderRows
 pub mod GraphPorts
 pub mod Graphs
 pub mod GraphSections

@@ -5,8 +5,10 @@ pub mod WireGroups
 pub mod Frames
 pub mod Styles
 pub mod Heads
+pub mod MarkNumbers
 pub mod MarkRows
 pub mod FoundGroups
+pub mod WireRows
 pub mod Arrows
 pub mod Svg
 pub mod ColumnLaws

@@ -6,6 +6,7 @@ ghost use Rattle.mp_picture.specs.Graphs.{bundle_node, bundle_edge, bundle_lines
 
 use crate::edges::tail;
 use crate::nodes::{Id, put_node};
+use crate::wired_netlist::WiredNetlist;
 use mp_netlist::{BundleId, BundleRecord, Netlist, WireId};
 use mp_streams::{Failed, Out, Sink, Text};
 use mp_text::wire_name;
@@ -13,29 +14,29 @@ use mp_text::wire_name;
 /// Writes the lines of a bundle, and nothing if there is no bundle: its node, and a line to it from each of its wires.
 pub(crate) fn put_bundle_lines<S: Sink>(
     out: &mut Out<S>,
-    netlist: &Netlist,
+    wired: WiredNetlist<'_>,
     number: u32,
 ) -> Result<(), Failed>
-    ensures { Writes result out.old out.new (bundle_lines netlist.now (bundle_at netlist.now number)) }
+    ensures { Writes result out.old out.new (bundle_lines wired.entry.netlist.now (bundle_at wired.entry.netlist.now number)) }
 {
-    match netlist.bundle(BundleId(number)) {
-        Some(bundle) => put_bundle(out, netlist, bundle),
+    match wired.netlist.bundle(BundleId(number)) {
+        Some(bundle) => put_bundle(out, wired, bundle),
         None => Ok(()),
     }
 }
 
 fn put_bundle<S: Sink>(
     out: &mut Out<S>,
-    netlist: &Netlist,
+    wired: WiredNetlist<'_>,
     bundle: &BundleRecord,
 ) -> Result<(), Failed>
-    ensures { Writes result out.old out.new (bundle_lines netlist.now (Some bundle.now)) }
+    ensures { Writes result out.old out.new (bundle_lines wired.entry.netlist.now (Some bundle.now)) }
 {
     let name = bundle.name.as_str();
-    put_box(out, netlist, bundle)?;
-    put_line(out, netlist, name, bundle.request, ":r:w")?;
-    put_line(out, netlist, name, bundle.acknowledge, ":a:w")?;
-    put_line(out, netlist, name, bundle.payload, ":d:w")
+    put_box(out, wired.netlist, bundle)?;
+    put_line(out, wired, name, bundle.request, ":r:w")?;
+    put_line(out, wired, name, bundle.acknowledge, ":a:w")?;
+    put_line(out, wired, name, bundle.payload, ":d:w")
 }
 
 /// Writes the node of a bundle: its name and its setup above its request, acknowledge and data.
@@ -60,14 +61,14 @@ fn put_box<S: Sink>(
 /// Writes the line from the tail of a wire to its cell in the bundle of this name.
 fn put_line<S: Sink>(
     out: &mut Out<S>,
-    netlist: &Netlist,
+    wired: WiredNetlist<'_>,
     name: &str,
     wire: WireId,
     cell: &str,
 ) -> Result<(), Failed>
-    ensures { Writes result out.old out.new (bundle_edge netlist.now name.now wire cell.now) }
+    ensures { Writes result out.old out.new (bundle_edge wired.entry.netlist.now name.now wire cell.now) }
 {
-    let from = tail(netlist, wire, netlist.driver_of(wire));
+    let from = tail(wired.netlist, wire, wired.driver_of(wire));
     let kind = "bundle ";
     let style = " [style=dashed color=gray50 arrowhead=none];\n";
     ("  ", from, " -> ", (Id { kind, name }, cell, style)).put_to(out)

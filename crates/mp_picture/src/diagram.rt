@@ -7,12 +7,14 @@ ghost use Rattle.mp_model.specs.Findings.{findings};
 ghost use Rattle.mp_model.specs.declared.finding.Finding.{Finding as Found};
 ghost use Rattle.mp_picture.specs.Diagrams.{diagram, diagram_given, rows, wire_line};
 ghost use Rattle.mp_picture.specs.Found.{is_within, place_row};
+ghost use Rattle.mp_picture.specs.MarkedColumns.{marked_row};
 ghost use Rattle.mp_picture.specs.Rows.{ruler};
 
 use crate::found::{found_within, push_place_row, rows_of};
 use crate::layout::DiagramLayout;
 use crate::margin::margin_of;
 use crate::mark::Charset;
+use crate::marked_columns::MarkedColumns;
 use crate::picture::Picture;
 use crate::row::push_wire_line;
 use crate::ruler::push_ruler;
@@ -152,8 +154,9 @@ fn put_places<S: Sink>(
     requires { All (λ (f : Found). IsTrue (is_within layout.columns f)) found.now }
     ensures { Writes result out.old out.new (flat_map (λ place. place_row netlist.now layout place found.now) places.now) }
 {
+    let marked = MarkedColumns::of(*row.allocator(), layout.columns, found)?;
     for &place in places {
-        put_place(out, row, netlist, layout, place, found)?;
+        put_place(out, row, netlist, layout, place, &marked)?;
     }
     Ok(())
 }
@@ -164,13 +167,12 @@ fn put_place<S: Sink>(
     netlist: &Netlist,
     layout: DiagramLayout,
     place: Place,
-    found: &[Finding],
+    marked: &MarkedColumns,
 ) -> Result<(), WriteError>
-    requires { All (λ (f : Found). IsTrue (is_within layout.columns f)) found.now }
-    ensures { Writes result out.old out.new (place_row netlist.now layout place found.now) }
+    ensures { Writes result out.old out.new (marked_row netlist.now layout marked.now place) }
 {
     row.clear();
-    push_place_row(row, netlist, layout, place, found)?;
+    push_place_row(row, netlist, layout, place, marked)?;
     out.put_bytes(row.as_slice())?;
     Ok(())
 }

@@ -1,15 +1,20 @@
 //! What the report finds in a picture.
-ghost use Rattle.std.specs.Prelude.{◌≡◌, ◌++◌, not, OnOk, IfOk, All, IsTrue};
+ghost use Rattle.std.specs.Prelude.{◌≡◌, ◌++◌, ◌∷◌, [], not, OnOk, IfOk, All, IsTrue, if◌then◌else◌};
 ghost use Rattle.mp_model.specs.declared.finding.Finding.{Finding as Found};
 ghost use Rattle.std.specs.List.{filter, list_any};
-ghost use Rattle.mp_picture.specs.Found.{is_within, is_place, is_module, within, places_of, place_rows, marks, trimmed, place_name, place_row};
+ghost use Rattle.mp_picture.specs.Found.{is_within, is_place, is_module, within, places_of, place_rows, trimmed, place_name};
+ghost use Rattle.mp_picture.specs.MarkedColumns.{mark_in, marks_in, marked_row};
+ghost use Rattle.mp_picture.specs.PlaceKeys.{HasPlaces};
 
 use crate::columns::Columns;
 use crate::layout::DiagramLayout;
+use crate::marked_columns::MarkedColumns;
+use crate::place_key::{PlaceKey, place_key};
 use crate::repeated::push_padded;
 use mp_model::{Finding, Place};
 use mp_netlist::Netlist;
 use std::alloc::{AllocError, Global};
+use std::collections::BTreeSet;
 
 /// The findings at times in the range of the columns, in their order. The error comes if memory runs out.
 pub fn found_within(
@@ -82,29 +87,29 @@ fn places_of(alloc: Global, found: &[Finding]) -> Result<Vec<Place>, AllocError>
     ensures { IfOk result (λ places. places.items ≡ places_of found.now) }
 {
     let mut places = Vec::new(alloc);
+    let mut seen = BTreeSet::new(alloc);
     for finding in found {
-        if !has_place(places.as_slice(), finding.place) {
-            places.push(finding.place)?;
-        }
+        push_new(&mut places, &mut seen, finding.place)?;
     }
     Ok(places)
 }
 
-fn has_place(places: &[Place], place: Place) -> bool
-    ensures { result ≡ list_any (is_place place) places.now }
+/// Appends a place if it is none of the places so far, which have all been seen.
+fn push_new(
+    places: &mut Vec<Place>,
+    seen: &mut BTreeSet<PlaceKey>,
+    place: Place,
+) -> Result<(), AllocError>
+    requires { HasPlaces seen.old places.old.items }
+    ensures places { OnOk result (places.new.items ≡ places.old.items ++ (if list_any (is_place place) places.old.items then [] else place ∷ [])) }
+    ensures seen { OnOk result (HasPlaces seen.new places.new.items) }
 {
-    places.iter().any(|other| is_place(place, *other))
-}
-
-/// Whether two places are the same.
-pub fn is_place(place: Place, other: Place) -> bool
-    ensures { result ≡ is_place place other }
-{
-    match (place, other) {
-        (Place::Module(one), Place::Module(two)) => one.0 == two.0,
-        (Place::Bundle(one), Place::Bundle(two)) => one.0 == two.0,
-        _ => false,
+    let is_new = seen.insert(place_key(place))?;
+    if !is_new {
+        return Ok(());
     }
+    places.push(place)?;
+    Ok(())
 }
 
 fn is_module(place: Place) -> bool
@@ -116,20 +121,19 @@ fn is_module(place: Place) -> bool
     }
 }
 
-/// Appends the row of a place: its name, filled with blanks to the width of the names, `!` in each column with a finding there, and a line feed.
+/// Appends the row of a place: its name, filled with blanks to the width of the names, `!` in each column that is marked there, and a line feed.
 /// There are no blanks at its end.
 pub fn push_place_row(
     row: &mut Vec<u8>,
     netlist: &Netlist,
     layout: DiagramLayout,
     place: Place,
-    found: &[Finding],
+    marked: &MarkedColumns,
 ) -> Result<(), AllocError>
-    requires { All (λ (f : Found). IsTrue (is_within layout.columns f)) found.now }
-    ensures { OnOk result (row.new.items ≡ row.old.items ++ place_row netlist.now layout place found.now) }
+    ensures { OnOk result (row.new.items ≡ row.old.items ++ marked_row netlist.now layout marked.now place) }
 {
     push_padded(row, place_name(netlist, place).as_bytes(), layout.margin)?;
-    let marks = marks_of(*row.allocator(), layout.columns, place, found)?;
+    let marks = marks_of(*row.allocator(), layout.columns, place, marked)?;
     row.extend_from_slice(trimmed(marks.as_slice()))?;
     row.push(b'\n')?;
     Ok(())
@@ -151,23 +155,30 @@ pub fn place_name(netlist: &Netlist, place: Place) -> &str
     }
 }
 
-/// A mark for each column: `!` if something is found at the place, and otherwise a blank.
+/// A mark for each column: `!` if it is marked at the place, and otherwise a blank.
 fn marks_of(
     alloc: Global,
     columns: Columns,
     place: Place,
-    found: &[Finding],
+    marked: &MarkedColumns,
 ) -> Result<Vec<u8>, AllocError>
-    requires { All (λ (f : Found). IsTrue (is_within columns f)) found.now }
-    ensures { IfOk result (λ list. list.items ≡ marks columns place found.now) }
+    ensures { IfOk result (λ list. list.items ≡ marks_in columns marked.now place) }
 {
-    let mut marks = vec![in alloc; b' '; columns.count() as usize]?;
-    for finding in found {
-        if is_place(place, finding.place) {
-            marks[columns.column_of(finding.time) as usize] = b'!';
-        }
+    let mut marks = Vec::new(alloc);
+    for column in 0..columns.count() {
+        marks.push(mark_in(marked, place, column))?;
     }
     Ok(marks)
+}
+
+fn mark_in(marked: &MarkedColumns, place: Place, column: u32) -> u8
+    ensures { result ≡ mark_in marked.now place column }
+{
+    if marked.has(place, column) {
+        b'!'
+    } else {
+        b' '
+    }
 }
 
 /// Marks without the blanks at their end.

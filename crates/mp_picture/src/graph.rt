@@ -1,15 +1,19 @@
 //! A netlist as a graph in the language of Graphviz.
-ghost use Rattle.std.specs.Prelude.{◌≡◌, IfOk};
-ghost use Rattle.mp_streams.specs.WriteErrors.{Writes};
+ghost use Rattle.std.specs.Prelude.{◌≡◌, ◌<◌, length};
+ghost use Rattle.mp_streams.specs.Outgoing.{Writes};
+ghost use Rattle.mp_streams.specs.WriteErrors.{Writes as WritesIfMemory};
 ghost use Rattle.mp_picture.specs.Graphs.{wire_lines, wire_edges, is_inner};
 ghost use Rattle.mp_picture.specs.GraphSections.{slot_count, section_line, section_text, graph};
 
 use crate::bundle_lines::put_bundle_lines;
 use crate::edges::{put_edges, put_own_lines};
 use crate::nodes::put_module_node;
+use crate::readers::Readers;
+use crate::wired_netlist::WiredNetlist;
+use mp_depend::drivers_of;
 use mp_netlist::{Driver, Netlist, WireId};
-use mp_streams::{Out, Sink, WriteError};
-use std::alloc::AllocError;
+use mp_streams::{Failed, Out, Sink, WriteError};
+use std::alloc::Global;
 
 /// The lines of a graph, of one sort each.
 #[derive(Clone, Copy, PartialEq, Eq)]
@@ -29,30 +33,48 @@ const HEAD: &str = "digraph netlist {
 
 /// Writes a netlist as a graph, for `dot`: a node for each module, each wire that no port drives or no module reads, and each bundle, an edge for
 /// each read, and a dashed line to each bundle from each of its wires. `WriteFailed` comes if the sink fails; then the sink has a beginning of what
-/// was held and of the graph, and nothing is held. `OutOfMemory` comes if memory runs out; then a beginning of the graph is written. It takes memory
-/// for the reads of one wire.
-pub fn put_graph<S: Sink>(out: &mut Out<S>, netlist: &Netlist) -> Result<(), WriteError>
-    ensures { Writes result out.old out.new (graph netlist.now) }
+/// was held and of the graph, and nothing is held. `OutOfMemory` comes before anything is written. It takes memory for the driver and the readers of
+/// each wire.
+pub fn put_graph<S: Sink>(
+    alloc: Global,
+    out: &mut Out<S>,
+    netlist: &Netlist,
+) -> Result<(), WriteError>
+    ensures { WritesIfMemory result out.old out.new (graph netlist.now) }
+{
+    let drivers = drivers_of(alloc, netlist)?;
+    let readers = Readers::of(alloc, netlist)?;
+    let wired = WiredNetlist {
+        netlist,
+        drivers: drivers.as_slice(),
+        readers: &readers,
+    };
+    put_sections(out, wired)?;
+    Ok(())
+}
+
+/// Writes the sections of a graph, with what stands around them.
+fn put_sections<S: Sink>(out: &mut Out<S>, wired: WiredNetlist<'_>) -> Result<(), Failed>
+    ensures { Writes result out.old out.new (graph wired.entry.netlist.now) }
 {
     out.put_text(HEAD)?;
-    put_section(out, netlist, GraphSection::Modules)?;
-    put_section(out, netlist, GraphSection::Wires)?;
-    put_section(out, netlist, GraphSection::Reads)?;
-    put_section(out, netlist, GraphSection::Bundles)?;
-    out.put_text("}\n")?;
-    Ok(())
+    put_section(out, wired, GraphSection::Modules)?;
+    put_section(out, wired, GraphSection::Wires)?;
+    put_section(out, wired, GraphSection::Reads)?;
+    put_section(out, wired, GraphSection::Bundles)?;
+    out.put_text("}\n")
 }
 
 /// Writes the lines of a section, by number.
 fn put_section<S: Sink>(
     out: &mut Out<S>,
-    netlist: &Netlist,
+    wired: WiredNetlist<'_>,
     section: GraphSection,
-) -> Result<(), WriteError>
-    ensures { Writes result out.old out.new (section_text netlist.now section) }
+) -> Result<(), Failed>
+    ensures { Writes result out.old out.new (section_text wired.entry.netlist.now section) }
 {
-    for number in 0..slot_count(netlist, section) {
-        put_slot(out, netlist, section, number)?;
+    for number in 0..slot_count(wired.netlist, section) {
+        put_slot(out, wired, section, number)?;
     }
     Ok(())
 }
@@ -71,56 +93,57 @@ fn slot_count(netlist: &Netlist, section: GraphSection) -> u32
 /// Writes the lines of a section for the slot of this number.
 fn put_slot<S: Sink>(
     out: &mut Out<S>,
-    netlist: &Netlist,
+    wired: WiredNetlist<'_>,
     section: GraphSection,
     number: u32,
-) -> Result<(), WriteError>
-    ensures { Writes result out.old out.new (section_line netlist.now section number) }
+) -> Result<(), Failed>
+    requires { number < slot_count wired.netlist.now section }
+    ensures { Writes result out.old out.new (section_line wired.entry.netlist.now section number) }
 {
     match section {
-        GraphSection::Modules => Ok(put_module_node(out, netlist, number)?),
-        GraphSection::Wires => put_wire_lines(out, netlist, WireId(number)),
-        GraphSection::Reads => put_wire_edges(out, netlist, WireId(number)),
-        GraphSection::Bundles => Ok(put_bundle_lines(out, netlist, number)?),
+        GraphSection::Modules => put_module_node(out, wired.netlist, number),
+        GraphSection::Wires => put_wire_lines(out, wired, WireId(number)),
+        GraphSection::Reads => put_wire_edges(out, wired, WireId(number)),
+        GraphSection::Bundles => put_bundle_lines(out, wired, number),
     }
 }
 
 /// Writes the lines of a wire that no port drives or no module reads, and for any other nothing.
 fn put_wire_lines<S: Sink>(
     out: &mut Out<S>,
-    netlist: &Netlist,
+    wired: WiredNetlist<'_>,
     wire: WireId,
-) -> Result<(), WriteError>
-    ensures { Writes result out.old out.new (wire_lines netlist.now wire.0) }
+) -> Result<(), Failed>
+    requires { wire.0 < length wired.netlist.now.wires }
+    ensures { Writes result out.old out.new (wire_lines wired.entry.netlist.now wire.0) }
 {
-    if netlist.wire(wire).is_none() || is_inner(netlist, wire)? {
+    if wired.netlist.wire(wire).is_none() || is_inner(wired, wire) {
         return Ok(());
     }
-    put_own_lines(out, netlist, wire, netlist.driver_of(wire))?;
-    Ok(())
+    put_own_lines(out, wired.netlist, wire, wired.driver_of(wire))
 }
 
 /// Whether a port drives the wire and a module reads it.
-fn is_inner(netlist: &Netlist, wire: WireId) -> Result<bool, AllocError>
-    ensures { IfOk result (λ inner. inner ≡ is_inner netlist.now wire.0) }
+fn is_inner(wired: WiredNetlist<'_>, wire: WireId) -> bool
+    requires { wire.0 < length wired.netlist.now.wires }
+    ensures { result ≡ is_inner wired.entry.netlist.now wire.0 }
 {
-    let Driver::Port(..) = netlist.driver_of(wire) else {
-        return Ok(false);
-    };
-    let readers = netlist.readers_of(wire)?;
-    Ok(!readers.is_empty())
+    match wired.driver_of(wire) {
+        Driver::Port(..) => !wired.readers_of(wire).is_empty(),
+        Driver::Nothing | Driver::Stimulus => false,
+    }
 }
 
 /// Writes the lines of a wire's edges.
 fn put_wire_edges<S: Sink>(
     out: &mut Out<S>,
-    netlist: &Netlist,
+    wired: WiredNetlist<'_>,
     wire: WireId,
-) -> Result<(), WriteError>
-    ensures { Writes result out.old out.new (wire_edges netlist.now wire.0) }
+) -> Result<(), Failed>
+    requires { wire.0 < length wired.netlist.now.wires }
+    ensures { Writes result out.old out.new (wire_edges wired.entry.netlist.now wire.0) }
 {
-    let driver = netlist.driver_of(wire);
-    let readers = netlist.readers_of(wire)?;
-    put_edges(out, netlist, wire, driver, readers.as_slice())?;
-    Ok(())
+    let driver = wired.driver_of(wire);
+    let readers = wired.readers_of(wire);
+    put_edges(out, wired.netlist, wire, driver, readers)
 }

@@ -10,12 +10,14 @@ mod head;
 mod lane;
 pub mod laws;
 mod leads;
+mod mark_numbers;
 mod mark_rows;
 mod style;
 mod svg;
 mod svg_drawing;
 mod value_group;
 mod wire_group;
+mod wire_rows;
 
 pub use arrow::{Arrow, WirePoint};
 pub use lane::Lane;

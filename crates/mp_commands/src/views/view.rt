@@ -81,7 +81,7 @@ impl<'a> View<'a> {
             View::Report => put_report_lines(rt, alloc, out, of),
             View::Check => put_check_lines(rt, alloc, out, of),
             View::Dump => put_dump(rt, alloc, out, of.netlist, of.waves, of.threads()),
-            View::Graph => put_graph(out, of.netlist),
+            View::Graph => put_graph(alloc, out, of.netlist),
             View::Verilog => put_verilog(alloc, out, of.netlist),
             View::Picture(picture) => picture.put(rt, alloc, out, of),
             View::CausePicture(picture) => picture.put(rt, alloc, out, of),

@@ -4,3 +4,4 @@ pub mod ColumnLemmas
 pub mod TextLemmas
 pub mod BitRowLemmas
 pub mod WordRowLemmas
+pub mod MarkLemmas

@@ -1,6 +1,6 @@
 -- The rows of what is found in a picture.
-use Rattle.std.specs.Prelude.{ℕ, ◌==◌, Bool, ◌&&◌, List, [], ◌∷◌, Option, Some, None, fold, if◌then◌else◌}
-use Rattle.std.specs.List.{flat_map}
+use Rattle.std.specs.Prelude.{◌≡◌, ℕ, ◌==◌, Bool, ◌&&◌, List, [], ◌∷◌, Option, Some, None, fold, if◌then◌else◌}
+use Rattle.std.specs.List.{flat_map, position}
 use Rattle.mp_modules.specs.Findings.{by_number, code_number}
 use Rattle.mp_modules.specs.declared.finding_code.FindingCode.{FindingCode}
 use Rattle.mp_model.specs.declared.finding.Place.{Place}
@@ -8,7 +8,9 @@ use Rattle.mp_model.specs.declared.finding.Finding.{Finding}
 use Rattle.mp_picture.specs.declared.columns.Columns.{Columns}
 use Rattle.mp_picture.specs.Columns.{column_of}
 use Rattle.mp_picture.specs.Found.{is_place}
+use Rattle.mp_picture.specs.declared.svg.mark_numbers.MarkNumbers.{MarkNumbers}
 use Rattle.mp_picture.specs.declared.svg.mark_rows.MarkRow.{MarkRow}
+use Rattle.mp_picture.specs.svg.MarkNumbers.{is_mark, number_of}
 
 -- a code is found at a place
 abbrev pub is_at : Place → FindingCode → Finding → Bool
@@ -30,3 +32,7 @@ rows_at c found place = flat_map (λ code. row_if place code (last_of c place co
 -- for each place
 abbrev pub mark_rows : Columns → List Place → List Finding → List MarkRow
 mark_rows c places found = flat_map (rows_at c found) places
+
+-- the numbers of codes at places are those of their first rows
+abbrev pub HasFirstRows : List MarkRow → MarkNumbers → Type 0
+HasFirstRows rows firsts = (place : Place) (code : FindingCode) → number_of firsts place code ≡ position (λ (r : MarkRow). is_mark r.place r.code place code) rows

@@ -1,13 +1,13 @@
 //! The arrows of an SVG.
-ghost use Rattle.std.specs.Prelude.{◌≡◌, ◌<◌, ◌^◌, length};
+ghost use Rattle.std.specs.Prelude.{◌≡◌};
 ghost use Rattle.std.specs.List.{flat_map, list_any};
 ghost use Rattle.mp_streams.specs.Outgoing.{Writes};
 ghost use Rattle.mp_picture.specs.svg.Arrows.{is_shown, spot_of, arrow_text, arrows_start, arrow_list, is_drawn, arrow_group};
 
 use crate::svg::arrow::{Arrow, WirePoint};
 use crate::svg::frame::Frame;
-use crate::svg::leads::{lead_x, place_among, wire_among};
-use mp_netlist::WireId;
+use crate::svg::leads::lead_x;
+use crate::svg::wire_rows::WireRows;
 use mp_streams::{Failed, Out, Sink, Text};
 
 /// The style and the head of arrows, and what their group begins with.
@@ -33,10 +33,9 @@ pub(crate) struct Spot {
 pub(crate) fn put_arrow_group<S: Sink>(
     out: &mut Out<S>,
     frame: Frame,
-    wires: &[WireId],
+    wires: &WireRows,
     arrows: &[Arrow],
 ) -> Result<(), Failed>
-    requires { length wires.now < 2 ^ 32 }
     ensures { Writes result out.old out.new (arrow_group frame wires.now arrows.now) }
 {
     if is_one_drawn(frame, wires, arrows) {
@@ -47,36 +46,35 @@ pub(crate) fn put_arrow_group<S: Sink>(
 }
 
 /// Whether an arrow has both its ends in the picture.
-fn is_one_drawn(frame: Frame, wires: &[WireId], arrows: &[Arrow]) -> bool
+fn is_one_drawn(frame: Frame, wires: &WireRows, arrows: &[Arrow]) -> bool
     ensures { result ≡ list_any (is_drawn frame wires.now) arrows.now }
 {
     arrows.iter().any(|arrow| is_drawn(frame, wires, *arrow))
 }
 
 /// Whether both ends of an arrow are in the picture.
-fn is_drawn(frame: Frame, wires: &[WireId], arrow: Arrow) -> bool
+fn is_drawn(frame: Frame, wires: &WireRows, arrow: Arrow) -> bool
     ensures { result ≡ is_drawn frame wires.now arrow }
 {
     is_shown(frame, wires, arrow.from) && is_shown(frame, wires, arrow.to)
 }
 
 /// Whether the wire has a row, and the time is in the range.
-fn is_shown(frame: Frame, wires: &[WireId], point: WirePoint) -> bool
+fn is_shown(frame: Frame, wires: &WireRows, point: WirePoint) -> bool
     ensures { result ≡ is_shown frame wires.now point }
 {
     let columns = frame.columns;
     let is_in_range = columns.from <= point.time && point.time < columns.to;
-    place_among(wires, point.wire) < wires.len() && is_in_range
+    wires.row_of(point.wire) < wires.len() && is_in_range
 }
 
 /// Writes the arrows with both ends in the picture, with their group around them.
 fn put_arrow_list<S: Sink>(
     out: &mut Out<S>,
     frame: Frame,
-    wires: &[WireId],
+    wires: &WireRows,
     arrows: &[Arrow],
 ) -> Result<(), Failed>
-    requires { length wires.now < 2 ^ 32 }
     ensures { Writes result out.old out.new (arrow_list frame wires.now arrows.now) }
 {
     put_start(out)?;
@@ -94,10 +92,9 @@ fn put_start<S: Sink>(out: &mut Out<S>) -> Result<(), Failed>
 fn put_arrows<S: Sink>(
     out: &mut Out<S>,
     frame: Frame,
-    wires: &[WireId],
+    wires: &WireRows,
     arrows: &[Arrow],
 ) -> Result<(), Failed>
-    requires { length wires.now < 2 ^ 32 }
     ensures { Writes result out.old out.new (flat_map (arrow_text frame wires.now) arrows.now) }
 {
     for &arrow in arrows {
@@ -110,10 +107,9 @@ fn put_arrows<S: Sink>(
 fn put_arrow<S: Sink>(
     out: &mut Out<S>,
     frame: Frame,
-    wires: &[WireId],
+    wires: &WireRows,
     arrow: Arrow,
 ) -> Result<(), Failed>
-    requires { length wires.now < 2 ^ 32 }
     ensures { Writes result out.old out.new (arrow_text frame wires.now arrow) }
 {
     let from = spot_of(frame, wires, arrow.from);
@@ -130,12 +126,11 @@ fn put_arrow<S: Sink>(
 
 /// The point of a wire at a time: at the time's edge, or in the middle of its column, and in the middle of the wire's row. There is none if the wire
 /// has no row, or the time isn't in the range.
-fn spot_of(frame: Frame, wires: &[WireId], point: WirePoint) -> Option<Spot>
-    requires { length wires.now < 2 ^ 32 }
+fn spot_of(frame: Frame, wires: &WireRows, point: WirePoint) -> Option<Spot>
     ensures { result ≡ spot_of frame wires.now point }
 {
-    let (row, columns) = (wire_among(wires, point.wire), frame.columns);
-    if row as usize >= wires.len() {
+    let (row, columns) = (wires.row_of(point.wire), frame.columns);
+    if row >= wires.len() {
         return None;
     }
     if point.time < columns.from || point.time >= columns.to {

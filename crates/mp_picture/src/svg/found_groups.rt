@@ -4,13 +4,13 @@ ghost use Rattle.std.specs.List.{flat_map, enumerate_from};
 ghost use Rattle.mp_streams.specs.Outgoing.{Writes};
 ghost use Rattle.mp_model.specs.declared.finding.Finding.{Finding as Found};
 ghost use Rattle.mp_picture.specs.Found.{is_within};
-ghost use Rattle.mp_picture.specs.svg.FoundGroups.{place_kind, place_number, mark_group, mark_groups, words_end, word_end, mark, row_among, finding_group, finding_groups};
+ghost use Rattle.mp_picture.specs.svg.FoundGroups.{place_kind, place_number, mark_group, mark_groups, words_end, word_end, mark, finding_group, finding_groups};
 
 use crate::place_name;
 use crate::svg::elements::Label;
 use crate::svg::frame::Frame;
 use crate::svg::lane::Lane;
-use crate::svg::mark_rows::{MarkRow, is_at};
+use crate::svg::mark_rows::{MarkRow, MarkRows};
 use mp_model::{Finding, Place};
 use mp_netlist::Netlist;
 use mp_report::FindingText;
@@ -101,7 +101,7 @@ pub(crate) fn put_findings<S: Sink>(
     netlist: &Netlist,
     frame: Frame,
     first: u32,
-    rows: &[MarkRow],
+    rows: &MarkRows,
     found: &[Finding],
 ) -> Result<(), Failed>
     requires few { first + length rows.now < 2 ^ 32 }
@@ -109,24 +109,10 @@ pub(crate) fn put_findings<S: Sink>(
     ensures { Writes result out.old out.new (finding_groups netlist.now frame first rows.now found.now) }
 {
     for &finding in found {
-        let row = row_among(rows, finding);
-        let lane = frame.lane(first + row);
+        let lane = frame.lane(first + rows.row_of(finding));
         put_finding(out, netlist, frame, lane, finding)?;
     }
     Ok(())
-}
-
-/// The index of the row of a finding among some rows.
-pub(crate) fn row_among(rows: &[MarkRow], finding: Finding) -> u32
-    requires { length rows.now < 2 ^ 32 }
-    ensures value { result ≡ row_among rows.now finding }
-    ensures within { result ≤ length rows.now }
-{
-    let before = rows
-        .iter()
-        .take_while(|row| !is_at(row.place, row.code, finding))
-        .count();
-    before as u32
 }
 
 /// Writes the mark of a finding in a row, with the report's line as its title.

@@ -6,12 +6,12 @@ ghost use Rattle.mp_records.specs.declared.ports.Input.{Input as Read};
 ghost use Rattle.mp_model.specs.declared.finding.Finding.{Finding as Found};
 ghost use Rattle.mp_netlist.specs.Circuit.{module_at, bundle_at};
 ghost use Rattle.mp_picture.specs.Found.{is_within};
-ghost use Rattle.mp_picture.specs.svg.FoundGroups.{wire_among, lead_x, lead_to, module_leads, bundle_leads, place_leads, lead, leads, lead_group};
+ghost use Rattle.mp_picture.specs.svg.FoundGroups.{lead_x, lead_to, module_leads, bundle_leads, place_leads, lead, leads, lead_group};
 
-use crate::svg::found_groups::row_among;
 use crate::svg::frame::Frame;
 use crate::svg::lane::Lane;
-use crate::svg::mark_rows::MarkRow;
+use crate::svg::mark_rows::MarkRows;
+use crate::svg::wire_rows::WireRows;
 use mp_model::{Finding, Place};
 use mp_netlist::{BundleId, Input, ModuleId, Netlist, WireId};
 use mp_streams::{Failed, Out, Sink, Text};
@@ -20,10 +20,9 @@ use mp_streams::{Failed, Out, Sink, Text};
 #[derive(Clone, Copy)]
 struct Start<'a> {
     frame: Frame,
-    wires: &'a [WireId],
+    wires: &'a WireRows,
     x: u64,
     y: u64,
-    ghost few: { length wires.now < 2 ^ 32 },
     ghost low: { x < 2 ^ 63 },
 }
 
@@ -41,8 +40,8 @@ impl<'a> Text for Lead<'a> {
 
     fn put_to<S: Sink>(&self, out: &mut Out<S>) -> Result<(), Failed> {
         let (x, y) = (self.start.x, self.start.y);
-        let row = wire_among(self.start.wires, self.wire);
-        if row as usize >= self.start.wires.len() {
+        let row = self.start.wires.row_of(self.wire);
+        if row >= self.start.wires.len() {
             return Ok(());
         }
         let end = self.start.frame.lane(row).middle();
@@ -51,29 +50,13 @@ impl<'a> Text for Lead<'a> {
     }
 }
 
-/// The index of a wire among some wires.
-pub(crate) fn wire_among(wires: &[WireId], wire: WireId) -> u32
-    requires { length wires.now < 2 ^ 32 }
-    ensures { result ≡ wire_among wires.now wire }
-{
-    place_among(wires, wire) as u32
-}
-
-/// How many wires stand before a wire; as many as there are if it isn't among them.
-pub(crate) fn place_among(wires: &[WireId], wire: WireId) -> usize
-    ensures value { result ≡ wire_among wires.now wire }
-    ensures bound { result ≤ length wires.now }
-{
-    wires.iter().take_while(|other| other.0 != wire.0).count()
-}
-
 /// Writes the lines of the marks of all findings, to the rows of these wires.
 pub(crate) fn put_lead_group<S: Sink>(
     out: &mut Out<S>,
     netlist: &Netlist,
     frame: Frame,
-    wires: &[WireId],
-    rows: &[MarkRow],
+    wires: &WireRows,
+    rows: &MarkRows,
     found: &[Finding],
 ) -> Result<(), Failed>
     requires few { length wires.now + length rows.now < 2 ^ 32 }
@@ -89,17 +72,17 @@ fn put_leads<S: Sink>(
     out: &mut Out<S>,
     netlist: &Netlist,
     frame: Frame,
-    wires: &[WireId],
-    rows: &[MarkRow],
+    wires: &WireRows,
+    rows: &MarkRows,
     found: &[Finding],
 ) -> Result<(), Failed>
     requires few { length wires.now + length rows.now < 2 ^ 32 }
     requires within { All (λ (f : Found). IsTrue (is_within frame.columns f)) found.now }
     ensures { Writes result out.old out.new (leads netlist.now frame wires.now rows.now found.now) }
 {
-    let first = wires.len() as u32;
+    let first = wires.len();
     for &finding in found {
-        let lane = frame.lane(first + row_among(rows, finding));
+        let lane = frame.lane(first + rows.row_of(finding));
         put_lead(out, netlist, frame, wires, lane, finding)?;
     }
     Ok(())
@@ -110,12 +93,11 @@ fn put_lead<S: Sink>(
     out: &mut Out<S>,
     netlist: &Netlist,
     frame: Frame,
-    wires: &[WireId],
+    wires: &WireRows,
     lane: Lane,
     finding: Finding,
 ) -> Result<(), Failed>
-    requires few { length wires.now < 2 ^ 32 }
-    requires within { IsTrue (is_within frame.columns finding) }
+    requires { IsTrue (is_within frame.columns finding) }
     ensures { Writes result out.old out.new (lead netlist.now frame wires.now lane finding) }
 {
     let column = frame.columns.column_of(finding.time);

@@ -13,8 +13,9 @@ use crate::svg::found_groups::{put_findings, put_mark_rows, words_end};
 use crate::svg::frame::Frame;
 use crate::svg::head::{put_head, title_end};
 use crate::svg::leads::put_lead_group;
-use crate::svg::mark_rows::{MarkRow, mark_rows};
+use crate::svg::mark_rows::{MarkRow, MarkRows, mark_rows};
 use crate::svg::wire_group::put_wire_group;
+use crate::svg::wire_rows::WireRows;
 use crate::{Picture, cells, found_within, margin_of, rows_of};
 use mp_model::Finding;
 use mp_netlist::WireId;
@@ -29,7 +30,8 @@ pub const MOST_COLUMNS: u32 = 1200;
 struct Sheet<'a> {
     frame: Frame,
     title: &'a str,
-    rows: &'a [MarkRow],
+    wires: &'a WireRows,
+    rows: &'a MarkRows,
     found: &'a [Finding],
     arrows: &'a [Arrow],
 }
@@ -41,7 +43,7 @@ struct Sheet<'a> {
 ///
 /// `WriteFailed` comes if the sink fails; then the sink has a beginning of what was held and of the SVG, and nothing is held. `OutOfMemory` comes if
 /// memory runs out, or if there are 2^32 rows or more, which no netlist has: then a part of the SVG, from its front, is written. It takes memory for
-/// the findings in the range and for the cells of one wire.
+/// the findings in the range, for the wires and for the cells of one wire.
 pub fn put_svg<S: Sink>(
     alloc: Global,
     out: &mut Out<S>,
@@ -66,14 +68,16 @@ pub fn put_svg<S: Sink>(
         numerals: picture.numerals,
     };
     let row_list = mark_rows(alloc, columns, places, found)?;
-    let rows = row_list.as_slice();
-    if !are_few(picture.wires, rows) {
+    if !are_few(picture.wires, row_list.as_slice()) {
         return Err(WriteError::OutOfMemory);
     }
+    let rows = MarkRows::new(alloc, row_list)?;
+    let wires = WireRows::new(alloc, picture.wires)?;
     let sheet = Sheet {
         frame,
         title,
-        rows,
+        wires: &wires,
+        rows: &rows,
         found,
         arrows,
     };
@@ -94,7 +98,8 @@ fn sheet_width(sheet: Sheet<'_>) -> u64
     let frame = sheet.frame;
     let columns = frame.end();
     let title = title_end(frame, sheet.title);
-    columns.max(title).max(words_end(frame, sheet.rows)) + 8
+    let words = words_end(frame, sheet.rows.as_slice());
+    columns.max(title).max(words) + 8
 }
 
 /// Writes the SVG of a picture, given what it has beside its wires.
@@ -106,29 +111,32 @@ fn put_sheet<S: Sink>(
 ) -> Result<(), WriteError>
     requires waves { AreWavesOf picture.now.netlist.now picture.now.waves.now }
     requires horizon { parts.frame.columns.to ≤ picture.now.netlist.now.horizon }
-    requires few { length picture.now.wires.now + length parts.rows.now < 2 ^ 32 }
+    requires wires { parts.wires.now ≡ picture.now.wires.now }
+    requires few { length parts.wires.now + length parts.rows.now < 2 ^ 32 }
     requires within { All (λ (f : Found). IsTrue (is_within parts.frame.columns f)) parts.found.now }
-    ensures { Writes result out.old out.new (sheet picture.now.netlist.now parts.entry.frame parts.entry.title.now picture.now.wires.now parts.entry.rows.now parts.entry.found.now parts.entry.arrows.now) }
+    ensures { Writes result out.old out.new (sheet picture.now.netlist.now parts.entry.frame parts.entry.title.now parts.entry.wires.now parts.entry.rows.now parts.entry.found.now parts.entry.arrows.now) }
 {
-    let (netlist, wires) = (picture.netlist, picture.wires);
+    let netlist = picture.netlist;
     let Sheet {
         frame,
         title,
+        wires,
         rows,
         found,
         arrows,
     } = parts;
-    let first = wires.len() as u32;
+    let first = wires.len();
+    let marked = rows.as_slice();
     put_head(
         out,
         frame,
         sheet_width(parts),
-        first + rows.len() as u32,
+        first + marked.len() as u32,
         title,
     )?;
     put_lead_group(out, netlist, frame, wires, rows, found)?;
     put_wires(alloc, out, picture, frame)?;
-    put_mark_rows(out, netlist, frame, first, rows)?;
+    put_mark_rows(out, netlist, frame, first, marked)?;
     put_findings(out, netlist, frame, first, rows, found)?;
     put_arrow_group(out, frame, wires, arrows)?;
     out.put_text("</svg>\n")?;

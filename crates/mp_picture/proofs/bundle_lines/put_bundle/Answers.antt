@@ -5,14 +5,14 @@ use Rattle.mp_picture.proofs.bundle_lines.put_bundle.Goals as goal
 
 pub returns-in_err-put_box : goal.returns-in_err-put_box
 returns-in_err-put_box g c =
-    let n = c.args.netlist.now in
+    let n = c.args.wired.netlist.now in
     let r = c.args.bundle.now in
     let later = bundle_edge n r.name r.acknowledge (codes ":a:w") ++ bundle_edge n r.name r.payload (codes ":d:w") in
     writes_failed _ c.from_residual.ensures.0 (puts_sooner (bundle_edge n r.name r.request (codes ":r:w") ++ later) c.in_err-put_box.ensures)
 
 pub returns-in_err-put_line : goal.returns-in_err-put_line
 returns-in_err-put_line g c =
-    let n = c.args.netlist.now in
+    let n = c.args.wired.netlist.now in
     let r = c.args.bundle.now in
     let later = bundle_edge n r.name r.acknowledge (codes ":a:w") ++ bundle_edge n r.name r.payload (codes ":d:w") in
     let line = rw c.as_str-name.ensures at c.in_err-put_line.ensures in
@@ -20,7 +20,7 @@ returns-in_err-put_line g c =
 
 pub returns-in_err-put_line-2 : goal.returns-in_err-put_line-2
 returns-in_err-put_line-2 g c =
-    let n = c.args.netlist.now in
+    let n = c.args.wired.netlist.now in
     let r = c.args.bundle.now in
     let first = rw c.as_str-name.ensures at c.in_ok-put_line.ensures in
     let line = rw c.as_str-name.ensures at c.in_err-put_line-2.ensures in

@@ -1,5 +1,5 @@
-use Rattle.std.proofs.Common.{◌≡◌, ◌<◌, refl, arith}
-use Rattle.mp_streams.proofs.OutLemmas.{puts_none, puts_as}
+use Rattle.std.proofs.Common.{◌≡◌, ◌<◌, arith}
+use Rattle.mp_streams.proofs.OutLemmas.{puts_none, writes_failed}
 use Rattle.mp_picture.specs.GraphSections.{slot_count, section_line}
 use Rattle.mp_picture.proofs.PutLemmas.{numbers_next, numbers_stopped, numbers_over}
 use Rattle.mp_picture.proofs.graph.put_section.Goals as goal
@@ -9,7 +9,7 @@ loop-number-init g c = puts_none c.args.out.now
 
 pub loop-number-preserved : goal.loop-number-preserved
 loop-number-preserved g c =
-    let n = c.args.netlist.now in
+    let n = c.args.wired.netlist.now in
     let s = c.args.section in
     let k = c.loop-number.number in
     let within : k < slot_count n s = omega (arith, c.slot_count-number-end.ensures) in
@@ -17,15 +17,15 @@ loop-number-preserved g c =
 
 pub returns-in_err-put_slot : goal.returns-in_err-put_slot
 returns-in_err-put_slot g c =
-    let n = c.args.netlist.now in
+    let n = c.args.wired.netlist.now in
     let s = c.args.section in
     let k = c.loop-number.number in
     let within : k < slot_count n s = omega (arith, c.slot_count-number-end.ensures) in
-    puts_as _ c.in_err-put_slot.field-0.0 c.from_residual.ensures.1 refl (numbers_stopped (section_line n s) (slot_count n s) k within c.loop-number.invariant c.in_err-put_slot.ensures)
+    writes_failed _ c.from_residual.ensures.0 (numbers_stopped (section_line n s) (slot_count n s) k within c.loop-number.invariant c.in_err-put_slot.ensures)
 
 pub returns : goal.returns
 returns g c =
-    let n = c.args.netlist.now in
+    let n = c.args.wired.netlist.now in
     let s = c.args.section in
     let k = c.loop-number.number in
     let over : k ≡ slot_count n s = omega (arith, c.slot_count-number-end.ensures) in

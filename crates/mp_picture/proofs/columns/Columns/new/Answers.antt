@@ -1,4 +1,4 @@
-use Rattle.std.proofs.Common.{◌≡◌, ℕ, ◌-◌, ◌+◌, ◌<◌, ◌≤◌, max, ap, ap₂, ◌∙◌, arith}
+use Rattle.std.proofs.Common.{◌≡◌, ℕ, ◌+◌, ◌<◌, ◌≤◌, max, ap, ap₂, ◌∙◌, arith}
 use Rattle.mp_picture.specs.RoundNumbers.{rounded_down, units_of}
 use Rattle.mp_picture.proofs.RoundLemmas.{round_some, units_round, units_enough, units_fewest}
 use Rattle.mp_picture.proofs.SameColumnLemmas.{same_columns}

@@ -19,10 +19,10 @@ none = record { time = 0; place = module_place 0; code = MergeCollision }
 pub loop-finding-preserved : goal.loop-finding-preserved
 loop-finding-preserved g c =
     puts_next (text c.args.netlist.now c.args.frame c.args.first c.args.rows.now) _ c.loop-finding.finding-index none c.loop-finding-test.true c.loop-finding.invariant
-    (rw (c.lane-lane.ensures, c.row_among-row.ensures.value) at c.in_ok-put_finding.ensures)
+    (rw (c.lane-lane.ensures, c.row_of.ensures.value) at c.in_ok-put_finding.ensures)
 
 pub returns-in_err-put_finding : goal.returns-in_err-put_finding
 returns-in_err-put_finding g c =
     writes_failed _ c.from_residual.ensures.0
     (puts_stopped (text c.args.netlist.now c.args.frame c.args.first c.args.rows.now) _ c.loop-finding.finding-index none c.loop-finding-test.true c.loop-finding.invariant
-    (rw (c.lane-lane.ensures, c.row_among-row.ensures.value) at c.in_err-put_finding.ensures))
+    (rw (c.lane-lane.ensures, c.row_of.ensures.value) at c.in_err-put_finding.ensures))

@@ -5,4 +5,4 @@ use Rattle.mp_picture.proofs.svg.mark_rows.mark_rows.Given as goal
 
 -- the rows of the places so far
 abbrev pub invariant-loop-place : goal.invariant-loop-place
-invariant-loop-place l = l.rows.items ≡ flat_map (rows_at l.columns l.found) (take l.place-index l.places)
+invariant-loop-place l = l.rows.items ≡ flat_map (rows_at l.fn.columns l.found) (take l.place-index l.places)

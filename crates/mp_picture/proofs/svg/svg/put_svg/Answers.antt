@@ -56,6 +56,12 @@ returns-in_err-row_list g c = puts_unmade _ OutOfMemory _ _ c.from_residual-in_e
 pub returns-then-not-are_few : goal.returns-then-not-are_few
 returns-then-not-are_few g c = puts_unmade (Err OutOfMemory) OutOfMemory _ _ refl refl
 
+pub returns-in_err-rows : goal.returns-in_err-rows
+returns-in_err-rows g c = puts_unmade _ OutOfMemory _ _ c.from_residual-in_err-rows.ensures.1 refl
+
+pub returns-in_err-wires : goal.returns-in_err-wires
+returns-in_err-wires g c = puts_unmade _ OutOfMemory _ _ c.from_residual-in_err-wires.ensures.1 refl
+
 pub returns : goal.returns
 returns g c =
     let n = c.args.picture.now.netlist.now in
@@ -64,11 +70,11 @@ returns g c =
     let ws = c.args.picture.now.wires.now in
     let fs = c.as_slice-found.result.now in
     let ps = c.as_slice-places.result.now in
-    let rs = c.as_slice-rows.result.now in
+    let rs = c.in_ok-rows.rows in
     let m = c.margin_of-margin.result in
     let is = svg_is n cs nu ws c.args.title.now c.args.arrows.now fs ps rs m
     (c.as_slice-found.ensures.value ∙ c.in_ok-found_list.ensures.found ∙ ap (within cs) c.requires.findings)
     (c.as_slice-places.ensures.value ∙ c.in_ok-place_list.ensures)
-    (c.as_slice-rows.ensures.value ∙ c.in_ok-row_list.ensures)
+    (c.in_ok-rows.ensures ∙ c.in_ok-row_list.ensures)
     c.margin_of-margin.ensures in
-    rw is (rw c.min.ensures at c.put_sheet.ensures)
+    rw is (rw (c.min.ensures, c.in_ok-wires.ensures) at c.put_sheet.ensures)
