@@ -102,7 +102,7 @@ tell_watch() {
     cat <<'EOF'
 Shows the netlist of a live desk, again after each edit.
 
-Usage: ./mpwb watch FOLDER SEAT [QUESTION ..]
+Usage: ./mpwb watch [--page FILE] FOLDER SEAT [QUESTION ..]
 
 FOLDER is that of a desk that runs, by `./mpwb desk FILE --at FOLDER`. SEAT is
 viewer-1, viewer-2 .. QUESTION is a line as it is typed at the seat, and its answer
@@ -111,6 +111,13 @@ it is shown again, with the new edits below it. At a terminal it takes the place
 of the one before; otherwise they follow each other, each after a line
 `version N`. If edits come faster than they can be shown, some versions are left
 out. Ctrl-C leaves the seat.
+
+Options:
+      --page <FILE>
+          Write a page to FILE, as meeting.html, which a browser shows without a
+          network. It changes with the netlist, and marks what has changed. Two
+          files beside it, as meeting.data.js and meeting.version.js, have what
+          it shows. Put it first
 
 Exit status:
   0    Ctrl-C ended it
