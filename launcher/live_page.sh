@@ -6,26 +6,11 @@
 page=""         # FILE.html, nothing where no page is written
 page_version="" # the version that the page has, nothing as long as it has none
 run_number=""   # tells the versions of this run from those of another
-unfinished=""   # the file that is just written, by the name that it has till then
 
 take_page() {
     page=$1
     if [[ ${page##*/} != ?*.html || $page == *$'\n'* ]]; then refuse "--page FILE takes the name of a file that ends in .html"; fi
-    if [[ $page == -* ]]; then page=./$page; fi
     run_number=$(date +%s)-$$
-}
-
-# has a command write a file
-put_file() {
-    local file=$1
-    unfinished=$file.$$
-    if ! { "${@:2}" >"$unfinished" && mv -fT -- "$unfinished" "$file"; } 2>/dev/null; then fail_page "$file"; fi
-    unfinished=""
-}
-
-fail_page() {
-    echo "mpwb: can't write $1" >&2
-    exit 3
 }
 
 # shows what was looked at last by the page (which comes last, when it has something to show)
@@ -85,6 +70,5 @@ tell_page() {
 # a page is told that nobody writes it any more
 end_page() {
     trap '' INT TERM HUP
-    if [ -n "$unfinished" ]; then rm -f -- "$unfinished"; fi
     if [ -n "$page_version" ]; then (put_file "${page%.html}.version.js" write_number "$page_version" true) 2>/dev/null || true; fi
 }
