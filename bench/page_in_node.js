@@ -1,7 +1,7 @@
 "use strict";
 // A page without a browser: `node page_in_node.js FILE.html` runs the scripts of the page over elements that keep what is put into them, and a canvas
 // that notes in which colours is painted. Each line of standard input is an expression, whose value, awaited, is written as a line of JSON.
-// What is loaded by the page, with how often, is in `loads`; `hide(true)` and `hide(false)` hide and show the page.
+// What is loaded by the page, with how often, is in `loads`; `setHidden(true)` and `setHidden(false)` hide and show the page.
 
 const { existsSync, readFileSync } = require("fs");
 const { createInterface } = require("readline");
@@ -73,7 +73,9 @@ class Node {
 }
 
 const elements = new Map();
-for (const [, id, inner] of html.replace(/<script>.*?<\/script>/gs, "").matchAll(/<[a-z]+[^>]* id="([\w-]+)"[^>]*>([^<]*)/g)) elements.set(id, Object.assign(new Node(), { textContent: inner }));
+for (const [, id, rest, inner] of html.replace(/<script>.*?<\/script>/gs, "").matchAll(/<[a-z]+[^>]* id="([\w-]+)"([^>]*)>([^<]*)/g)) {
+  elements.set(id, Object.assign(new Node(), { textContent: inner, hidden: / hidden\b/.test(rest) }));
+}
 
 class Script extends Node {}
 
@@ -101,14 +103,14 @@ const page_document = Object.assign(new Node(), {
   createElement: (name) => (name === "script" ? new Script() : new Node()),
 });
 
-function hide(isHidden) {
+function setHidden(isHidden) {
   page_document.hidden = isHidden;
   page_document.tell("visibilitychange");
   page_document.listeners.delete("visibilitychange");
 }
 
 const noted = { matches: false, addEventListener: () => {} };
-Object.assign(globalThis, { document: page_document, loads, hide, window: globalThis, devicePixelRatio: 1, location: { href: String(pathToFileURL(process.argv[2])) } });
+Object.assign(globalThis, { document: page_document, loads, setHidden, window: globalThis, devicePixelRatio: 1, location: { href: String(pathToFileURL(process.argv[2])) } });
 Object.assign(globalThis, {
   matchMedia: () => noted,
   requestAnimationFrame: (act) => setTimeout(act),

@@ -4,7 +4,7 @@
 # page never reads a part of one.
 
 page=""         # FILE.html, nothing where no page is written
-page_version="" # the version that the page has, nothing as long as it has none
+page_version="" # the version whose data are written, nothing as long as there are none
 run_number=""   # tells the versions of this run from those of another
 
 take_page() {
@@ -17,12 +17,11 @@ take_page() {
 draw_page() {
     cat "$room/edits" >>"$room/all"
     put_file "${page%.html}.data.js" write_data
-    put_file "${page%.html}.version.js" write_number "$version" false
-    if [ -z "$page_version" ]; then
-        write_no_texts >"$room/none"
-        put_file "$page" write_page "$(name_of_desk)" "$room/none" "${scripts[@]}" live
-    fi
     page_version=$version
+    put_file "${page%.html}.version.js" write_number false
+    if [ -n "$shown" ]; then return; fi
+    write_no_texts >"$room/none"
+    put_file "$page" write_page "$(name_of_desk)" "$room/none" "${scripts[@]}" live
 }
 
 name_of_desk() { basename -- "$(cd -P -- "$at" && pwd)"; }
@@ -57,11 +56,11 @@ write_strings() {
         END { printf "\",\n});\n" }'
 }
 
-# the number of a version, and whether no other one comes
-write_number() { printf 'live.tell({ run: "%s", version: %d, isOver: %s });\n' "$run_number" "$1" "$2"; }
+# the number of the version, and whether no other one comes
+write_number() { printf 'live.tell({ run: "%s", version: %d, isOver: %s });\n' "$run_number" "$page_version" "$1"; }
 
 # tells of a version that the page has
-tell_page() {
+tell_drawn() {
     local width told="version $version in ${page##*/} (Ctrl-C leaves $name)"
     width=$(terminal_width 4)
     if has_screen 4; then printf '\r\033[K%s' "${told:0:$((${width:-80} - 1))}"; else echo "version $version"; fi
@@ -70,5 +69,5 @@ tell_page() {
 # a page is told that nobody writes it any more
 end_page() {
     trap '' INT TERM HUP
-    if [ -n "$page_version" ]; then (put_file "${page%.html}.version.js" write_number "$page_version" true) 2>/dev/null || true; fi
+    if [ -n "$page_version" ]; then (put_file "${page%.html}.version.js" write_number true) 2>/dev/null || true; fi
 }

@@ -52,11 +52,12 @@ look() {
     local before tries
     for ((tries = 0; tries < most_tries; tries++)); do
         before=$version
-        see >"$room/seen"
+        hear_answer "${question:-text}" >"$room/heard"
         tell_version
         if [ "$version" = "$before" ]; then break; fi
     done
     version=$before
+    see >"$room/seen"
     : >"$room/edits"
     if [ -z "$shown$page" ]; then return; fi
     hear_answer "edits $((shown + 1))" >"$room/told"
@@ -68,21 +69,16 @@ hear_answer() { { ask_seat "$1" && hear; } || fail_left "$at" "$name"; }
 # the answer to the question, and where there is none a picture as wide as the terminal, or the texts of a page
 see() {
     local width plain=()
-    if [ -n "$question" ]; then
-        hear_answer "$question"
-        return
-    fi
-    hear_answer text >"$room/given"
-    if [ -n "$page" ]; then
-        answer_texts "$room/given"
-        return
-    fi
     width=$(terminal_width 4)
-    if [ -z "$width" ]; then
-        (run show "$room/given") || exit
+    if [ -n "$question" ]; then
+        cat "$room/heard"
+    elif [ -n "$page" ]; then
+        answer_texts "$room/heard"
+    elif [ -z "$width" ]; then
+        (run show "$room/heard") || exit
     else
         if ! is_utf8; then plain=(--ascii); fi
-        (fit "$width" "${plain[@]}" "$room/given") || exit
+        (fit "$width" "${plain[@]}" "$room/heard") || exit
     fi
 }
 
@@ -92,7 +88,7 @@ edits_at_terminal=5 # so many of the last ones are shown in place
 
 draw() {
     if [ -n "$page" ]; then
-        tell_page
+        tell_drawn
         return
     fi
     if ! has_screen 4; then
