@@ -115,8 +115,8 @@ out. Ctrl-C leaves the seat.
 
 Options:
       --page <FILE>
-          Write a page to FILE, as meeting.html, that changes with the netlist in
-          a browser and marks what has changed; what it shows is beside it, in
+          Write a page for a browser, as meeting.html, and keep it current.
+          It marks what has changed. What it shows is beside it, in
           meeting.data.js and meeting.version.js. This option comes first
 
 Exit status:

@@ -33,6 +33,7 @@ function compared(all, waves) {
   for (const row of all) {
     const other = others.get(row.name);
     others.delete(row.name);
+    Object.assign(row, { differs: null, before: null, isChanged: false }); // (a version before may have marked it)
     rows.push(row);
     if (!other) {
       told.push({ line: `${row.name} isn't in the second file`, time: 0, row });
