@@ -22,6 +22,7 @@ need_built() {
 # all files that are installed, in a folder that stands for PREFIX, with a man page of this day
 gather() {
     local lib=$1/lib/nesthrim share=$1/share
+    export LC_ALL=C # (words are sorted the same way everywhere)
     mkdir -p "$lib/bin" "$lib/python" "$1/bin" "$room/help" &&
         mkdir -p "$share"/{man/man1,bash-completion/completions,zsh/site-functions,fish/vendor_completions.d} &&
         cp "$program" "$lib/bin/mpwb" &&
@@ -34,7 +35,7 @@ gather() {
         complete_in_bash "$room/help" >"$share/bash-completion/completions/mpwb" &&
         complete_in_zsh "$room/help" >"$share/zsh/site-functions/_mpwb" &&
         complete_in_fish "$room/help" >"$share/fish/vendor_completions.d/mpwb.fish" &&
-        chmod -R u=rwX,go=rX "$1"
+        chmod -R u=rwX,go=rX,ug-s "$1"
 }
 
 # (a file takes the place of an older one at once, which may be that of a program that runs)

@@ -67,7 +67,7 @@ make_archive() {
         cp -R "$room/files/lib/nesthrim" "$at/$name" &&
         cp -R "$room/files/share" "$at/$name/share" &&
         copy_documents "$at/$name" &&
-        chmod -R u=rwX,go=rX "$at" &&
+        chmod -R u=rwX,go=rX,ug-s "$at" &&
         tar -C "$at" -cf "$at.tar" --sort=name --format=gnu --owner=0 --group=0 --numeric-owner --mtime="@$packed_at" "$name" &&
         gzip -9n <"$at.tar" >"$room/$name-x86_64.tar.gz"
 }
@@ -84,7 +84,7 @@ make_debian() {
         write_copyright >"$share/doc/nesthrim/copyright" &&
         (cd "$root" && find usr -type f -print0 | LC_ALL=C sort -z | xargs -0 md5sum) >"$root/DEBIAN/md5sums" &&
         write_control "$library" "$(kilobytes_in "$root/usr")" >"$root/DEBIAN/control" &&
-        chmod -R u=rwX,go=rX "$root" &&
+        chmod -R u=rwX,go=rX,ug-s "$root" &&
         find "$root" -exec touch -h -d "@$packed_at" {} + &&
         SOURCE_DATE_EPOCH=$packed_at DPKG_DEB_THREADS_MAX=1 dpkg-deb --root-owner-group -Zxz --build "$root" "$file" >/dev/null
 }
