@@ -7,7 +7,7 @@ packed_at="" # that time, in seconds
 
 start_package() {
     local library debian=""
-    case $* in '') ;; --deb) debian=yes ;; *) refuse "./mpwb package [--deb]" ;; esac
+    case $#$* in 0) ;; 1--deb) debian=yes ;; *) refuse "./mpwb package [--deb]" ;; esac
     need_sources package
     need_built
     if [ -n "$debian" ]; then need_dpkg; fi
