@@ -2,7 +2,7 @@
 # ./mpwb watch FOLDER SEAT [QUESTION ..]. A viewer's seat asks for the version some times a second, and shows the answer to a question anew where it
 # has changed, or has a page show it (live_page.sh).
 
-seconds_between_looks=0.2
+seconds_between_looks=0.2 # with a page, half of that: the page waits too
 most_tries=10 # to have an answer of one version, while others edit
 
 start_watch() {
@@ -36,7 +36,7 @@ keep_watch() {
             draw 2>/dev/null || fail_device write
             shown=$version
         fi
-        sleep "$seconds_between_looks"
+        if [ -n "$page" ]; then sleep 0.1; else sleep "$seconds_between_looks"; fi
     done
 }
 

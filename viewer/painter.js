@@ -135,7 +135,7 @@ class Painter {
   row(row, y) {
     const { view, colour } = this;
     if (row === view.row || view.pointed.has(row.wire)) this.box(view.labels, y, view.width, ROW, colour.chosen);
-    if (row.differs) this.shade(row.differs, y);
+    if (row.differs) this.shade(row.differs.times, y);
     if (row.before) this.wave({ ...row, wave: row.before, wire: undefined, isBehind: true }, y);
     this.wave(row, y);
     const marks = this.marks.get(row.wire);

@@ -124,10 +124,9 @@ class WaveReader {
 
 /** The waves that `waves` wrote, in its order. What isn't such a text is an error. */
 function readWaves(text) {
-  let count = 0;
-  for (let at = text.indexOf("="); at >= 0; at = text.indexOf("=", at + 1)) count++;
-  const times = new Int32Array(count);
-  const places = new Int32Array(count);
+  const most = text.length >> 2; // (a change has four characters or more; what isn't used of this takes no memory)
+  const times = new Int32Array(most);
+  const places = new Int32Array(most);
   const reader = new WaveReader(text);
   const waves = [];
   let next = 0;
