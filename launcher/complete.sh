@@ -9,7 +9,7 @@ operands_of() {
     help) echo commands ;;
     ask | join | watch) echo folders none ;;
     install) echo folders ;;
-    build | test) echo none ;;
+    build | package | test) echo none ;;
     *) case $(words_before_file "$1") in 0) echo files ;; 1) echo none files ;; *) echo none none files ;; esac ;;
     esac
 }

@@ -4,11 +4,12 @@
 tell_words() {
     cat <<'EOF'
 
-The script ./mpwb has nine more commands, which `./mpwb COMMAND --help` describes:
+The script ./mpwb has ten more commands, which `./mpwb COMMAND --help` describes:
   ask      Sends a line to a seat of a live desk and shows the answer
   build    Proves and builds the program
   install  Installs the program with a man page and completions for shells
   join     Takes a seat of a live desk
+  package  Packs the program for people who have neither sources nor a kit
   page     Writes a page for a browser that shows the waveforms
   races    Shows for each bundle the transfer that tolerates least
   stress   Finds out whether bundles hold while delays vary
@@ -102,7 +103,7 @@ tell_watch() {
     cat <<'EOF'
 Shows the netlist of a live desk, again after each edit.
 
-Usage: ./mpwb watch FOLDER SEAT [QUESTION ..]
+Usage: ./mpwb watch [--page FILE] FOLDER SEAT [QUESTION ..]
 
 FOLDER is that of a desk that runs, by `./mpwb desk FILE --at FOLDER`. SEAT is
 viewer-1, viewer-2 .. QUESTION is a line as it is typed at the seat, and its answer
@@ -111,6 +112,12 @@ it is shown again, with the new edits below it. At a terminal it takes the place
 of the one before; otherwise they follow each other, each after a line
 `version N`. If edits come faster than they can be shown, some versions are left
 out. Ctrl-C leaves the seat.
+
+Options:
+      --page <FILE>
+          Write a page for a browser, as meeting.html, and keep it current.
+          It marks what has changed. What it shows is beside it, in
+          meeting.data.js and meeting.version.js. This option comes first
 
 Exit status:
   0    Ctrl-C ended it
@@ -248,8 +255,8 @@ Usage: ./mpwb install [PREFIX]
 PREFIX is a folder, by default /usr/local. Build the program first, with
 `./mpwb build`. These files are put there, in place of older ones:
 
-  PREFIX/lib/nesthrim      the program, the script with its parts, and the
-                           Python package that `stress` and `races` need
+  PREFIX/lib/nesthrim      the program, the script with its parts, the Python
+                           package that `stress` and `races` need, the licences
   PREFIX/bin/mpwb          a link to the script
   PREFIX/share/man/man1/mpwb.1
   PREFIX/share/bash-completion/completions/mpwb
@@ -263,5 +270,30 @@ Exit status:
   2   the command line was refused
   3   a file can't be written
   70  the program isn't built
+EOF
+}
+
+tell_package() {
+    cat <<'EOF'
+Packs the program for people who have neither sources nor a kit.
+
+Usage: ./mpwb package [--deb]
+
+Writes an archive, as nesthrim-0.1.0-x86_64.tar.gz, into the folder where it is
+called. Build the program first, with `./mpwb build`. Whoever unpacks it, on x86-64
+Linux with the C library that is told, runs ./mpwb in its folder, or ./mpwb install
+there. It has what `install` puts in its place, with the documents and examples.
+All files have the time SOURCE_DATE_EPOCH, in seconds since 1970, or that of the
+last commit. The same files and the same time give the same bytes.
+
+Options:
+      --deb
+          Write a Debian package too, as nesthrim_0.1.0_amd64.deb, by dpkg-deb
+
+Exit status:
+  0    it is packed
+  2    the command line was refused
+  3    a file can't be written
+  70   the program isn't built, or dpkg-deb or the number isn't there
 EOF
 }

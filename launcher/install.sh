@@ -4,43 +4,46 @@
 start_install() {
     local prefix=${1-/usr/local}
     if [ $# -gt 1 ] || [[ $prefix == -* || -z $prefix ]]; then refuse "./mpwb install [PREFIX]"; fi
-    need_sources
-    if ! is_current "$program"; then
-        echo "mpwb: the program isn't built: run ./mpwb build first" >&2
-        exit 70
-    fi
+    need_built
     umask 022 # (all users may run what is installed)
     begin_work
-    gather "$room/files" || exit
+    gather "$room/files" "$(date -r "$program" +%F)" || fail_device write
     put_files "$room/files" "$prefix"
     echo "mpwb: installed in $prefix"
 }
 
-# all files that are installed, in a folder that stands for PREFIX
+need_built() {
+    if is_current "$program"; then return; fi
+    if ! has_sources; then tell_no_kit; fi
+    echo "mpwb: the program isn't built: run ./mpwb build first" >&2
+    exit 70
+}
+
+# all files that are installed, in a folder that stands for PREFIX, with a man page of this day
 gather() {
     local lib=$1/lib/nesthrim share=$1/share
-    mkdir -p "$lib/bin" "$1/bin" "$share"/{man/man1,bash-completion/completions,zsh/site-functions,fish/vendor_completions.d}
-    cp "$program" "$lib/bin/mpwb"
-    cp -R "$top/mpwb" "$top/launcher" "$top/viewer" "$lib"
-    mkdir "$lib/python"
-    cp -R "$top/python/nesthrim" "$lib/python"
-    find "$lib/python" -name __pycache__ -prune -exec rm -r {} +
-    ln -s ../lib/nesthrim/mpwb "$1/bin/mpwb"
-    mkdir "$room/help"
-    write_help "$room/help"
-    write_man_page "$room/help" >"$share/man/man1/mpwb.1"
-    complete_in_bash "$room/help" >"$share/bash-completion/completions/mpwb"
-    complete_in_zsh "$room/help" >"$share/zsh/site-functions/_mpwb"
-    complete_in_fish "$room/help" >"$share/fish/vendor_completions.d/mpwb.fish"
-    chmod -R u=rwX,go=rX "$1"
+    export LC_ALL=C # (words are sorted the same way everywhere)
+    mkdir -p "$lib/bin" "$lib/python" "$1/bin" "$room/help" &&
+        mkdir -p "$share"/{man/man1,bash-completion/completions,zsh/site-functions,fish/vendor_completions.d} &&
+        cp "$program" "$lib/bin/mpwb" &&
+        cp -R "$top/mpwb" "$top/launcher" "$top/viewer" "$top/LICENSE-APACHE" "$top/LICENSE-MIT" "$lib" &&
+        cp -R "$top/python/nesthrim" "$lib/python" &&
+        find "$lib/python" -name __pycache__ -prune -exec rm -r {} + &&
+        ln -s ../lib/nesthrim/mpwb "$1/bin/mpwb" &&
+        write_help "$room/help" &&
+        write_man_page "$room/help" "$2" >"$share/man/man1/mpwb.1" &&
+        complete_in_bash "$room/help" >"$share/bash-completion/completions/mpwb" &&
+        complete_in_zsh "$room/help" >"$share/zsh/site-functions/_mpwb" &&
+        complete_in_fish "$room/help" >"$share/fish/vendor_completions.d/mpwb.fish" &&
+        chmod -R u=rwX,go=rX,ug-s "$1"
 }
 
 # (a file takes the place of an older one at once, which may be that of a program that runs)
 put_files() {
     local from=$1 to=$2 file
     while IFS= read -r -d '' file; do
-        if ! { mkdir -p "$(dirname "$to/$file")" && cp -P "$from/$file" "$to/$file.$$" && mv -T "$to/$file.$$" "$to/$file"; } 2>/dev/null; then
-            rm -f "$to/$file.$$" 2>/dev/null || true
+        unfinished=$to/$file.$$
+        if ! { mkdir -p "$(dirname "$to/$file")" && cp -P "$from/$file" "$unfinished" && mv -T "$unfinished" "$to/$file"; } 2>/dev/null; then
             echo "mpwb: can't write $to/$file" >&2
             exit 3
         fi

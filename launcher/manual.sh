@@ -1,9 +1,9 @@
 # shellcheck shell=bash
-# The man page, made of what `write_help` has written to a folder.
+# The man page of a day, made of what `write_help` has written to a folder.
 
 write_man_page() {
     local command about
-    printf '.TH MPWB 1 %s Nesthrim\n.SH NAME\nmpwb \\- a workbench for micropipelines\n' "$(date -r "$program" +%F)"
+    printf '.TH MPWB 1 %s Nesthrim\n.SH NAME\nmpwb \\- a workbench for micropipelines\n' "$2"
     printf '.SH SYNOPSIS\n.B mpwb\nCOMMAND\n[OPTIONS]\n[FILE]\n.SH DESCRIPTION\n'
     sed -n 1p "$1/all" | in_roff text
     printf '.SH COMMANDS\n'

@@ -5,7 +5,7 @@ quick_tests=(talk documents compare python script calls)
 
 start_test() {
     if [ $# != 0 ]; then refuse "./mpwb test takes no arguments but --help"; fi
-    need_sources
+    need_sources test
     read_crates
     choose_program
     if ! [ -x "$chosen" ]; then

@@ -1,22 +1,27 @@
 # shellcheck shell=bash
 # ./mpwb watch FOLDER SEAT [QUESTION ..]. A viewer's seat asks for the version some times a second, and shows the answer to a question anew where it
-# has changed.
+# has changed, or has a page show it (live_page.sh).
 
-seconds_between_looks=0.2
+seconds_between_looks=0.2 # with a page, half of that: the page waits too
 most_tries=10 # to have an answer of one version, while others edit
 
 start_watch() {
+    case ${1-} in
+    --page) take_page "${2-}" && shift $(($# < 2 ? $# : 2)) ;;
+    --page=*) take_page "${1#*=}" && shift ;;
+    esac
     if [[ ${1-} == -* ]]; then set -- "./$1" "${@:2}"; fi # (no command takes FOLDER for an option)
     local question=${*:3}
     if [ $# -lt 2 ] || [[ $2 != viewer-* || $question == *$'\n'* ]]; then
         refuse "./mpwb watch FOLDER SEAT [QUESTION ..] with a viewer's seat, for example ./mpwb watch meeting viewer-1"
     fi
+    if [ -n "$page" ] && [ $# -gt 2 ]; then refuse "with --page no question is asked"; fi
     need_desk "$1"
     if [ -z "$question" ]; then choose_program; fi
     take_seat "$1" "$2"
     begin_work
     exec 4>&1
-    trap 'end_screen; end_beside' EXIT
+    trap 'end_screen; end_page; end_beside' EXIT
     trap 'if [ -t 4 ]; then echo >&4; fi; exit 0' INT
     keep_watch "$1" "$2" "$question"
 }
@@ -27,10 +32,11 @@ keep_watch() {
         tell_version
         if [ "$version" != "$shown" ]; then
             look
+            if [ -n "$page" ]; then draw_page; fi
             draw 2>/dev/null || fail_device write
             shown=$version
         fi
-        sleep "$seconds_between_looks"
+        if [ -n "$page" ]; then sleep 0.1; else sleep "$seconds_between_looks"; fi
     done
 }
 
@@ -46,33 +52,33 @@ look() {
     local before tries
     for ((tries = 0; tries < most_tries; tries++)); do
         before=$version
-        see >"$room/seen"
+        hear_answer "${question:-text}" >"$room/heard"
         tell_version
         if [ "$version" = "$before" ]; then break; fi
     done
     version=$before
+    see >"$room/seen"
     : >"$room/edits"
-    if [ -z "$shown" ]; then return; fi
+    if [ -z "$shown$page" ]; then return; fi
     hear_answer "edits $((shown + 1))" >"$room/told"
     awk -v last="$version" '$1 <= last' "$room/told" >"$room/edits"
 }
 
 hear_answer() { { ask_seat "$1" && hear; } || fail_left "$at" "$name"; }
 
-# the answer to the question, and where there is none a picture as wide as the terminal
+# the answer to the question, and where there is none a picture as wide as the terminal, or the texts of a page
 see() {
     local width plain=()
-    if [ -n "$question" ]; then
-        hear_answer "$question"
-        return
-    fi
-    hear_answer text >"$room/given"
     width=$(terminal_width 4)
-    if [ -z "$width" ]; then
-        (run show "$room/given") || exit
+    if [ -n "$question" ]; then
+        cat "$room/heard"
+    elif [ -n "$page" ]; then
+        answer_texts "$room/heard"
+    elif [ -z "$width" ]; then
+        (run show "$room/heard") || exit
     else
         if ! is_utf8; then plain=(--ascii); fi
-        (fit "$width" "${plain[@]}" "$room/given") || exit
+        (fit "$width" "${plain[@]}" "$room/heard") || exit
     fi
 }
 
@@ -81,6 +87,10 @@ see() {
 edits_at_terminal=5 # so many of the last ones are shown in place
 
 draw() {
+    if [ -n "$page" ]; then
+        tell_drawn
+        return
+    fi
     if ! has_screen 4; then
         echo "version $version" && cat "$room/seen" "$room/edits"
         return

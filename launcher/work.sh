@@ -5,6 +5,8 @@ room=""
 gate=""  # the process of rt, while it runs
 taker="" # the one that takes the program which rt makes, while it waits
 
+unfinished="" # the file that is written just now, by the name that it has until it is whole
+
 leash=() # stands before a command that ends with whoever has started it, where the system can do that
 
 find_leash() { if setpriv --pdeathsig KILL true 2>/dev/null; then leash=(setpriv --pdeathsig KILL); fi; }
@@ -30,7 +32,7 @@ end_work() {
     trap '' INT TERM HUP
     if [ -n "$taker" ]; then end_process "$taker"; fi
     if [ -n "$gate" ]; then end_group "$gate"; fi
-    rm -rf "$room" "$program.$$" "$checked.$$"
+    rm -rf "$room" "$program.$$" "$checked.$$" ${unfinished:+"$unfinished"}
 }
 
 # Ends a process that has nothing to remove. (One that has just begun would take another signal as the script does, and remove the room. One that has
@@ -52,6 +54,19 @@ end_group() {
         sleep 0.1
     done
     kill -KILL -- "$1" "-$1" 2>/dev/null || true
+}
+
+# has a command write a file, which takes the place of an older one once it is whole
+put_file() {
+    local file=$1
+    if [[ $file == -* ]]; then file=./$file; fi
+    unfinished=$file.$$
+    if ! { "${@:2}" >"$unfinished" && mv -fT "$unfinished" "$file"; } 2>/dev/null; then
+        rm -f "$unfinished" 2>/dev/null || true
+        echo "mpwb: can't write $1" >&2
+        exit 3
+    fi
+    unfinished=""
 }
 
 # puts a program in its place, which may be that of one that runs; it is as old as what it was made from

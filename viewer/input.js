@@ -178,6 +178,8 @@ picture.addEventListener("pointerup", (event) => {
   page.show();
 });
 
+picture.addEventListener("pointercancel", () => (held = null));
+
 for (const name of ["dragenter", "dragover", "dragleave", "drop"]) {
   document.addEventListener(name, (event) => {
     event.preventDefault();

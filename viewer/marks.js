@@ -7,7 +7,7 @@ Object.assign(Painter.prototype, {
     this.box(0, y, view.labels, ROW, row === view.row || view.pointed.has(row.wire) ? colour.chosen : colour.ground);
     const level = view.levelAtCursor(row);
     const room = Math.floor((view.labels - LEFT) / this.letter) - 2 - Math.max(view.letters, level.length);
-    ink.fillStyle = row.wire === undefined ? colour.other : colour.ink;
+    ink.fillStyle = row.wire === undefined || row.isChanged ? colour.other : colour.ink;
     ink.fillText(row.name.length > room ? `${row.name.slice(0, Math.max(room - 1, 3))}…` : row.name, LEFT, y + ROW / 2);
     ink.fillStyle = colour.dim;
     ink.fillText(level, view.labels - (level.length + 1) * this.letter, y + ROW / 2);

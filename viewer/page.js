@@ -10,7 +10,7 @@ const written = (id) => element(id).textContent;
 
 /** Fills a list with a button for each item, the first ones of them. */
 function fill(list, items, act, most = MOST_LINES) {
-  const lines = items.slice(0, most).map((item) => line(item.line, () => act(item)));
+  const lines = items.slice(0, most).map((item) => line(item.line, () => act(item), item.isNew));
   if (items.length > most) {
     lines.push(line(`${items.length - most} more`, () => fill(list, items, act, most + 5 * MOST_LINES)));
     lines.at(-1).className = "more";
@@ -18,24 +18,34 @@ function fill(list, items, act, most = MOST_LINES) {
   list.replaceChildren(...lines);
 }
 
-function line(text, act) {
+function line(text, act, isNew) {
   const button = Object.assign(document.createElement("button"), { textContent: text, onclick: act });
   const item = document.createElement("li");
+  if (isNew) item.className = "new";
   item.append(button);
   return item;
 }
 
 class Page {
   constructor() {
-    const netlist = new Netlist(written("netlist-text"));
-    const waves = readWaves(written("waves-text"));
-    const places = written("places-text").split("\n").filter(Boolean).map((text) => readPlace(text, netlist));
-    this.causes = new Causes(netlist, waves);
-    this.view = new View(netlist, waves);
-    const wrong = places.filter(({ line }) => !line.startsWith("note ")); // (a note is no fault)
-    this.painter = new Painter(element("picture"), this.view, wrong, this.causes);
+    this.view = new View();
+    this.painter = new Painter(element("picture"), this.view);
     this.found = 0; // the place of the row that the search found last
     document.querySelector("h1").textContent = document.title;
+    this.take({ netlist: written("netlist-text"), waves: written("waves-text"), places: written("places-text") });
+  }
+
+  /** Takes what the program wrote of a netlist. The cursor stays, and so does the wire that is chosen. */
+  take(texts) {
+    const { view } = this;
+    const isAsked = view.chain !== null;
+    const netlist = new Netlist(texts.netlist);
+    const waves = readWaves(texts.waves);
+    const places = texts.places.split("\n").filter(Boolean).map((text) => readPlace(text, netlist));
+    this.causes = new Causes(netlist, waves);
+    view.take(netlist, waves);
+    this.painter.take(places.filter(({ line }) => !line.startsWith("note ")), this.causes); // (a note is no fault)
+    if (isAsked) this.choose(view.row, view.cursor);
     element("places").querySelector("h2").textContent = `${places.length ? "Found" : "Nothing found"} by ${element("places-text").title}`;
     fill(element("places").querySelector("ul"), places, (place) => this.goTo(place));
   }

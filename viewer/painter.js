@@ -10,9 +10,14 @@ const SLOPE = 3; // half the width of a crossing
 const LEAST_STEP = 3; // between steps that end nearer to each other than this a line stands for their arrows
 
 class Painter {
-  constructor(canvas, view, places, causes) {
-    Object.assign(this, { canvas, view, causes });
+  constructor(canvas, view) {
+    Object.assign(this, { canvas, view });
     this.ink = canvas.getContext("2d", { alpha: false });
+  }
+
+  /** Takes the places of findings, and what finds causes. */
+  take(places, causes) {
+    this.causes = causes;
     this.placeTimes = Int32Array.from(places, (place) => place.time).sort();
     this.marks = new Map();
     for (const place of places) for (const wire of place.wires) this.addMark(wire, place.time);
@@ -130,11 +135,16 @@ class Painter {
   row(row, y) {
     const { view, colour } = this;
     if (row === view.row || view.pointed.has(row.wire)) this.box(view.labels, y, view.width, ROW, colour.chosen);
-    if (row.differs) this.shade(row.differs, y);
-    if (row.isNarrow) this.bit(row, y);
-    else this.word(row, y);
+    if (row.differs) this.shade(row.differs.times, y);
+    if (row.before) this.wave({ ...row, wave: row.before, wire: undefined, isBehind: true }, y);
+    this.wave(row, y);
     const marks = this.marks.get(row.wire);
     if (marks) this.eachGrain(marks, (x) => this.flaw(x, x, y), (x, end) => this.flaw(x, end, y));
+  }
+
+  wave(row, y) {
+    if (row.isNarrow) this.bit(row, y);
+    else this.word(row, y);
   }
 
   /** Marks findings between two places at the top of a row. */
@@ -215,6 +225,7 @@ class Painter {
     for (const [x, end] of cells) this.cell(x, end, y);
     this.stroke(ink.fillStyle);
     this.bands(bands, y);
+    if (row.isBehind) return; // (its levels would stand among those of the wave before it)
     ink.fillStyle = colour.ink;
     for (const [x, end, of] of cells) if (end - x > this.letter + 8) this.level(Math.max(x, view.labels) + 5, end - 3, view.level(row, of), y);
   }

@@ -36,9 +36,10 @@ class Chain {
 }
 
 class View {
-  constructor(netlist, waves) {
-    this.horizon = netlist.horizon;
-    this.all = waves.map((wave, wire) => ({ wave, wire, name: wave.name, isNarrow: netlist.wires[wire].width === 1 }));
+  constructor() {
+    this.horizon = 1;
+    this.all = []; // the rows of all wires
+    this.rows = []; // those that are shown, in their order
     this.width = this.height = this.labels = 0;
     this.from = 0; // the time at the left edge
     this.scale = 0; // how many pixels a unit has
@@ -50,8 +51,23 @@ class View {
     this.chain = null;
     this.effects = [];
     this.isHex = false;
+  }
+
+  /** Takes the waves of a netlist. What was seen before is seen again: the times, and the wires in their order. New wires come last. */
+  take(netlist, waves) {
+    const { isFitted } = this;
+    const known = new Set(this.all.map((row) => row.name));
+    this.horizon = netlist.horizon;
+    this.all = waves.map((wave, wire) => ({ wave, wire, name: wave.name, isNarrow: netlist.wires[wire].width === 1 }));
     this.digits = this.all.reduce((most, row) => (row.isNarrow ? most : Math.max(most, row.wave.longest())), 1); // those of the longest level
-    this.setRows(this.all);
+    const now = new Map(this.all.map((row) => [row.name, row]));
+    const kept = this.rows.map((row) => now.get(row.name)).filter(Boolean);
+    this.row = now.get(this.row?.name) ?? null;
+    this.cursor = Math.min(this.cursor, this.horizon - 1);
+    if (this.mark !== null) this.mark = Math.min(this.mark, this.horizon - 1);
+    Object.assign(this, { pointed: new Set(), chain: null, effects: [] });
+    this.setRows([...kept, ...this.all.filter((row) => !known.has(row.name))]);
+    this.look(this.from, isFitted ? 0 : this.scale);
   }
 
   setRows(rows) {
@@ -65,6 +81,11 @@ class View {
   /** The least scale, at which all units are seen. */
   get least() {
     return Math.max(this.width - this.labels, 1) / this.horizon;
+  }
+
+  /** Whether all units are seen. */
+  get isFitted() {
+    return this.scale <= this.least * 1.0001;
   }
 
   x(time) {
@@ -92,9 +113,9 @@ class View {
   }
 
   resize(width, height, labels) {
-    const wasFitted = this.scale <= this.least * 1.0001;
+    const { isFitted } = this;
     Object.assign(this, { width, height, labels });
-    this.look(this.from, wasFitted ? 0 : this.scale);
+    this.look(this.from, isFitted ? 0 : this.scale);
     this.scroll(0);
   }
 

@@ -22,9 +22,14 @@ const isDigit = (code) => code >= 48 && code <= 57;
 
 /** The wave of a wire. A change is named by its number in the order of times; the number -1 stands for the level at time 0. */
 class Wave {
-  /** `begin` and `places` are where the levels stand in `text`. */
-  constructor(name, text, begin, times, places) {
-    Object.assign(this, { name, text, begin, times, places });
+  /** `begin` and `places` are where the levels stand in `text`, and `end` is where the wave ends there. */
+  constructor(name, text, [begin, end], times, places) {
+    Object.assign(this, { name, text, begin, end, times, places });
+  }
+
+  /** Whether another wave is written as this one is. */
+  isLike(other) {
+    return this.text.slice(this.begin, this.end) === other.text.slice(other.begin, other.end);
   }
 
   /** The last change up to a time in whole units. */
@@ -45,6 +50,18 @@ class Wave {
   /** The level from a change on, in decimal. */
   level(change) {
     return this.text.slice(this.place(change), this.levelEnd(change));
+  }
+
+  /** Whether the level from a change on is that of another wave from one of its changes on. */
+  hasLevelOf(change, other, ofOther) {
+    let place = this.place(change);
+    let otherPlace = other.place(ofOther);
+    for (;;) {
+      const code = this.text.charCodeAt(place++);
+      const otherCode = other.text.charCodeAt(otherPlace++);
+      if (!isDigit(code) || !isDigit(otherCode)) return isDigit(code) === isDigit(otherCode);
+      if (code !== otherCode) return false;
+    }
   }
 
   levelEnd(change) {
@@ -107,10 +124,9 @@ class WaveReader {
 
 /** The waves that `waves` wrote, in its order. What isn't such a text is an error. */
 function readWaves(text) {
-  let count = 0;
-  for (let at = text.indexOf("="); at >= 0; at = text.indexOf("=", at + 1)) count++;
-  const times = new Int32Array(count);
-  const places = new Int32Array(count);
+  const most = text.length >> 2; // (a change has four characters or more; what isn't used of this takes no memory)
+  const times = new Int32Array(most);
+  const places = new Int32Array(most);
   const reader = new WaveReader(text);
   const waves = [];
   let next = 0;
@@ -126,8 +142,9 @@ function readWaves(text) {
       places[next++] = reader.at;
       reader.number();
     }
+    const end = reader.at;
     if (!reader.passes(10) && reader.at < text.length) reader.fail("end of a line");
-    waves.push(new Wave(name, text, begin, times.subarray(first, next), places.subarray(first, next)));
+    waves.push(new Wave(name, text, [begin, end], times.subarray(first, next), places.subarray(first, next)));
   }
   return waves;
 }
