@@ -5,12 +5,13 @@ use Rattle.std.proofs.lemmas.Bool.{cases_lt, eq-eqb, ne_eqb}
 use Rattle.std.proofs.lemmas.List.{get_or_past, length-map}
 use Rattle.std.proofs.lemmas.List.FromFn.{get_or-range_with_len, length-range_with_len}
 use Rattle.mp_netlist.specs.Circuit.{Circuit, IsCircuit}
-use Rattle.mp_check.specs.Waiting.{port_numbers, port_slots, wait_of, wait_in}
+use Rattle.mp_check.specs.Dead.{port_numbers, port_slots}
+use Rattle.mp_check.specs.Waiting.{wait_of, wait_in}
 use Rattle.mp_check.specs.Ways.{begins_round}
 use Rattle.mp_check.specs.Doubling.{next_in}
 use Rattle.mp_check.specs.Deadlocks.{port_after, next_port, waits_to, deadlock_from, deadlocks}
 use Rattle.mp_check.specs.declared.wait.Wait.{Wait}
-use Rattle.mp_check.proofs.WaitingLemmas.{slots_few}
+use Rattle.mp_check.proofs.PortLemmas.{slots_few}
 
 -- ---- what they wait for, so far
 

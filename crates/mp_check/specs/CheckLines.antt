@@ -11,7 +11,7 @@ use Rattle.mp_text.specs.Written.{wire_name}
 use Rattle.mp_questions.specs.timing.Events.{since}
 use Rattle.mp_report.specs.Lines.{report_text}
 use Rattle.mp_questions.specs.late.Lateness.{all_late}
-use Rattle.mp_check.specs.Waiting.{last_unit}
+use Rattle.mp_check.specs.Dead.{last_unit}
 use Rattle.mp_check.specs.Deadlocks.{deadlocks}
 use Rattle.mp_check.specs.Notes.{notes}
 use Rattle.mp_questions.specs.declared.late.late.Late.{Late}

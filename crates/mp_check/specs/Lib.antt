@@ -1,4 +1,7 @@
+pub mod Dead
+pub mod Quiet
 pub mod Waiting
+pub mod Awaited
 pub mod Ways
 pub mod Doubling
 pub mod Deadlocks

@@ -5,10 +5,15 @@
 //! ports that wait in a circle are found.
 #![tactic(auto)]
 
+mod awaited;
 mod checked;
+mod dead;
 mod deadlocks;
+mod held_memory;
 mod lines;
+mod module_end;
 mod notes;
+mod quiet;
 mod read_wires;
 mod rounds;
 mod run_end;

@@ -7,7 +7,7 @@ ghost use Rattle.mp_model.specs.Waves.{AreWavesOf, level};
 ghost use Rattle.mp_questions.specs.timing.Events.{since};
 ghost use Rattle.mp_check.specs.CheckLines.{check_text, deadlock_line, late_line, name_in, next_text, stands_since, wait_text, waits_text};
 ghost use Rattle.mp_check.specs.Checks.{IsCheckOf};
-ghost use Rattle.mp_check.specs.Waiting.{last_unit};
+ghost use Rattle.mp_check.specs.Dead.{last_unit};
 
 use crate::checked::Checked;
 use crate::deadlocks::Deadlock;

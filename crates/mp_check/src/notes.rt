@@ -9,7 +9,7 @@ ghost use Rattle.mp_check.specs.ReadWires.{AreRead};
 
 use crate::read_wires::is_marked;
 use crate::run_end::RunEnd;
-use crate::waiting::output_at;
+use crate::module_end::output_at;
 use mp_netlist::{Driver, ModuleId, WireId, WireRecord};
 use mp_streams::{Failed, Out, Sink, Text};
 

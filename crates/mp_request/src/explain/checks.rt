@@ -36,7 +36,8 @@ pub(crate) const DEADLOCK: Entry = Entry {
     text: "
   meaning:
     modules wait for each other's wires in a cycle, and these wires keep
-      their levels for ever
+      their levels for ever, whatever stimuli set later; modules of all kinds
+      may be in it
   example, read by `mpwb check`:
     horizon 40
     wire p 1 0
@@ -46,8 +47,12 @@ pub(crate) const DEADLOCK: Entry = Entry {
   answer:
     0 deadlock x waits for q, y waits for p
   remedy:
-    Break the cycle, or start an event in it: with a NOT in place of a BUF, or
-    with the other INIT of a C and the same level at its wire.
+    In a ring, look for the missing bubble first: with a token in each stage no
+    stage can take one, so add a stage or take a token away. With no token at
+    all, start one: with a NOT in place of a BUF, or with the other INIT of a C
+    and the same level at its wire. Else break the cycle. At a CALL or an
+    ARBITER look for the done that never comes, and at a module that waits for
+    two clients for the second, which is only granted behind the first.
 ",
 };
 

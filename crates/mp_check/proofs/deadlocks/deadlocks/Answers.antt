@@ -1,6 +1,6 @@
 use Rattle.std.proofs.Common.{◌≤◌, ℕ, List, All, length, map, sym, ap, subst, ◌∙◌, arith}
 use Rattle.std.proofs.lemmas.List.{take_all}
-use Rattle.mp_check.specs.Waiting.{port_slots}
+use Rattle.mp_check.specs.Dead.{port_slots}
 use Rattle.mp_check.specs.Deadlocks.{deadlock_from}
 use Rattle.mp_check.proofs.DeadlockLemmas.{deadlocks_are, next_few, next_fit}
 use Rattle.mp_check.proofs.deadlocks.deadlocks.Goals as goal

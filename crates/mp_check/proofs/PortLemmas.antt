@@ -14,7 +14,7 @@ use Rattle.mp_netlist.proofs.DriverLemmas.{driven_by, finds_ports}
 use Rattle.mp_netlist.proofs.LimitLemmas.{modules_within}
 use Rattle.mp_netlist.proofs.TableLemmas.{slot_within}
 use Rattle.mp_netlist.proofs.UseLemmas.{output_within}
-use Rattle.mp_check.specs.Waiting.{port_numbers, port_number, port_slots}
+use Rattle.mp_check.specs.Dead.{port_numbers, port_number, port_slots}
 
 pub few_outputs : (kind : Kind) → output_count kind ≤ port_numbers
 few_outputs kinds.Buf = omega arith
