@@ -1,5 +1,5 @@
 -- Dead ports that wait for each other.
-use Rattle.std.proofs.Common.{◌≡◌, ℕ, ◌+◌, ◌*◌, ◌/◌, ◌%◌, ◌<◌, ◌&&◌, ◌||◌, ◌⊎◌, inl, inr, Bool, true, false, cond, List, [], ◌∷◌, ◌++◌, filter, length, Option, Some, None, is_some, refl, ap, sym, subst, ◌∙◌, append_assoc, arith}
+use Rattle.std.proofs.Common.{◌≡◌, ℕ, ◌+◌, ◌*◌, ◌/◌, ◌%◌, ◌<◌, ◌≤◌, ◌&&◌, ◌||◌, ◌⊎◌, inl, inr, Bool, true, false, cond, List, [], ◌∷◌, ◌++◌, filter, length, Option, Some, None, is_some, refl, ap, sym, subst, ◌∙◌, append_assoc, arith}
 use Rattle.std.specs.Prelude.{slice_get}
 use Rattle.std.specs.List.{list_any, flat_map}
 use Rattle.std.specs.Option.{option_to_list}
@@ -10,6 +10,7 @@ use Rattle.mp_netlist.specs.declared.driver.Driver.{Driver}
 use Rattle.mp_netlist.specs.declared.driver.Driver.TheVariants.{Nothing, Stimulus, Port}
 use Rattle.mp_netlist.specs.Circuit.{Circuit, module_at}
 use Rattle.mp_netlist.specs.Drivers.{driver}
+use Rattle.mp_netlist.proofs.TableLemmas.{slot_within}
 use Rattle.mp_model.specs.Waves.{state}
 use Rattle.mp_sets.specs.Laws.{IsWithin, KeepsMore}
 use Rattle.mp_sets.proofs.ClosedLemmas.{true_false, and_true, or_first, or_second, or_cases, union_is_closed}
@@ -62,6 +63,18 @@ module _ (n : Circuit) where
   -- a port that waits is dead
   pub waiting_is_dead : (k : ℕ) → waiting n k ≡ true → dead n k ≡ true
   waiting_is_dead k is = may_wait_is_dead (waiting n) k (union_is_closed (may_wait n) (port_slots n) waits_grow k is)
+
+  slot_low : (set : ℕ → Bool) (m p : ℕ) (slot : Option ModuleRecord) → module_at n m ≡ slot → may_wait_at n set m p slot ≡ true → m < length n.modules
+  slot_low set m p None at is = absurd (true_false false is refl)
+  slot_low set m p (Some r) at is = slot_within n.modules m (ap is_some at)
+
+  pub no_wait_past : (set : ℕ → Bool) (k : ℕ) → port_slots n ≤ k → may_wait n set k ≡ false
+  unfolding may_wait
+  no_wait_past set k past = by (may_wait n set k) refl
+    where
+      by : (b : Bool) → may_wait n set k ≡ b → b ≡ false
+      by true is = let low = slot_low set (k / port_numbers) (k % port_numbers) (module_at n (k / port_numbers)) refl is in absurd (omega (arith, low, past))
+      by false is = refl
 
   -- ---- lists of inputs
 

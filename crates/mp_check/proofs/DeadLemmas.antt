@@ -1,5 +1,5 @@
 -- Dead ports keep each other, and each set of ports that keeps its members is of dead ports.
-use Rattle.std.proofs.Common.{◌≡◌, ℕ, ◌+◌, ◌-◌, ◌*◌, ◌/◌, ◌%◌, ◌<◌, ◌&&◌, ◌||◌, ◌⊎◌, inl, inr, Bool, true, false, List, [], ◌∷◌, length, Option, Some, None, is_some, refl, ap, sym, subst, ◌∙◌, arith}
+use Rattle.std.proofs.Common.{◌≡◌, ℕ, ◌+◌, ◌-◌, ◌*◌, ◌/◌, ◌%◌, ◌<◌, ◌≤◌, ◌&&◌, ◌||◌, ◌⊎◌, inl, inr, Bool, true, false, List, [], ◌∷◌, length, Option, Some, None, is_some, refl, ap, sym, subst, ◌∙◌, arith}
 use Rattle.std.specs.Prelude.{slice_get}
 use Rattle.std.specs.List.{list_all, list_any}
 use Rattle.std.proofs.lemmas.Bool.{and_parts}
@@ -85,6 +85,27 @@ module _ (n : Circuit) where
       let kept = kept_of set k is in
       let within = slot_within n.modules (k / port_numbers) (ap is_some kept.stands) in
       omega (arith, within)
+
+  -- a port is kept by what holds it, where it stands on a wire and is quiet
+  module _ (set : ℕ → Bool) (m p : ℕ) (r : ModuleRecord) where
+    abbrev held : Bool
+    held = list_any (are_still n set r) (holding_sets r.kind r.params (state n m (last_unit n)) p)
+
+    pub kept_if_held : is_some (output_at r p).wire ≡ true → is_quiet n m p (delay_of r p) ≡ true → held ≡ is_kept_at n set m p (Some r)
+    kept_if_held wired quiet = sym (ap (λ b. (b && is_quiet n m p (delay_of r p)) && held) wired ∙ ap (λ b. b && held) quiet)
+
+    pub not_unwired : is_some (output_at r p).wire ≡ false → false ≡ is_kept_at n set m p (Some r)
+    not_unwired bare = sym (ap (λ b. (b && is_quiet n m p (delay_of r p)) && held) bare)
+
+    pub not_loud : is_some (output_at r p).wire ≡ true → is_quiet n m p (delay_of r p) ≡ false → false ≡ is_kept_at n set m p (Some r)
+    not_loud wired loud = sym (ap (λ b. (b && is_quiet n m p (delay_of r p)) && held) wired ∙ ap (λ b. b && held) loud)
+
+  pub unkept_past : (set : ℕ → Bool) (k : ℕ) → port_slots n ≤ k → is_kept n set k ≡ false
+  unkept_past set k past = by (is_kept n set k) refl
+    where
+      by : (b : Bool) → is_kept n set k ≡ b → b ≡ false
+      by true is = let low = kept_low set k is in absurd (omega (arith, low, past))
+      by false is = refl
 
   -- ---- the law
 

@@ -47,7 +47,14 @@ fn needs_of(end: &RunEnd<'_>, number: u32) -> Needs
 {
     let id = ModuleId(number / PORTS);
     match end.at.netlist.module(id) {
-        Some(part) => port_needs(&ModuleEnd::new(end, id, part), number % PORTS),
+        Some(part) => {
+            let of = ModuleEnd {
+                end: *end,
+                id,
+                part,
+            };
+            port_needs(&of, number % PORTS)
+        }
         None => NEVER,
     }
 }

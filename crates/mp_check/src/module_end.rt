@@ -38,26 +38,10 @@ pub(crate) struct ModuleEnd<'a> {
 
 impl<'a> ModuleEnd<'a> {
     ghost use Rattle.std.specs.Prelude.{◌≡◌, ◌<◌, ℕ, Bool, Some, slice_get, slice_index};
-    ghost use Rattle.mp_netlist.specs.Circuit.{IsModule, module_at};
     ghost use Rattle.mp_model.specs.Waves.{state};
     ghost use Rattle.mp_sets.specs.Needs.{is_met};
     ghost use Rattle.mp_check.specs.Dead.{is_still_in, last_unit};
     ghost use Rattle.mp_check.specs.Waiting.{is_port_in};
-
-    /// A module that exists.
-    pub(crate) fn new(end: &RunEnd<'a>, id: ModuleId, part: &'a ModuleRecord) -> Self
-        requires stands { module_at end.now.at.netlist.now id.0 ≡ Some part.now }
-        requires form { IsModule end.now.at.netlist.now part.now }
-        ensures end { result.end ≡ end.now }
-        ensures id { result.id ≡ id }
-        ensures part { result.part.now ≡ part.now }
-    {
-        ModuleEnd {
-            end: *end,
-            id,
-            part,
-        }
-    }
 
     /// The state of the module. The module is followed through the whole run.
     pub(crate) fn memory(&self) -> Memory

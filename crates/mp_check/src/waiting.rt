@@ -56,7 +56,11 @@ fn needs_of(end: &RunEnd<'_>, dead: &[bool], number: u32) -> Needs
     let id = ModuleId(number / PORTS);
     match end.at.netlist.module(id) {
         Some(part) => {
-            let of = ModuleEnd::new(end, id, part);
+            let of = ModuleEnd {
+                end: *end,
+                id,
+                part,
+            };
             port_needs(&of, awaited(&of, dead, number % PORTS))
         }
         None => NEVER,
@@ -103,7 +107,11 @@ impl<'a> WaitingPorts<'a> {
         let id = ModuleId(number / PORTS);
         match self.end.at.netlist.module(id) {
             Some(part) => {
-                let of = ModuleEnd::new(&self.end, id, part);
+                let of = ModuleEnd {
+                    end: self.end,
+                    id,
+                    part,
+                };
                 self.first_wait(&of, awaited(&of, self.dead, number % PORTS))
             }
             None => None,
