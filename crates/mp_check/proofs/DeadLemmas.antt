@@ -3,6 +3,7 @@ use Rattle.std.proofs.Common.{◌≡◌, ℕ, ◌+◌, ◌-◌, ◌*◌, ◌/◌
 use Rattle.std.specs.Prelude.{slice_get}
 use Rattle.std.specs.List.{list_all, list_any}
 use Rattle.std.proofs.lemmas.Bool.{and_parts}
+use Rattle.std.proofs.lemmas.Option.{same_Some}
 use Rattle.mp_records.specs.declared.module_record.ModuleRecord.{ModuleRecord}
 use Rattle.mp_records.specs.declared.ports.Input.{Input}
 use Rattle.mp_records.specs.Outputs.{output_at, delay_of}
@@ -106,6 +107,23 @@ module _ (n : Circuit) where
       by : (b : Bool) → is_kept n set k ≡ b → b ≡ false
       by true is = let low = kept_low set k is in absurd (omega (arith, low, past))
       by false is = refl
+
+  -- a dead port stands on a wire and is quiet
+  module _ (m p : ℕ) (r : ModuleRecord) (at : module_at n m ≡ Some r) (low : p < port_numbers) (set : ℕ → Bool) (is : is_kept n set (port_numbers * m + p) ≡ true) where
+    there : IsKept set m p
+    there =
+        let first : (port_numbers * m + p) / port_numbers ≡ m = omega (arith, low) in
+        let second : (port_numbers * m + p) % port_numbers ≡ p = omega (arith, low) in
+        subst (λ q. IsKept set m q) second (subst (λ k. IsKept set k ((port_numbers * m + p) % port_numbers)) first (kept_of set (port_numbers * m + p) is))
+
+    same : there.part ≡ r
+    same = same_Some {A = ModuleRecord} there.part r (sym there.stands ∙ at)
+
+    pub kept_wired : is_some (output_at r p).wire ≡ true
+    kept_wired = subst (λ (x : ModuleRecord). is_some (output_at x p).wire ≡ true) same there.wired
+
+    pub kept_quiet : is_quiet n m p (delay_of r p) ≡ true
+    kept_quiet = subst (λ (x : ModuleRecord). is_quiet n m p (delay_of x p) ≡ true) same there.quiet
 
   -- ---- the law
 

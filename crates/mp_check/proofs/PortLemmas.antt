@@ -6,9 +6,12 @@ use Rattle.mp_modules.specs.declared.kind.Kind.{Kind}
 use Rattle.mp_modules.specs.declared.kind.Kind.TheVariants as kinds
 use Rattle.mp_modules.specs.Kinds.{output_count}
 use Rattle.mp_records.specs.declared.ids.ModuleId.{ModuleId}
+use Rattle.mp_records.specs.declared.ids.WireId.{WireId}
+use Rattle.mp_records.specs.declared.module_record.ModuleRecord.{ModuleRecord}
+use Rattle.mp_records.specs.Outputs.{output_at}
 use Rattle.mp_netlist.specs.declared.driver.Driver.{Driver}
 use Rattle.mp_netlist.specs.declared.driver.Driver.TheVariants.{Nothing, Stimulus, Port}
-use Rattle.mp_netlist.specs.Circuit.{Circuit, IsCircuit, Drives, stimulus_at}
+use Rattle.mp_netlist.specs.Circuit.{Circuit, IsCircuit, Drives, module_at, stimulus_at}
 use Rattle.mp_netlist.specs.Drivers.{driver, stimulus_driver}
 use Rattle.mp_netlist.proofs.DriverLemmas.{driven_by, finds_ports}
 use Rattle.mp_netlist.proofs.LimitLemmas.{modules_within}
@@ -52,6 +55,10 @@ module _ (n : Circuit) (ok : IsCircuit n) where
           let few = few_outputs d.part.kind in
           subst IsLow (sym (finds_ports n ok found.0 found.1 w d)) (slot_within n.modules found.0 (ap is_some d.stands), omega (arith, within, form.outputs, few))
       by (inr is) = subst IsLow (sym is) (set (stimulus_at n w))
+
+  -- a port that stands on a wire is one of its module's
+  pub wired_low : (m p : ℕ) (r : ModuleRecord) (v : WireId) → module_at n m ≡ Some r → (output_at r p).wire ≡ Some v → p < output_count r.kind
+  wired_low m p r v at on = let within = output_within r p v on in omega (arith, within, (ok.modules_ok m r at).outputs)
 
   -- a port that drives a wire has a number, and these are few
   pub port_low : (w : ℕ) (m : ModuleId) (p : ℕ) → Port m p ≡ driver n w → (m.0 < length n.modules) × (p < port_numbers)

@@ -1,5 +1,5 @@
 -- Modules whose inputs are still.
-use Rattle.std.proofs.Common.{◌≡◌, ℕ, ◌+◌, ◌-◌, ◌<◌, ◌≤◌, ◌⊎◌, inl, inr, true, List, [], ◌∷◌, map, Some, zero, suc, refl, ap, sym, subst, ◌∙◌, arith}
+use Rattle.std.proofs.Common.{◌≡◌, ℕ, ◌+◌, ◌-◌, ◌<◌, ◌≤◌, ◌⊎◌, inl, inr, Bool, true, false, ◌&&◌, List, [], ◌∷◌, map, Some, zero, suc, refl, ap, sym, subst, ◌∙◌, arith}
 use Rattle.std.specs.Prelude.{nat_le}
 use Rattle.std.specs.List.{list_all}
 use Rattle.std.proofs.lemmas.Bool.{cases_lt, leb-true, le-leb, and_parts}
@@ -13,8 +13,10 @@ use Rattle.mp_model.specs.Waves.{level, state}
 use Rattle.mp_model.proofs.QuietLemmas.{same_inputs}
 use Rattle.mp_questions.specs.timing.Events.{since}
 use Rattle.mp_questions.specs.timing.Waits.{given}
-use Rattle.mp_check.specs.Dead.{last_unit, is_still}
-use Rattle.mp_check.specs.Quiet.{are_all_still}
+use Rattle.mp_questions.specs.timing.Hearing.{IsWatch}
+use Rattle.mp_questions.specs.declared.timing.client_watch.ClientWatch.{ClientWatch}
+use Rattle.mp_check.specs.Dead.{last_unit, is_still, is_quiet}
+use Rattle.mp_check.specs.Quiet.{are_all_still, mark_of}
 use Rattle.mp_check.proofs.StillLemmas.{since_still, still_since}
 
 -- from one unit to the next
@@ -58,3 +60,31 @@ module _ (n : Circuit) (ok : IsCircuit n) (m : ℕ) (r : ModuleRecord) (at : mod
   outputs_still p =
       le-leb (since (given n m p) (last_unit n)) after
       (still_since (given n m p) (last_unit n) after (λ s from upto. ap (λ (x : Memory). output_of x p) (state_still s from upto)))
+
+  pub quiet_by_inputs : (p delay : ℕ) → after ≡ last_unit n - delay → delay ≤ last_unit n → true ≡ is_quiet n m p delay
+  quiet_by_inputs p delay is short =
+      let still : is_still n (given n m p) (last_unit n - delay) ≡ true = subst (λ t. is_still n (given n m p) t ≡ true) is (outputs_still p) in
+      sym (ap (λ b. b && is_still n (given n m p) (last_unit n - delay)) (le-leb delay (last_unit n) short) ∙ still)
+
+module _ (n : Circuit) (m p delay : ℕ) where
+  pub not_quiet : last_unit n < delay → false ≡ is_quiet n m p delay
+  not_quiet long = sym (ap (λ b. b && is_still n (given n m p) (last_unit n - delay)) (lt-gtb delay (last_unit n) long))
+    where
+      lt-gtb : (a b : ℕ) → b < a → nat_le a b ≡ false
+      lt-gtb a b less = by (nat_le a b) refl
+        where
+          by : (t : Bool) → nat_le a b ≡ t → t ≡ false
+          by true is = let low = leb-true a b is in absurd (omega (arith, low, less))
+          by false is = refl
+
+  pub quiet_by_mark : (mark t : ℕ) → mark ≡ since (given n m p) (last_unit n) → t ≡ last_unit n - delay → delay ≤ last_unit n → nat_le mark t ≡ is_quiet n m p delay
+  quiet_by_mark mark t is at short =
+      ap (λ s. nat_le s t) is ∙ ap (nat_le (since (given n m p) (last_unit n))) at
+      ∙ sym (ap (λ b. b && is_still n (given n m p) (last_unit n - delay)) (le-leb delay (last_unit n) short))
+
+-- since when an output of a module is what it is
+pub mark_is : (n : Circuit) (m : ℕ) (r : ModuleRecord) (t : ℕ) (w : ClientWatch) → IsWatch n m r t w → (p : ℕ) → p < 3 → mark_of w.marks p ≡ since (given n m p) t
+mark_is n m r t w is zero low = is.marks.first_output
+mark_is n m r t w is (suc zero) low = is.marks.second_output
+mark_is n m r t w is (suc (suc zero)) low = is.marks.third_output
+mark_is n m r t w is (suc (suc (suc p))) low = absurd (omega (arith, low))

@@ -2,6 +2,7 @@
 ghost use Rattle.std.specs.Prelude.{◌≡◌, ◌<◌, ◌&&◌, ℕ, Bool, true, IfOk, Some, length};
 ghost use Rattle.std.specs.List.{list_any};
 ghost use Rattle.mp_sets.specs.declared.needs.Shape.TheVariants.{Pairs};
+ghost use Rattle.mp_modules.specs.Kinds.{output_count};
 ghost use Rattle.mp_records.specs.Outputs.{delay_of, output_at};
 ghost use Rattle.mp_model.specs.Waves.{state};
 ghost use Rattle.mp_questions.specs.timing.Waits.{given};
@@ -64,6 +65,8 @@ fn port_needs(of: &ModuleEnd<'_>, port: u32) -> Needs
     requires { port < 3 }
     ensures { (set : ℕ → Bool) → are_met Pairs set result ≡ is_kept_at of.now.end.at.netlist.now set of.now.id.0 port (Some of.now.part.now) }
 {
+    // Its contract says that the netlist is well formed.
+    let _horizon = of.end.at.netlist.horizon();
     let output = output_at(of.part, port);
     match output.wire {
         Some(wire) => {
@@ -88,11 +91,12 @@ pub(crate) fn given_level(of: &ModuleEnd<'_>, port: u32, wire: WireId) -> u64
 }
 
 /// The sets of inputs that hold a port.
-fn held_needs(of: &ModuleEnd<'_>, port: u32, given: u64) -> Needs
-    requires { given ≡ given of.now.end.at.netlist.now of.now.id.0 port (last_unit of.now.end.at.netlist.now) }
+fn held_needs(of: &ModuleEnd<'_>, port: u32, level: u64) -> Needs
+    requires port { port < output_count of.now.part.now.kind }
+    requires level { level ≡ given of.now.end.at.netlist.now of.now.id.0 port (last_unit of.now.end.at.netlist.now) }
     ensures { (set : ℕ → Bool) → are_met Pairs set result ≡ list_any (are_still of.now.end.at.netlist.now set of.now.part.now) (holding_sets of.now.part.now.kind of.now.part.now.params (state of.now.end.at.netlist.now of.now.id.0 (last_unit of.now.end.at.netlist.now)) port) }
 {
-    let sets = held_sets(of, port, given);
+    let sets = held_sets(of, port, level);
     let (first, second) = set_needs(of, sets.first);
     let (third, fourth) = set_needs(of, sets.second);
     Needs {

@@ -4,11 +4,11 @@ ghost use Rattle.std.specs.List.{range_with_len};
 ghost use Rattle.mp_check.specs.Dead.{port_slots};
 ghost use Rattle.mp_check.specs.Deadlocks.{deadlock_from, deadlocks, next_port};
 
+use crate::dead::dead_ports;
+use crate::module_end::port_slots;
 use crate::rounds::round_beginnings;
 use crate::run_end::RunEnd;
 use crate::wait::Wait;
-use crate::dead::dead_ports;
-use crate::module_end::port_slots;
 use crate::waiting::{WaitingPorts, waiting_ports};
 use std::alloc::{AllocError, Global};
 use std::marker::Model;
@@ -43,8 +43,6 @@ impl Deadlock {
 pub(crate) fn deadlocks(alloc: Global, end: &RunEnd<'_>) -> Result<Vec<Deadlock>, AllocError>
     ensures { IfOk result (λ found. found.items ≡ deadlocks end.now.at.netlist.now) }
 {
-    // Its contract says that the netlist is well formed.
-    let _horizon = end.at.netlist.horizon();
     let dead = dead_ports(alloc, end)?;
     let waiting = waiting_ports(alloc, end, dead.as_slice())?;
     let ports = WaitingPorts {
@@ -52,17 +50,25 @@ pub(crate) fn deadlocks(alloc: Global, end: &RunEnd<'_>) -> Result<Vec<Deadlock>
         dead: dead.as_slice(),
         waiting: waiting.as_slice(),
     };
-    let next = next_ports(alloc, &ports)?;
+    deadlocks_among(alloc, &ports)
+}
+
+/// The deadlocks among the ports that wait.
+fn deadlocks_among(alloc: Global, ports: &WaitingPorts<'_>) -> Result<Vec<Deadlock>, AllocError>
+    ensures { IfOk result (λ found. found.items ≡ deadlocks ports.now.end.at.netlist.now) }
+{
+    // Its contract says that the netlist is well formed.
+    let _horizon = ports.end.at.netlist.horizon();
+    let next = next_ports(alloc, ports)?;
     let firsts = round_beginnings(alloc, next.as_slice())?;
     let mut found = Vec::new(alloc);
     for &first in &firsts {
-        found.push(deadlock_from(alloc, &ports, first)?)?;
+        found.push(deadlock_from(alloc, ports, first)?)?;
     }
     Ok(found)
 }
 
 /// For each port by number the next one, whose wire it waits for; how many numbers there are if it waits for none.
-#[tactic(auto, using(crate::proofs::WayLemmas::number_steps))]
 fn next_ports(alloc: Global, ports: &WaitingPorts<'_>) -> Result<Vec<u32>, AllocError>
     ensures each { IfOk result (λ next. next.items ≡ map (next_port ports.now.end.at.netlist.now) (range_with_len 0 (port_slots ports.now.end.at.netlist.now))) }
     ensures within { IfOk result (λ next. All (λ k. k ≤ port_slots ports.now.end.at.netlist.now) next.items) }
@@ -87,7 +93,11 @@ fn next_port(ports: &WaitingPorts<'_>, number: u32) -> u32
 }
 
 /// What the ports wait for that come round to a first one.
-fn deadlock_from(alloc: Global, ports: &WaitingPorts<'_>, first: u32) -> Result<Deadlock, AllocError>
+fn deadlock_from(
+    alloc: Global,
+    ports: &WaitingPorts<'_>,
+    first: u32,
+) -> Result<Deadlock, AllocError>
     ensures { IfOk result (λ deadlock. deadlock ≡ deadlock_from ports.now.end.at.netlist.now first) }
 {
     let mut waits = Vec::new(alloc);

@@ -1,7 +1,7 @@
 //! A module at the end of a run.
 ghost use Rattle.std.specs.Prelude.{◌≡◌, ◌<◌, ℕ, Bool, IsSome, Some};
 ghost use Rattle.mp_records.specs.Outputs.{output_at};
-ghost use Rattle.mp_netlist.specs.Circuit.{IsModule, module_at, wire_at};
+ghost use Rattle.mp_netlist.specs.Circuit.{module_at, wire_at};
 ghost use Rattle.mp_netlist.specs.declared.driver.Driver.TheVariants.{Port};
 ghost use Rattle.mp_netlist.specs.Drivers.{driver};
 ghost use Rattle.mp_model.specs.Levels.{input_by};
@@ -33,7 +33,6 @@ pub(crate) struct ModuleEnd<'a> {
     pub(crate) id: ModuleId,
     pub(crate) part: &'a ModuleRecord,
     ghost stands: { module_at end.at.netlist.now id.0 ≡ Some part.now },
-    ghost form: { IsModule end.at.netlist.now part.now },
 }
 
 impl<'a> ModuleEnd<'a> {
@@ -47,6 +46,8 @@ impl<'a> ModuleEnd<'a> {
     pub(crate) fn memory(&self) -> Memory
         ensures { result ≡ state self.now.end.at.netlist.now self.now.id.0 (last_unit self.now.end.at.netlist.now) }
     {
+        // Its contract says that the netlist is well formed.
+        let _horizon = self.end.at.netlist.horizon();
         follow(&self.end.at, self.id, self.part).memory
     }
 
@@ -55,6 +56,8 @@ impl<'a> ModuleEnd<'a> {
         requires { port < 4 }
         ensures { result ≡ slice_index (state self.now.end.at.netlist.now self.now.id.0 (last_unit self.now.end.at.netlist.now)).inputs port }
     {
+        // Its contract says that the netlist is well formed.
+        let _horizon = self.end.at.netlist.horizon();
         match self.part.inputs.as_slice().get(port) {
             Some(input) => self.end.at.heard(*input).level_at(self.end.at.time),
             None => 0,
@@ -66,6 +69,8 @@ impl<'a> ModuleEnd<'a> {
     pub(crate) fn need(&self, port: usize) -> Need
         ensures { (dead : ℕ → Bool) → is_met dead result ≡ is_still_in self.now.end.at.netlist.now dead (slice_get self.now.part.now.inputs port) }
     {
+        // Its contract says that the netlist is well formed.
+        let _horizon = self.end.at.netlist.horizon();
         match self.part.inputs.as_slice().get(port) {
             Some(input) => input_need(&self.end, *input),
             None => Need::Never,

@@ -7,9 +7,9 @@ ghost use Rattle.mp_netlist.specs.Drivers.{driver};
 ghost use Rattle.mp_check.specs.Notes.{becomes_note, driver_note, is_read, note_line, nothing_note, notes, port_note, stimulus_note, wire_note};
 ghost use Rattle.mp_check.specs.ReadWires.{AreRead};
 
+use crate::module_end::output_at;
 use crate::read_wires::is_marked;
 use crate::run_end::RunEnd;
-use crate::module_end::output_at;
 use mp_netlist::{Driver, ModuleId, WireId, WireRecord};
 use mp_streams::{Failed, Out, Sink, Text};
 

@@ -17,6 +17,8 @@ pub(crate) fn is_quiet(of: &ModuleEnd<'_>, port: u32, delay: u32) -> bool
     requires { port < 3 }
     ensures { result ≡ is_quiet of.now.end.at.netlist.now of.now.id.0 port delay }
 {
+    // Its contract says that the netlist is well formed.
+    let _horizon = of.end.at.netlist.horizon();
     let last = of.end.at.time;
     if delay > last {
         return false;

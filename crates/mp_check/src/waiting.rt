@@ -8,7 +8,7 @@ ghost use Rattle.mp_check.specs.Awaited.{inputs_list};
 ghost use Rattle.mp_check.specs.Dead.{AreDead};
 ghost use Rattle.mp_check.specs.Waiting.{AreWaiting, is_port_in, may_wait};
 
-use crate::awaited::{Awaited, awaited};
+use crate::awaited::{AwaitedInputs, awaited};
 use crate::dead::NEVER;
 use crate::module_end::{ModuleEnd, PORTS, port_number, port_slots};
 use crate::run_end::RunEnd;
@@ -17,7 +17,8 @@ use mp_netlist::{Driver, ModuleId, WireId};
 use mp_sets::{Need, Needs, Shape, greatest_closed_set, is_marked};
 use std::alloc::{AllocError, Global};
 
-/// The ports that wait, as marks by number.
+/// The ports that are dead and those that wait, as marks by number.
+#[derive(Clone, Copy)]
 pub(crate) struct WaitingPorts<'a> {
     pub(crate) end: RunEnd<'a>,
     pub(crate) dead: &'a [bool],
@@ -68,7 +69,7 @@ fn needs_of(end: &RunEnd<'_>, dead: &[bool], number: u32) -> Needs
 }
 
 /// The ports that drive the wires of some inputs.
-fn port_needs(of: &ModuleEnd<'_>, found: Awaited) -> Needs
+fn port_needs(of: &ModuleEnd<'_>, found: AwaitedInputs) -> Needs
     ensures { (set : ℕ → Bool) → are_met Any set result ≡ list_any (λ q. is_port_in of.now.end.at.netlist.now set (slice_get of.now.part.now.inputs q)) (inputs_list found) }
 {
     Needs {
@@ -119,7 +120,7 @@ impl<'a> WaitingPorts<'a> {
     }
 
     /// The first of some inputs whose wire a port drives that waits.
-    fn first_wait(&self, of: &ModuleEnd<'_>, found: Awaited) -> Option<Wait>
+    fn first_wait(&self, of: &ModuleEnd<'_>, found: AwaitedInputs) -> Option<Wait>
         requires { of.now.end.at.netlist.now ≡ self.now.end.at.netlist.now }
         ensures value { result ≡ first_wait self.now.end.at.netlist.now of.now.id.0 of.now.part.now (inputs_list found) }
         ensures within { IfSome result (λ wait. wait.next < port_slots self.now.end.at.netlist.now) }
