@@ -89,6 +89,6 @@ module _ (n : Circuit) where
   unfolding wait_of
   wire_of_wait k w is = by (cond_some (waiting n k) (wait_in n (k / port_numbers) (k % port_numbers) (module_at n (k / port_numbers))) None w is)
     where
-      by : ((waiting n k ≡ true) × (wait_in n (k / port_numbers) (k % port_numbers) (module_at n (k / port_numbers)) ≡ Some w)) ⊎ (_ ≡ Some w) → HasWire w
+      by : ((waiting n k ≡ true) × (wait_in n (k / port_numbers) (k % port_numbers) (module_at n (k / port_numbers)) ≡ Some w)) ⊎ ((let o : Option Wait = None in o) ≡ Some w) → HasWire w
       by (inl here) = of_slot (k / port_numbers) (k % port_numbers) w (module_at n (k / port_numbers)) here.1
       by (inr never) = absurd (none-some w never)
