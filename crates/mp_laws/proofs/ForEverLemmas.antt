@@ -68,9 +68,10 @@ module _ (n : Circuit) (ok : IsCircuit n) (m : ℕ) (r : ModuleRecord) (at : mod
       let x = heard_at t in
       let y = heard_at (suc t) in
       let next : state n m (suc t) ≡ step (built n r) (step (built n r) s x) y = next_state n ok m r at t ∙ ap (λ (k : Memory). step (built n r) k y) one.1 in
-      let stays = keeps_held_outputs r.kind r.params (module_width n r) s x y p set low (subst (λ (k : Memory). HasSet (holding_sets r.kind r.params k p) set) one.1 held) same in
-      (ap (λ (k : Memory). output_of k p) next ∙ stays.output ∙ sym (ap (λ (k : Memory). output_of k p) one.1),
-      subst (λ (k : Memory). HasSet (holding_sets r.kind r.params k p) set) (sym next) stays.holds)
+      let stays = keeps_held_outputs r.kind r.params (module_width n r) s x y p set low (subst (λ (k : Memory). HasSet (holding_sets r.kind r.params k p) set) one.1 held) same in (
+        ap (λ (k : Memory). output_of k p) next ∙ stays.output ∙ sym (ap (λ (k : Memory). output_of k p) one.1),
+        subst (λ (k : Memory). HasSet (holding_sets r.kind r.params k p) set) (sym next) stays.holds,
+      )
 
   held_on : (first last : ℕ) → Held first → ((u : ℕ) → first ≤ u → u < last → AreSame set (heard_at u) (heard_at (suc u))) → (u : ℕ) → first ≤ u → u ≤ last
       → output_of (state n m u) p ≡ output_of (state n m first) p
