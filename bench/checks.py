@@ -183,6 +183,26 @@ class Check:
             elif wire:
                 yield f"{wire[0]} is read, and nothing drives it" if number in read else f"{wire[0]} is unused"
 
+    # ---- bundles that nobody ended
+
+    def is_over(self):
+        """Whether the last change has come through every port before the end."""
+        last = max((time for line in self.levels if line for time in events(line)), default=0)
+        delays, late = [0], [0]
+        for kind, _, inputs, outputs in filter(None, self.netlist.modules):
+            for port, (wire, delay) in enumerate(outputs):
+                if wire is not None:
+                    delays.append(delay)
+                    late += [inputs[port][1]] if kind == "REG" and port else [read[1] for read in inputs]
+        return last + max(delays) + max(late) <= self.end
+
+    def busy(self):
+        """The bundles that nobody ended, each with the time of its last request."""
+        if self.is_over():
+            for name, request, acknowledge, _, _ in filter(None, self.netlist.bundles):
+                if self.levels[request][-1] != self.levels[acknowledge][-1]:
+                    yield f"{name} is busy since {max(events(self.levels[request]), default=0)}"
+
     # ---- all of it
 
     def wrong(self):
@@ -200,5 +220,5 @@ def check(netlist):
     """What `check` writes, and the status with which it ends."""
     of = Check(netlist)
     wrong = list(of.wrong())
-    lines = wrong + [f"note wire {note}" for note in of.notes()]
+    lines = wrong + [f"note wire {note}" for note in of.notes()] + [f"note bundle {note}" for note in of.busy()]
     return "".join(f"{line}\n" for line in lines), 5 if wrong else 0

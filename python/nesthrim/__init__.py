@@ -15,7 +15,7 @@ All answers are those of the program `mpwb`, which is found as `find_program` sa
 from .answers.causes import Event, PathPart, Step, Wait
 from .answers.measure import BundleMeasure, Measure, WireMeasure
 from .answers.picture import Picture
-from .answers.report import Check, Deadlock, Finding, Late, Note, Report
+from .answers.report import BusyNote, Check, Deadlock, Finding, Late, Note, Report
 from .answers.waves import Wave, Waves
 from .answers.work import MadeEdit, Outcome, Work
 from .builder import Part
@@ -46,7 +46,7 @@ from .wires import Bundle, Module, Port, Stimulus, Wire
 __version__ = "0.1.0"
 
 __all__ = [
-    "END", "AnswerError", "BrokenPipe", "Bundle", "BundleMeasure", "Check", "Closed", "Deadlock", "Desk", "Event", "Fault", "FifoStage",
+    "END", "AnswerError", "BrokenPipe", "Bundle", "BundleMeasure", "BusyNote", "Check", "Closed", "Deadlock", "Desk", "Event", "Fault", "FifoStage",
     "Finding", "Late", "MadeEdit", "Measure", "Module", "NesthrimError", "Netlist", "NoSeat", "Note", "OutOfMemory", "Outcome", "Part",
     "PathPart", "Picture", "Port", "Program", "ProgramFailed", "ProgramMissing", "Refused", "Report", "Seat", "Session", "Step", "Stimulus",
     "UnknownName", "Unread", "Variant", "Wait", "Wave", "Waves", "Wire", "WireMeasure", "Work", "find_program", "sweep",

@@ -14,6 +14,7 @@ use Rattle.mp_questions.specs.late.Lateness.{all_late}
 use Rattle.mp_check.specs.Dead.{last_unit}
 use Rattle.mp_check.specs.Deadlocks.{deadlocks}
 use Rattle.mp_check.specs.Notes.{notes}
+use Rattle.mp_check.specs.Over.{bundle_notes}
 use Rattle.mp_questions.specs.declared.late.late.Late.{Late}
 use Rattle.mp_check.specs.declared.wait.Wait.{Wait}
 
@@ -51,9 +52,9 @@ stands_since n waits = fold max 0 (map (λ w. since (level n w.wire.0) (last_uni
 abbrev pub deadlock_line : Circuit → List Wait → List ℕ
 deadlock_line n waits = decimal (stands_since n waits) ++ (codes " deadlock " ++ (waits_text n waits ++ (10 ∷ [])))
 
--- the report, then what is late, the deadlocks and the notes
+-- the report, then what is late, the deadlocks, and the notes on wires and on bundles
 unfoldable pub check_text : Circuit → List ℕ
-check_text n = report_text n ++ (flat_map (late_line n) (all_late n) ++ (flat_map (deadlock_line n) (deadlocks n) ++ notes n))
+check_text n = report_text n ++ (flat_map (late_line n) (all_late n) ++ (flat_map (deadlock_line n) (deadlocks n) ++ (notes n ++ bundle_notes n)))
 
 abbrev pub has_none : {A : Type 0} → List A → Bool
 has_none [] = true

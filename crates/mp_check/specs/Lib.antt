@@ -6,6 +6,7 @@ pub mod Ways
 pub mod Doubling
 pub mod Deadlocks
 pub mod Notes
+pub mod Over
 pub mod ReadWires
 pub mod CheckLines
 pub mod Checks

@@ -6,6 +6,7 @@
 #![tactic(auto)]
 
 mod awaited;
+mod busy;
 mod checked;
 mod dead;
 mod deadlocks;
@@ -13,6 +14,7 @@ mod held_memory;
 mod lines;
 mod module_end;
 mod notes;
+mod over;
 mod quiet;
 mod read_wires;
 mod rounds;

@@ -111,3 +111,30 @@ pub(crate) const UNREAD: Entry = Entry {
     Let a module read the wire, or remove it.
 ",
 };
+
+pub(crate) const BUSY: Entry = Entry {
+    subject: Topic::Check(CheckWord::Busy),
+    text: "
+  meaning:
+    nothing changes any more, and a bundle's request has changed with no
+      acknowledge after it; the time is that of the last request, 0 if there
+      was none
+  example, read by `mpwb check`:
+    horizon 20
+    wire r 1 0
+    wire k 1 0
+    wire d 4 0
+    wire ok 1 0
+    module recv C 0 0 0 : r ok > k/3
+    bundle t r k d 1
+    stim r 5=1
+    stim d 2=3
+    stim ok
+  answer:
+    note bundle t is busy since 5
+  remedy:
+    If the transfer should have ended, `mpwb waits` shows which module waits
+    for what. It is no fault if the environment just hasn't answered: set the
+    stimulus that answers.
+",
+};
