@@ -11,3 +11,4 @@ pub mod StateLemmas
 pub mod NeedLemmas
 pub mod DeadLemmas
 pub mod AwaitedLemmas
+pub mod OverLemmas

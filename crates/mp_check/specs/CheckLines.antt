@@ -14,7 +14,6 @@ use Rattle.mp_questions.specs.late.Lateness.{all_late}
 use Rattle.mp_check.specs.Dead.{last_unit}
 use Rattle.mp_check.specs.Deadlocks.{deadlocks}
 use Rattle.mp_check.specs.Notes.{notes}
-use Rattle.mp_check.specs.Over.{bundle_notes}
 use Rattle.mp_questions.specs.declared.late.late.Late.{Late}
 use Rattle.mp_check.specs.declared.wait.Wait.{Wait}
 
@@ -54,7 +53,7 @@ deadlock_line n waits = decimal (stands_since n waits) ++ (codes " deadlock " ++
 
 -- the report, then what is late, the deadlocks, and the notes on wires and on bundles
 unfoldable pub check_text : Circuit → List ℕ
-check_text n = report_text n ++ (flat_map (late_line n) (all_late n) ++ (flat_map (deadlock_line n) (deadlocks n) ++ (notes n ++ bundle_notes n)))
+check_text n = report_text n ++ (flat_map (late_line n) (all_late n) ++ (flat_map (deadlock_line n) (deadlocks n) ++ notes n))
 
 abbrev pub has_none : {A : Type 0} → List A → Bool
 has_none [] = true

@@ -5,8 +5,8 @@ pub mod Awaited
 pub mod Ways
 pub mod Doubling
 pub mod Deadlocks
-pub mod Notes
 pub mod Over
+pub mod Notes
 pub mod ReadWires
 pub mod CheckLines
 pub mod Checks

@@ -9,7 +9,6 @@ ghost use Rattle.mp_check.specs.CheckLines.{check_text, deadlock_line, late_line
 ghost use Rattle.mp_check.specs.Checks.{IsCheckOf};
 ghost use Rattle.mp_check.specs.Dead.{last_unit};
 
-use crate::busy::put_bundle_notes;
 use crate::checked::Checked;
 use crate::deadlocks::Deadlock;
 use crate::notes::put_notes;
@@ -41,8 +40,7 @@ pub fn put_check<S: Sink>(
     put_report(out, netlist, check.findings.as_slice())?;
     put_late(out, netlist, check.late.as_slice())?;
     put_deadlocks(out, &end, check.deadlocks.as_slice())?;
-    put_notes(out, &end, check.read.as_slice())?;
-    put_bundle_notes(out, &end)
+    put_notes(out, &end, check.read.as_slice())
 }
 
 /// Writes the lines of late data.

@@ -2,7 +2,7 @@ use Rattle.std.proofs.Common.{Ok, take, length}
 use Rattle.std.specs.List.{flat_map, range_with_len}
 use Rattle.mp_streams.specs.Outgoing.{Writes}
 use Rattle.mp_check.specs.Notes.{wire_note}
-use Rattle.mp_check.proofs.notes.put_notes.Given as goal
+use Rattle.mp_check.proofs.notes.put_wire_notes.Given as goal
 
 -- the notes on the wires so far are written
 abbrev pub invariant-loop-number : goal.invariant-loop-number
