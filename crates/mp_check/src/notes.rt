@@ -7,8 +7,8 @@ ghost use Rattle.mp_netlist.specs.Drivers.{driver};
 ghost use Rattle.mp_check.specs.Notes.{becomes_note, driver_note, is_read, note_line, nothing_note, notes, port_note, stimulus_note, wire_note, wire_notes};
 ghost use Rattle.mp_check.specs.ReadWires.{AreRead};
 
-use crate::module_end::output_at;
 use crate::busy::put_bundle_notes;
+use crate::module_end::output_at;
 use crate::read_wires::is_marked;
 use crate::run_end::RunEnd;
 use mp_netlist::{Driver, ModuleId, WireId, WireRecord};
@@ -28,11 +28,7 @@ pub(crate) fn put_notes<S: Sink>(
 }
 
 /// Writes the note on each wire by number.
-fn put_wire_notes<S: Sink>(
-    out: &mut Out<S>,
-    end: &RunEnd<'_>,
-    read: &[bool],
-) -> Result<(), Failed>
+fn put_wire_notes<S: Sink>(out: &mut Out<S>, end: &RunEnd<'_>, read: &[bool]) -> Result<(), Failed>
     requires { AreRead end.now.at.netlist.now read.now }
     ensures { Writes result out.old out.new (wire_notes end.now.at.netlist.now) }
 {
