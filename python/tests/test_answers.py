@@ -11,7 +11,7 @@ from typing import Any, Callable, List, Tuple
 from nesthrim import END, AnswerError, BundleMeasure, Event, Finding, Netlist, PathPart, ProgramFailed, Session, Step, Unread, Wait, WireMeasure
 from nesthrim.answers.causes import read_path, read_waits, read_why
 from nesthrim.answers.measure import read_measure
-from nesthrim.answers.report import Check, Deadlock, Late, Note, Report, read_check, read_report
+from nesthrim.answers.report import BusyNote, Check, Deadlock, Late, Note, Report, read_check, read_report
 from nesthrim.answers.waves import read_waves
 from nesthrim.answers.work import read_edits, read_version, read_work
 from tests.support import TOP, Case, example, examples, needs, raw
@@ -188,6 +188,11 @@ class Checks(Case):
         self.assertEqual(text, str(check))
         self.assertFalse(check.ok)
         self.assertTrue(read_check("note wire x is unused\n", "check").ok)
+        busy = read_check("note bundle t is busy since 30\n", "check")
+        self.assertEqual((BusyNote("t", 30),), busy.notes)
+        self.assertEqual("note bundle t is busy since 30\n", str(busy))
+        with self.assertRaises(AnswerError):
+            read_check("note bundle t is idle\n", "check")
         self.assertEqual(4, read_measure("bundle b 2 setup 1 response 3 3 late 4\n", "measure").bundles["b"].late)
         self.assertEqual("bundle b 2 late 4", str(read_measure("bundle b 2 late 4\n", "measure").bundles["b"]))
 

@@ -2,6 +2,13 @@ pub mod WayLemmas
 pub mod DeadlockLemmas
 pub mod ReadLemmas
 pub mod LineLemmas
-pub mod WaitingLemmas
+pub mod PortLemmas
 pub mod NoteLemmas
 pub mod CheckLemmas
+pub mod StillLemmas
+pub mod QuietLemmas
+pub mod StateLemmas
+pub mod NeedLemmas
+pub mod DeadLemmas
+pub mod AwaitedLemmas
+pub mod OverLemmas

@@ -11,7 +11,7 @@ use Rattle.mp_text.specs.Written.{wire_name}
 use Rattle.mp_questions.specs.timing.Events.{since}
 use Rattle.mp_report.specs.Lines.{report_text}
 use Rattle.mp_questions.specs.late.Lateness.{all_late}
-use Rattle.mp_check.specs.Waiting.{last_unit}
+use Rattle.mp_check.specs.Dead.{last_unit}
 use Rattle.mp_check.specs.Deadlocks.{deadlocks}
 use Rattle.mp_check.specs.Notes.{notes}
 use Rattle.mp_questions.specs.declared.late.late.Late.{Late}
@@ -51,7 +51,7 @@ stands_since n waits = fold max 0 (map (λ w. since (level n w.wire.0) (last_uni
 abbrev pub deadlock_line : Circuit → List Wait → List ℕ
 deadlock_line n waits = decimal (stands_since n waits) ++ (codes " deadlock " ++ (waits_text n waits ++ (10 ∷ [])))
 
--- the report, then what is late, the deadlocks and the notes
+-- the report, then what is late, the deadlocks, and the notes on wires and on bundles
 unfoldable pub check_text : Circuit → List ℕ
 check_text n = report_text n ++ (flat_map (late_line n) (all_late n) ++ (flat_map (deadlock_line n) (deadlocks n) ++ notes n))
 

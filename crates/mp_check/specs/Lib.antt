@@ -1,7 +1,11 @@
+pub mod Dead
+pub mod Quiet
 pub mod Waiting
+pub mod Awaited
 pub mod Ways
 pub mod Doubling
 pub mod Deadlocks
+pub mod Over
 pub mod Notes
 pub mod ReadWires
 pub mod CheckLines

@@ -5,10 +5,17 @@
 //! ports that wait in a circle are found.
 #![tactic(auto)]
 
+mod awaited;
+mod busy;
 mod checked;
+mod dead;
 mod deadlocks;
+mod held_memory;
 mod lines;
+mod module_end;
 mod notes;
+mod over;
+mod quiet;
 mod read_wires;
 mod rounds;
 mod run_end;

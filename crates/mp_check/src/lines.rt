@@ -7,7 +7,7 @@ ghost use Rattle.mp_model.specs.Waves.{AreWavesOf, level};
 ghost use Rattle.mp_questions.specs.timing.Events.{since};
 ghost use Rattle.mp_check.specs.CheckLines.{check_text, deadlock_line, late_line, name_in, next_text, stands_since, wait_text, waits_text};
 ghost use Rattle.mp_check.specs.Checks.{IsCheckOf};
-ghost use Rattle.mp_check.specs.Waiting.{last_unit};
+ghost use Rattle.mp_check.specs.Dead.{last_unit};
 
 use crate::checked::Checked;
 use crate::deadlocks::Deadlock;
@@ -22,7 +22,8 @@ use mp_streams::{Failed, Out, Sink, Text};
 use mp_text::wire_name;
 
 /// Writes what a check of a netlist found: the lines of the report, a line `TIME bundle NAME late UNITS` for each change of data that is late, a line
-/// `TIME deadlock MODULE waits for WIRE, ..` for each deadlock, and a line `note wire NAME ..` for each note on a wire. Times are in units from 0.
+/// `TIME deadlock MODULE waits for WIRE, ..` for each deadlock, a line `note wire NAME ..` for each note on a wire, and a line
+/// `note bundle NAME is busy since TIME` for each bundle that nobody ended in a run that is over. Times are in units from 0.
 ///
 /// `Failed` comes if the sink fails; then the sink has a beginning of what was held and of the lines, and nothing is held. It takes no memory.
 pub fn put_check<S: Sink>(
@@ -98,7 +99,7 @@ fn stands_since(end: &RunEnd<'_>, waits: &[Wait]) -> u32
 }
 
 /// The time of the last change of a wire, 0 if there is none.
-fn since(end: &RunEnd<'_>, wire: WireId) -> u32
+pub(crate) fn since(end: &RunEnd<'_>, wire: WireId) -> u32
     ensures { result ≡ since (level end.now.at.netlist.now wire.0) (last_unit end.now.at.netlist.now) }
 {
     // Its contract says that the netlist is well formed.

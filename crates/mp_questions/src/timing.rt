@@ -19,10 +19,11 @@ mod trail;
 mod wait_moment;
 mod waits;
 
+pub use client_watch::{ClientWatch, follow};
 pub use delayed_input::DelayedInput;
 pub use extremes::Extremes;
+pub use marks::Marks;
 pub use measure::put_measure;
-pub use missing::missing_input;
 pub use range::TimeRange;
 pub(crate) use range::read_time;
 pub use wait_moment::WaitMoment;

@@ -113,6 +113,7 @@ Writes, in this order:
   TIME bundle NAME late UNITS               data that come UNITS after a request
   TIME deadlock MODULE waits for WIRE, ..   modules that wait for ever
   note wire NAME ..                         a wire that may not be as intended
+  note bundle NAME is busy since TIME       a transfer that nobody ended
 
 Data are late if they change after a request, but neither because of that
 request nor because of a stimulus after it. There is a note on each wire that is

@@ -13,7 +13,8 @@ _FINDING = re.compile(rf"(\d+) (module|bundle) ({NAME}) ([a-z-]+)")
 _LATE = re.compile(rf"(\d+) bundle ({NAME}) late (\d+)")
 _DEADLOCK = re.compile(r"(\d+) deadlock (.+)")
 _WAIT = re.compile(rf"({NAME}) waits for ({NAME})")
-_NOTE = re.compile(rf"note wire ({NAME}) (.+)")
+_NOTE = re.compile(rf"note (wire|bundle) ({NAME}) (.+)")
+_BUSY = re.compile(r"is busy since (\d+)")
 
 
 @dataclass(frozen=True)
@@ -63,6 +64,17 @@ class Note:
         return f"note wire {self.wire} {self.text}"
 
 
+@dataclass(frozen=True)
+class BusyNote:
+    """At the end of a run in which nothing changes any more a bundle is busy, since its last request at this time. It is no fault."""
+
+    bundle: str
+    since: int
+
+    def __str__(self) -> str:
+        return f"note bundle {self.bundle} is busy since {self.since}"
+
+
 class Report(Sequence[Finding]):
     """The findings of a netlist, in the program's order."""
 
@@ -105,7 +117,7 @@ class Check:
     findings: Report
     late: Tuple[Late, ...]
     deadlocks: Tuple[Deadlock, ...]
-    notes: Tuple[Note, ...]
+    notes: Tuple[Union[Note, BusyNote], ...]
 
     @property
     def ok(self) -> bool:
@@ -137,19 +149,28 @@ def _read_deadlock(since: str, waits: str, line: str) -> Deadlock:
     return Deadlock(int(since), tuple(pairs))
 
 
+def _read_note(kind: str, name: str, text: str, line: str) -> Union[Note, BusyNote]:
+    if kind == "wire":
+        return Note(name, text)
+    busy = _BUSY.fullmatch(text)
+    if busy is None:
+        raise AnswerError("check", line)
+    return BusyNote(name, int(busy[1]))
+
+
 def read_check(text: str, question: str) -> Check:
     """What `check` writes."""
     findings: List[Finding] = []
     late: List[Late] = []
     deadlocks: List[Deadlock] = []
-    notes: List[Note] = []
+    notes: List[Union[Note, BusyNote]] = []
     for line in text.splitlines():
         if found := _LATE.fullmatch(line):
             late.append(Late(int(found[1]), found[2], int(found[3])))
         elif found := _DEADLOCK.fullmatch(line):
             deadlocks.append(_read_deadlock(found[1], found[2], line))
         elif found := _NOTE.fullmatch(line):
-            notes.append(Note(found[1], found[2]))
+            notes.append(_read_note(found[1], found[2], found[3], line))
         else:
             findings.append(_read_finding(line, question))
     return Check(Report(findings), tuple(late), tuple(deadlocks), tuple(notes))

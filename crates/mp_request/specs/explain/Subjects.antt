@@ -19,7 +19,7 @@ use Rattle.mp_request.specs.explain.SeatCodes as seat_codes
 use Rattle.mp_request.specs.declared.explain.topic.Topic.{Topic}
 use Rattle.mp_request.specs.declared.explain.topic.Topic.TheVariants.{Text, Edit, Seat, Finding, Check, Kind as OfKind}
 use Rattle.mp_request.specs.declared.explain.check_word.CheckWord.{CheckWord}
-use Rattle.mp_request.specs.declared.explain.check_word.CheckWord.TheVariants.{Late, Deadlock, Becomes, Undriven, Unread}
+use Rattle.mp_request.specs.declared.explain.check_word.CheckWord.TheVariants.{Late, Deadlock, Becomes, Undriven, Unread, Busy}
 use Rattle.mp_request.specs.explain.CheckWords as check_word
 
 abbrev pub edit_name : EditError → List ℕ
@@ -65,7 +65,7 @@ seat_refusals = seats.NotADesigner ∷ seats.NoWork ∷ seats.NotKept ∷ []
 
 -- what a check tells beside findings
 abbrev pub check_words : List CheckWord
-check_words = Late ∷ Deadlock ∷ Becomes ∷ Undriven ∷ Unread ∷ []
+check_words = Late ∷ Deadlock ∷ Becomes ∷ Undriven ∷ Unread ∷ Busy ∷ []
 
 abbrev pub all_kinds : List Kind
 all_kinds =

@@ -37,7 +37,8 @@ pub(crate) const DEADLOCK: Entry = Entry {
     text: "
   meaning:
     modules wait for each other's wires in a cycle, and these wires keep
-      their levels for ever
+      their levels for ever, whatever stimuli set later; modules of all kinds
+      may be in it
   example, read by `mpwb check`:
     horizon 40
     wire p 1 0
@@ -47,10 +48,14 @@ pub(crate) const DEADLOCK: Entry = Entry {
   answer:
     0 deadlock x waits for q, y waits for p
   remedy:
-    Break the cycle, or start an event in it: with a NOT in place of a BUF, or
-    with the other INIT of a C and the same level at its wire. Or a bubble is
-    missing: the C of a stage that begins empty has one (BUBA or BUBB is 1) at
-    the input by which the next stage answers.
+    In a ring, look for the missing bubble first: with a token in each stage no
+    stage can take one, so add a stage or take a token away. Or a bubble of a C
+    is missing: that of a stage that begins empty has one (BUBA or BUBB is 1) at
+    the input by which the next stage answers. With no token at all, start one:
+    with a NOT in place of a BUF, or with the other INIT of a C and the same
+    level at its wire. Else break the cycle. At a CALL or an ARBITER look for
+    the done that never comes, and at a module that waits for two clients for
+    the second, which is only granted behind the first.
 ",
 };
 
@@ -107,5 +112,32 @@ pub(crate) const UNREAD: Entry = Entry {
     note wire a has a stimulus, and nothing reads it
   remedy:
     Let a module read the wire, or remove it.
+",
+};
+
+pub(crate) const BUSY: Entry = Entry {
+    subject: Topic::Check(CheckWord::Busy),
+    text: "
+  meaning:
+    nothing changes any more, and a bundle's request has changed with no
+      acknowledge after it; the time is that of the last request, 0 if there
+      was none
+  example, read by `mpwb check`:
+    horizon 20
+    wire r 1 0
+    wire k 1 0
+    wire d 4 0
+    wire ok 1 0
+    module recv C 0 0 0 : r ok > k/3
+    bundle t r k d 1
+    stim r 5=1
+    stim d 2=3
+    stim ok
+  answer:
+    note bundle t is busy since 5
+  remedy:
+    If the transfer should have ended, `mpwb waits` shows which module waits
+    for what. It is no fault if the environment just hasn't answered: set the
+    stimulus that answers.
 ",
 };

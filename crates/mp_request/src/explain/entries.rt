@@ -4,7 +4,7 @@ ghost use Rattle.mp_modules.specs.Findings.{by_number};
 ghost use Rattle.mp_request.specs.explain.Subjects.{all_kinds, check_words, refusals, seat_refusals, subjects, text_faults};
 ghost use Rattle.mp_request.specs.declared.explain.topic.Topic.TheVariants.{Text, Edit, Seat, Finding, Check, Kind};
 
-use crate::explain::checks::{BECOMES, DEADLOCK, LATE, UNDRIVEN, UNREAD};
+use crate::explain::checks::{BECOMES, BUSY, DEADLOCK, LATE, UNDRIVEN, UNREAD};
 use crate::explain::data_kinds::{ADDC, BIT, REG, SUM, XORC};
 use crate::explain::entry::Entry;
 use crate::explain::event_kinds::{ARBITER, BUF, C, CALL, NOT, SELECT, TOGGLE, XOR};
@@ -124,7 +124,7 @@ fn findings() -> &'static [Entry]
 fn checks() -> &'static [Entry]
     ensures { map (λ entry. entry.subject) result.now ≡ map Check check_words }
 {
-    &[LATE, DEADLOCK, BECOMES, UNDRIVEN, UNREAD]
+    &[LATE, DEADLOCK, BECOMES, UNDRIVEN, UNREAD, BUSY]
 }
 
 /// The kinds of module.
