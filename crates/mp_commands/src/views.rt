@@ -11,6 +11,7 @@ mod path_lines;
 mod picture_text;
 mod report_lines;
 mod view;
+mod steady_lines;
 mod wave_lines;
 mod why_lines;
 

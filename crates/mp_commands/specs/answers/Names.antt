@@ -3,6 +3,7 @@ pub use Rattle.std.specs.Fmt.{decimal}
 pub use Rattle.std.specs.List.{flat_map, slice_get}
 pub use Rattle.std.specs.Prelude.{Bool, List, None, Option, Some, [], codes, drop, if◌then◌else◌, length, nat_le, unwrap_or, ℕ, ◌&&◌, ◌++◌, ◌+◌, ◌-◌, ◌∷◌}
 pub use Rattle.mp_check.specs.CheckLines.{check_text}
+pub use Rattle.mp_steady.specs.SteadyLines.{steady_text}
 pub use Rattle.mp_text.specs.edit_lines.EditLines.{edit_text}
 pub use Rattle.mp_model.specs.Waves.{wave}
 pub use Rattle.mp_netlist.specs.Circuit.{Circuit, module_at, wire_at, wire_named}

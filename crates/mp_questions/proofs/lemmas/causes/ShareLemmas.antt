@@ -300,3 +300,10 @@ pub path_is : (n : Circuit) → IsCircuit n → (moment : Moment) (c : WireChang
     → path n moment ≡ by_units (filter has_steps (shares n (chain_from n c.time (Some c))))
 unfolding path
 path_is n ok moment c some = ap (λ cs. by_units (filter has_steps (shares n cs))) (chain_is n ok moment.wire (read_time n.horizon moment.time) (Some c) (sym some))
+
+-- ---- changes that are noted one by one
+
+-- the units of some changes are few where these are
+pub units_few : (n : Circuit) → IsCircuit n → (changes : List WireChange) → AllByRecursion (λ (c : WireChange). c.time < 2 ^ 31) changes → sum_by (units_of n) changes ≤ length changes * 2 ^ 31
+units_few n ok [] all = omega arith
+units_few n ok (c ∷ changes) all = omega (arith, sum_by-cons (units_of n) c changes, units_few n ok changes all.1, all.0)

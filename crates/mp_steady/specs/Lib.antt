@@ -1,0 +1,4 @@
+pub mod WireSets
+pub mod Periods
+pub mod Cycles
+pub mod SteadyLines

@@ -1,0 +1,86 @@
+//! Whether modules come to a state again.
+ghost use Rattle.std.specs.Prelude.{◌≡◌, ◌<◌, ◌≤◌, ℕ, List, All, IfOk, IsSome, Some, length, map, vec_len};
+ghost use Rattle.mp_wave.specs.Waveform.{IsWaveform, level_of};
+ghost use Rattle.mp_records.specs.declared.ports.Input.{Input as Port};
+ghost use Rattle.mp_netlist.specs.Circuit.{IsModule, module_at, wire_at};
+ghost use Rattle.mp_model.specs.Levels.{input_by};
+ghost use Rattle.mp_model.specs.Waves.{level};
+ghost use Rattle.mp_model.specs.response.Pieces.{levels_at, piece_level};
+ghost use Rattle.mp_steady.specs.Periods.{is_again_by, is_same_state, is_state_again};
+ghost use Rattle.mp_steady.specs.RunTimes.{AreTimes};
+ghost use Rattle.mp_steady.specs.WireNumbers.{numbers};
+
+use crate::run_times::RunTimes;
+use crate::wire_inputs::passes_on;
+use crate::wire_set::WireSet;
+use mp_model::{InPiece, built, cut_delayed, respond};
+use mp_modules::{EventModule, Memory};
+use mp_netlist::{Driver, Input, ModuleId, ModuleRecord};
+use std::alloc::{AllocError, Global};
+
+/// Whether each module that drives one of the wires, if it doesn't only pass an input on, has the state of so many units before.
+pub(crate) fn are_states_again(
+    alloc: Global,
+    set: WireSet<'_>,
+    times: RunTimes,
+    units: u32,
+) -> Result<bool, AllocError> {
+    for &wire in set.wires {
+        if !is_again(alloc, set, times, units, set.of.driver_of(wire))? {
+            return Ok(false);
+        }
+    }
+    Ok(true)
+}
+
+/// Whether the module of a port that is a driver has that state.
+fn is_again(
+    alloc: Global,
+    set: WireSet<'_>,
+    times: RunTimes,
+    units: u32,
+    driver: Driver,
+) -> Result<bool, AllocError> {
+    let Driver::Port(id, port) = driver else {
+        return Ok(true);
+    };
+    match set.of.netlist.module(id) {
+        Some(part) if !passes_on(part.kind, port) => is_state_again(alloc, set, times, units, part),
+        _ => Ok(true),
+    }
+}
+
+/// Whether a module has that state.
+fn is_state_again(
+    alloc: Global,
+    set: WireSet<'_>,
+    times: RunTimes,
+    units: u32,
+    record: &ModuleRecord,
+) -> Result<bool, AllocError> {
+    let part = built(set.of.netlist, record);
+    let inputs = pieces(alloc, set, record.inputs.as_slice())?;
+    let last = times.told_until() + 1;
+    let middle = last - units;
+    let before = respond(alloc, &part, part.start(), inputs.as_slice(), 0, middle)?;
+    let now = respond(alloc, &part, before.memory, inputs.as_slice(), middle, last)?;
+    Ok(is_same_state(&before.memory, &now.memory))
+}
+
+/// Whether two states are the same.
+fn is_same_state(one: &Memory, other: &Memory) -> bool {
+    one.inputs == other.inputs
+        && one.outputs == other.outputs
+        && one.served == other.served
+        && one.waiting == other.waiting
+}
+
+/// The waves at the inputs of a module, up to the horizon.
+fn pieces(alloc: Global, set: WireSet<'_>, inputs: &[Input]) -> Result<Vec<InPiece>, AllocError> {
+    let mut pieces = Vec::with_capacity(alloc, inputs.len())?;
+    for &input in inputs {
+        let wave = set.wave_of(input.wire);
+        pieces.push(cut_delayed(alloc, wave, input.delay, 0, set.of.netlist.horizon())?)?;
+    }
+    Ok(pieces)
+}
