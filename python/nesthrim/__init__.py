@@ -16,6 +16,7 @@ from .answers.causes import Event, PathPart, Step, Wait
 from .answers.measure import BundleMeasure, Measure, WireMeasure
 from .answers.picture import Picture
 from .answers.report import Check, Deadlock, Finding, Late, Note, Report
+from .answers.steady import Cycle, Steady
 from .answers.waves import Wave, Waves
 from .answers.work import MadeEdit, Outcome, Work
 from .builder import Part
@@ -46,8 +47,8 @@ from .wires import Bundle, Module, Port, Stimulus, Wire
 __version__ = "0.1.0"
 
 __all__ = [
-    "END", "AnswerError", "BrokenPipe", "Bundle", "BundleMeasure", "Check", "Closed", "Deadlock", "Desk", "Event", "Fault", "FifoStage",
+    "END", "AnswerError", "BrokenPipe", "Bundle", "BundleMeasure", "Check", "Closed", "Cycle", "Deadlock", "Desk", "Event", "Fault", "FifoStage",
     "Finding", "Late", "MadeEdit", "Measure", "Module", "NesthrimError", "Netlist", "NoSeat", "Note", "OutOfMemory", "Outcome", "Part",
-    "PathPart", "Picture", "Port", "Program", "ProgramFailed", "ProgramMissing", "Refused", "Report", "Seat", "Session", "Step", "Stimulus",
+    "PathPart", "Picture", "Port", "Program", "ProgramFailed", "ProgramMissing", "Refused", "Report", "Seat", "Session", "Steady", "Step", "Stimulus",
     "UnknownName", "Unread", "Variant", "Wait", "Wave", "Waves", "Wire", "WireMeasure", "Work", "find_program", "sweep",
 ]  # fmt: skip
