@@ -1,5 +1,5 @@
 -- The critical cycle of wires that repeat: the causes that lead round a period.
-use Rattle.std.specs.Prelude.{ℕ, ◌+◌, ◌*◌, ◌-◌, ◌%◌, Bool, ◌==◌, ◌&&◌, List, [], ◌∷◌, ◌++◌, filter, length, nat_lt, option_map, option_or, Option, Some, None, zero, suc, if◌then◌else◌}
+use Rattle.std.specs.Prelude.{ℕ, ◌-◌, ◌%◌, Bool, ◌==◌, ◌&&◌, List, [], ◌∷◌, ◌++◌, nat_lt, option_map, option_or, Option, Some, None, zero, suc, if◌then◌else◌}
 use Rattle.std.specs.List.{find, list_any, sum_by}
 use Rattle.mp_records.specs.declared.ids.WireId.{WireId}
 use Rattle.mp_netlist.specs.Circuit.{Circuit}
@@ -47,13 +47,13 @@ abbrev pub last_of : Circuit → Option ℕ → Option WireChange
 last_of n None = None
 last_of n (Some w) = last_change n (record { 0 = w }) (last_unit n)
 
--- more than there are places: changes of wires in one period
-abbrev pub place_bound : Circuit → ℕ → ℕ
-place_bound n units = units * length n.wires + 1
+-- among how many changes a cycle is looked for
+abbrev pub most_places : ℕ
+most_places = 4294967295
 
 -- the critical cycle, from the last change of the first wire on
 unfoldable pub cycle : Circuit → List ℕ → ℕ → List WireChange
-cycle n wires units = round_of [] (way_from n units (place_bound n units) (last_of n (first_wire n units wires)))
+cycle n wires units = round_of [] (way_from n units most_places (last_of n (first_wire n units wires)))
 
 -- the units of all its steps
 abbrev pub cycle_length : Circuit → List WireChange → ℕ

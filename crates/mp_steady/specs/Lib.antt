@@ -1,4 +1,6 @@
 pub mod WireSets
 pub mod Periods
+pub mod RunTimes
+pub mod WaveRepeats
 pub mod Cycles
 pub mod SteadyLines

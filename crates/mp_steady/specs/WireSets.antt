@@ -3,6 +3,7 @@ use Rattle.std.specs.Prelude.{ℕ, Bool, true, false, not, ◌&&◌, ◌==◌, L
 use Rattle.std.specs.List.{list_all, list_any, range_with_len}
 use Rattle.mp_modules.specs.declared.kind.Kind.{Kind}
 use Rattle.mp_modules.specs.declared.kind.Kind.TheVariants as kinds
+use Rattle.mp_records.specs.declared.ids.WireId.{WireId}
 use Rattle.mp_records.specs.declared.module_record.ModuleRecord.{ModuleRecord}
 use Rattle.mp_records.specs.declared.ports.Input.{Input}
 use Rattle.mp_netlist.specs.declared.driver.Driver.{Driver}
@@ -31,6 +32,10 @@ inputs_by n (Port m p) = inputs_in p (module_at n m.0)
 -- the inputs that a wire depends on, none where no port drives it
 abbrev pub wire_inputs : Circuit → ℕ → List Input
 wire_inputs n w = inputs_by n (driver n w)
+
+-- the numbers of wires
+abbrev pub numbers : List WireId → List ℕ
+numbers wires = map (λ (w : WireId). w.0) wires
 
 -- a wire is among these
 abbrev pub has_wire : List ℕ → ℕ → Bool

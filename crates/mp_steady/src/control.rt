@@ -1,8 +1,8 @@
 //! The control of a netlist.
-ghost use Rattle.std.specs.Prelude.{◌≡◌, All, IfOk, IsSome, map};
+ghost use Rattle.std.specs.Prelude.{◌≡◌, All, IfOk, IsSome};
 ghost use Rattle.mp_netlist.specs.Circuit.{wire_at};
 ghost use Rattle.mp_records.specs.declared.ids.WireId.{WireId as Id};
-ghost use Rattle.mp_steady.specs.WireSets.{control};
+ghost use Rattle.mp_steady.specs.WireSets.{control, numbers};
 
 use crate::wire_inputs::wire_inputs;
 use mp_netlist::{Netlist, WireId};
@@ -11,7 +11,7 @@ use std::alloc::{AllocError, Global};
 
 /// The control, by number: the wires of width 1, and what they depend on.
 pub(crate) fn control(alloc: Global, of: Driven<'_>) -> Result<Vec<WireId>, AllocError>
-    ensures value { IfOk result (λ found. map (λ (w : Id). w.0) found.items ≡ control of.entry.netlist.now) }
+    ensures value { IfOk result (λ found. numbers found.items ≡ control of.entry.netlist.now) }
     ensures stand { IfOk result (λ found. All (λ (w : Id). IsSome (wire_at of.entry.netlist.now w.0)) found.items) }
 {
     let mut reached = Reached::new(alloc, of.netlist)?;

@@ -1,4 +1,13 @@
 //! The period of wires.
+ghost use Rattle.std.specs.Prelude.{◌≡◌, ◌<◌, ℕ, IfOk, IfNone, IfSome, option_map};
+ghost use Rattle.std.specs.List.{Contains};
+ghost use Rattle.mp_netlist.specs.Circuit.{IsCircuit};
+ghost use Rattle.mp_model.specs.Waves.{level};
+ghost use Rattle.mp_questions.specs.timing.Events.{since};
+ghost use Rattle.mp_steady.specs.Periods.{heard_from, last_unit, period};
+ghost use Rattle.mp_steady.specs.RunTimes.{AreTimes};
+ghost use Rattle.mp_steady.specs.WireSets.{numbers};
+
 use crate::repeats::Trial;
 use crate::run_times::RunTimes;
 use crate::wire_set::WireSet;
@@ -12,7 +21,10 @@ pub(crate) fn period(
     alloc: Global,
     set: WireSet<'_>,
     times: RunTimes,
-) -> Result<Option<u32>, AllocError> {
+) -> Result<Option<u32>, AllocError>
+    requires { AreTimes set.of.netlist.now (numbers set.wires.now) times }
+    ensures { IfOk result (λ found. found ≡ period set.entry.of.netlist.now (numbers set.entry.wires.now)) }
+{
     let Some(wire) = guide(set, times) else {
         return Ok(None);
     };

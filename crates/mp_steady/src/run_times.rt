@@ -1,6 +1,7 @@
 //! The times of a run on which a period depends.
-ghost use Rattle.std.specs.Prelude.{◌≡◌, map};
-ghost use Rattle.mp_records.specs.declared.ids.WireId.{WireId as Id};
+ghost use Rattle.std.specs.Prelude.{◌≡◌};
+ghost use Rattle.mp_records.specs.Outputs.{delay_of};
+ghost use Rattle.mp_steady.specs.Periods.{delay_by, longest_input};
 
 use crate::wire_inputs::wire_inputs;
 use crate::wire_set::WireSet;
@@ -23,8 +24,18 @@ pub(crate) struct RunTimes {
 }
 
 impl RunTimes {
+    ghost use Rattle.std.specs.Prelude.{◌≡◌, ◌<◌, ◌++◌, ◌∷◌, [], ℕ, List, IsSome};
+    ghost use Rattle.mp_model.specs.Waves.{level};
+    ghost use Rattle.mp_netlist.specs.Circuit.{Circuit};
+    ghost use Rattle.mp_questions.specs.timing.Events.{since};
+    ghost use Rattle.mp_steady.specs.Periods.{heard_from, is_over, last_unit, longest_period, told_until};
+    ghost use Rattle.mp_steady.specs.RunTimes.{AreTimes};
+    ghost use Rattle.mp_steady.specs.WireSets.{numbers};
+
     /// The times of a run.
-    pub(crate) fn of(set: WireSet<'_>) -> Self {
+    pub(crate) fn of(set: WireSet<'_>) -> Self
+        ensures { AreTimes set.entry.of.netlist.now (numbers set.entry.wires.now) result }
+    {
         let at = WaitMoment {
             netlist: set.of.netlist,
             waves: set.of.waves,
@@ -44,7 +55,10 @@ impl RunTimes {
     }
 
     /// One more wire, with its last change.
-    fn add(&mut self, set: WireSet<'_>, wire: WireId, changed: u32) {
+    fn add(&mut self, set: WireSet<'_>, wire: WireId, changed: u32)
+        requires { changed ≡ since (level set.of.netlist.now wire.0) (last_unit set.of.netlist.now) }
+        ensures { (wires : List ℕ) → AreTimes set.entry.of.netlist.now wires self.old → AreTimes set.entry.of.netlist.now (wires ++ wire.0 ∷ []) self.new }
+    {
         let driver = set.of.driver_of(wire);
         self.last_change = self.last_change.max(changed);
         if matches!(driver, Driver::Stimulus) {
@@ -56,28 +70,39 @@ impl RunTimes {
     }
 
     /// Whether nothing is on its way any more.
-    pub(crate) fn is_over(self) -> bool {
-        self.last_change + (self.longest_delay + self.longest_input_delay) <= self.end
+    pub(crate) fn is_over(self) -> bool
+        ensures { (n : Circuit) (wires : List ℕ) → AreTimes n wires self.entry → result ≡ is_over n wires }
+    {
+        let delays = u64::from(self.longest_delay) + u64::from(self.longest_input_delay);
+        u64::from(self.last_change) + delays <= u64::from(self.end)
     }
 
     /// The last unit of which the wires tell, up to the last unit, what the modules gave.
-    pub(crate) fn told_until(self) -> u32 {
+    pub(crate) fn told_until(self) -> u32
+        ensures { (n : Circuit) (wires : List ℕ) → AreTimes n wires self.entry → result ≡ told_until n wires }
+    {
         self.end.saturating_sub(self.longest_delay)
     }
 
     /// The first unit that the modules may still hear at that time.
-    pub(crate) fn heard_from(self) -> u32 {
+    pub(crate) fn heard_from(self) -> u32
+        ensures { (n : Circuit) (wires : List ℕ) → AreTimes n wires self.entry → result ≡ heard_from n wires }
+    {
         self.told_until().saturating_sub(self.longest_input_delay)
     }
 
     /// The longest period that is looked for.
-    pub(crate) fn longest_period(self) -> u32 {
+    pub(crate) fn longest_period(self) -> u32
+        ensures { (n : Circuit) (wires : List ℕ) → AreTimes n wires self.entry → result ≡ longest_period n wires }
+    {
         self.heard_from().saturating_sub(self.last_set)
     }
 }
 
 /// The delay of the port that is a driver, 0 if it is none.
-fn delay_by(set: WireSet<'_>, driver: Driver) -> u32 {
+fn delay_by(set: WireSet<'_>, driver: Driver) -> u32
+    ensures { result ≡ delay_by set.entry.of.netlist.now driver }
+{
     match driver {
         Driver::Port(id, port) => match set.of.netlist.module(id) {
             Some(part) => delay_of(part, port),
@@ -88,7 +113,9 @@ fn delay_by(set: WireSet<'_>, driver: Driver) -> u32 {
 }
 
 /// The delay of an output port: 1, as the least, if there is no such port.
-fn delay_of(part: &ModuleRecord, port: u32) -> u32 {
+fn delay_of(part: &ModuleRecord, port: u32) -> u32
+    ensures { result ≡ delay_of part.now port }
+{
     match part.outputs.as_slice().get(port as usize) {
         Some(output) => output.delay,
         None => 1,
@@ -96,7 +123,9 @@ fn delay_of(part: &ModuleRecord, port: u32) -> u32 {
 }
 
 /// The longest delay of some inputs, 0 if there is none.
-fn longest_input(inputs: &[Input]) -> u32 {
+fn longest_input(inputs: &[Input]) -> u32
+    ensures { result ≡ longest_input inputs.now }
+{
     let mut longest = 0;
     for input in inputs {
         longest = longest.max(input.delay);

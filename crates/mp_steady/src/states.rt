@@ -1,21 +1,22 @@
 //! Whether modules come to a state again.
-ghost use Rattle.std.specs.Prelude.{◌≡◌, ◌<◌, ◌≤◌, ℕ, List, All, IfOk, IsSome, Some, length, map, vec_len};
-ghost use Rattle.mp_wave.specs.Waveform.{IsWaveform, level_of};
+ghost use Rattle.std.specs.Prelude.{◌≡◌, ◌<◌, ◌≤◌, ℕ, All, IfOk, IsSome, Some, length, map, vec_len};
+ghost use Rattle.std.specs.List.{list_all};
 ghost use Rattle.mp_records.specs.declared.ports.Input.{Input as Port};
 ghost use Rattle.mp_netlist.specs.Circuit.{IsModule, module_at, wire_at};
+ghost use Rattle.mp_netlist.specs.Drivers.{driver};
 ghost use Rattle.mp_model.specs.Levels.{input_by};
 ghost use Rattle.mp_model.specs.Waves.{level};
-ghost use Rattle.mp_model.specs.response.Pieces.{levels_at, piece_level};
-ghost use Rattle.mp_steady.specs.Periods.{is_again_by, is_same_state, is_state_again};
+ghost use Rattle.mp_model.specs.response.Pieces.{levels_at};
+ghost use Rattle.mp_steady.specs.Periods.{is_again_by, is_same_state, is_state_again, told_until};
 ghost use Rattle.mp_steady.specs.RunTimes.{AreTimes};
-ghost use Rattle.mp_steady.specs.WireNumbers.{numbers};
+ghost use Rattle.mp_steady.specs.WireSets.{numbers};
 
 use crate::run_times::RunTimes;
 use crate::wire_inputs::passes_on;
 use crate::wire_set::WireSet;
 use mp_model::{InPiece, built, cut_delayed, respond};
 use mp_modules::{EventModule, Memory};
-use mp_netlist::{Driver, Input, ModuleId, ModuleRecord};
+use mp_netlist::{Driver, Input, ModuleId};
 use std::alloc::{AllocError, Global};
 
 /// Whether each module that drives one of the wires, if it doesn't only pass an input on, has the state of so many units before.
@@ -24,7 +25,11 @@ pub(crate) fn are_states_again(
     set: WireSet<'_>,
     times: RunTimes,
     units: u32,
-) -> Result<bool, AllocError> {
+) -> Result<bool, AllocError>
+    requires times { AreTimes set.of.netlist.now (numbers set.wires.now) times }
+    requires few { units ≤ told_until set.of.netlist.now (numbers set.wires.now) }
+    ensures { IfOk result (λ is. is ≡ list_all (λ w. is_again_by set.entry.of.netlist.now (numbers set.entry.wires.now) units (driver set.entry.of.netlist.now w)) (numbers set.entry.wires.now)) }
+{
     for &wire in set.wires {
         if !is_again(alloc, set, times, units, set.of.driver_of(wire))? {
             return Ok(false);
@@ -40,12 +45,16 @@ fn is_again(
     times: RunTimes,
     units: u32,
     driver: Driver,
-) -> Result<bool, AllocError> {
+) -> Result<bool, AllocError>
+    requires times { AreTimes set.of.netlist.now (numbers set.wires.now) times }
+    requires few { units ≤ told_until set.of.netlist.now (numbers set.wires.now) }
+    ensures { IfOk result (λ is. is ≡ is_again_by set.entry.of.netlist.now (numbers set.entry.wires.now) units driver) }
+{
     let Driver::Port(id, port) = driver else {
         return Ok(true);
     };
     match set.of.netlist.module(id) {
-        Some(part) if !passes_on(part.kind, port) => is_state_again(alloc, set, times, units, part),
+        Some(part) if !passes_on(part.kind, port) => is_state_again(alloc, set, times, units, id),
         _ => Ok(true),
     }
 }
@@ -56,8 +65,16 @@ fn is_state_again(
     set: WireSet<'_>,
     times: RunTimes,
     units: u32,
-    record: &ModuleRecord,
-) -> Result<bool, AllocError> {
+    id: ModuleId,
+) -> Result<bool, AllocError>
+    requires times { AreTimes set.of.netlist.now (numbers set.wires.now) times }
+    requires few { units ≤ told_until set.of.netlist.now (numbers set.wires.now) }
+    requires stands { IsSome (module_at set.of.netlist.now id.0) }
+    ensures { IfOk result (λ is. is ≡ is_state_again set.entry.of.netlist.now (numbers set.entry.wires.now) units id.0) }
+{
+    let Some(record) = set.of.netlist.module(id) else {
+        unreachable!()
+    };
     let part = built(set.of.netlist, record);
     let inputs = pieces(alloc, set, record.inputs.as_slice())?;
     let last = times.told_until() + 1;
@@ -68,15 +85,23 @@ fn is_state_again(
 }
 
 /// Whether two states are the same.
-fn is_same_state(one: &Memory, other: &Memory) -> bool {
+fn is_same_state(one: &Memory, other: &Memory) -> bool
+    ensures { result ≡ is_same_state one.now other.now }
+{
     one.inputs == other.inputs
         && one.outputs == other.outputs
         && one.served == other.served
-        && one.waiting == other.waiting
+        && one.waiting.first == other.waiting.first
+        && one.waiting.second == other.waiting.second
 }
 
 /// The waves at the inputs of a module, up to the horizon.
-fn pieces(alloc: Global, set: WireSet<'_>, inputs: &[Input]) -> Result<Vec<InPiece>, AllocError> {
+fn pieces(alloc: Global, set: WireSet<'_>, inputs: &[Input]) -> Result<Vec<InPiece>, AllocError>
+    requires { All (λ (i : Port). IsSome (wire_at set.of.netlist.now i.wire.0)) inputs.now }
+    ensures count { IfOk result (λ pieces. vec_len pieces ≡ length inputs.now) }
+    ensures levels { IfOk result (λ pieces. (t : ℕ) → t < set.entry.of.netlist.now.horizon
+        → levels_at pieces.items t ≡ map (λ i. input_by set.entry.of.netlist.now (level set.entry.of.netlist.now) i t) inputs.now) }
+{
     let mut pieces = Vec::with_capacity(alloc, inputs.len())?;
     for &input in inputs {
         let wave = set.wave_of(input.wire);

@@ -1,9 +1,19 @@
 //! Since when a wave repeats.
+ghost use Rattle.std.specs.Prelude.{◌≡◌, ◌+◌, ◌<◌, ◌^◌, [], max};
+ghost use Rattle.mp_wave.specs.Waveform.{AreChanges, IsWaveform, last_from, last_time, level_of};
+ghost use Rattle.mp_wave.specs.WaveChanges.{changes_in};
+ghost use Rattle.mp_steady.specs.Periods.{repeats_from};
+ghost use Rattle.mp_steady.specs.WaveRepeats.{without_last};
+
 use mp_wave::{Wave, WaveChanges};
 
 /// The least time from which on, up to a time, a wave has the level of so many units later, but `least` if that is later. It looks back from the
 /// last time on, once at each change.
-pub(crate) fn repeats_from(wave: &Wave, units: u32, upto: u32, least: u32) -> u32 {
+pub(crate) fn repeats_from(wave: &Wave, units: u32, upto: u32, least: u32) -> u32
+    requires form { IsWaveform wave.now }
+    requires short { upto + units + 1 < 2 ^ 32 }
+    ensures { result ≡ max least (repeats_from (level_of wave.now) units upto) }
+{
     let mut late = wave.changes_between(0, upto + units + 1);
     let mut early = wave.changes_between(0, upto + 1);
     let mut last = upto;
@@ -21,7 +31,9 @@ pub(crate) fn repeats_from(wave: &Wave, units: u32, upto: u32, least: u32) -> u3
 }
 
 /// The level of a wave after some of its first changes.
-fn level_after(wave: &Wave, changes: WaveChanges<'_>) -> u64 {
+fn level_after(wave: &Wave, changes: WaveChanges<'_>) -> u64
+    ensures { result ≡ last_from wave.now.initial (changes_in changes.entry) }
+{
     match changes.last() {
         Some(change) => change.1,
         None => wave.initial(),
@@ -29,7 +41,9 @@ fn level_after(wave: &Wave, changes: WaveChanges<'_>) -> u64 {
 }
 
 /// The time of the last change, 0 if there is none.
-fn time_of(changes: WaveChanges<'_>) -> u32 {
+fn time_of(changes: WaveChanges<'_>) -> u32
+    ensures { result ≡ last_time 0 (changes_in changes.entry) }
+{
     match changes.last() {
         Some(change) => change.0,
         None => 0,
@@ -37,7 +51,9 @@ fn time_of(changes: WaveChanges<'_>) -> u32 {
 }
 
 /// The changes but the last one, if that is at this time.
-fn before(changes: WaveChanges<'_>, time: u32) -> WaveChanges<'_> {
+fn before(changes: WaveChanges<'_>, time: u32) -> WaveChanges<'_>
+    ensures { changes_in result ≡ without_last time (changes_in changes.entry) }
+{
     let count = changes.len();
     if count > 0 && time_of(changes) == time {
         changes.before_place(count - 1)

@@ -1,8 +1,8 @@
 //! Some wires of a netlist that has run.
-ghost use Rattle.std.specs.Prelude.{◌≡◌, ◌<◌, All, IfOk, IsSome, length, map};
+ghost use Rattle.std.specs.Prelude.{◌≡◌, All, IfOk, IsSome};
 ghost use Rattle.mp_netlist.specs.Circuit.{wire_at};
 ghost use Rattle.mp_records.specs.declared.ids.WireId.{WireId as Id};
-ghost use Rattle.mp_steady.specs.WireSets.{all_wires};
+ghost use Rattle.mp_steady.specs.WireSets.{all_wires, numbers};
 
 use mp_netlist::{Netlist, WireId};
 use mp_questions::Driven;
@@ -37,7 +37,7 @@ impl<'a> WireSet<'a> {
 
 /// All wires, by number.
 pub(crate) fn all_wires(alloc: Global, netlist: &Netlist) -> Result<Vec<WireId>, AllocError>
-    ensures value { IfOk result (λ found. map (λ (w : Id). w.0) found.items ≡ all_wires netlist.now) }
+    ensures value { IfOk result (λ found. numbers found.items ≡ all_wires netlist.now) }
     ensures stand { IfOk result (λ found. All (λ (w : Id). IsSome (wire_at netlist.now w.0)) found.items) }
 {
     let mut found = Vec::new(alloc);
