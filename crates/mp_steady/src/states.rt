@@ -7,6 +7,7 @@ ghost use Rattle.mp_netlist.specs.Drivers.{driver};
 ghost use Rattle.mp_model.specs.Levels.{input_by};
 ghost use Rattle.mp_model.specs.Waves.{level};
 ghost use Rattle.mp_model.specs.response.Pieces.{levels_at};
+ghost use Rattle.mp_questions.specs.late.Sources.{has_memory};
 ghost use Rattle.mp_steady.specs.Periods.{is_again_by, is_same_state, is_state_again, told_until};
 ghost use Rattle.mp_steady.specs.RunTimes.{AreTimes};
 ghost use Rattle.mp_steady.specs.WireSets.{numbers};
@@ -15,7 +16,7 @@ use crate::run_times::RunTimes;
 use crate::wire_inputs::passes_on;
 use crate::wire_set::WireSet;
 use mp_model::{InPiece, built, cut_delayed, respond};
-use mp_modules::{EventModule, Memory};
+use mp_modules::{EventModule, Kind, Memory};
 use mp_netlist::{Driver, Input, ModuleId};
 use std::alloc::{AllocError, Global};
 
@@ -59,7 +60,7 @@ fn is_again(
     }
 }
 
-/// Whether a module has that state.
+/// Whether a module has that state. One without memory has it from the levels that it hears then, so nothing before is run.
 fn is_state_again(
     alloc: Global,
     set: WireSet<'_>,
@@ -76,12 +77,30 @@ fn is_state_again(
         unreachable!()
     };
     let part = built(set.of.netlist, record);
-    let inputs = pieces(alloc, set, record.inputs.as_slice())?;
-    let last = times.told_until() + 1;
-    let middle = last - units;
-    let before = respond(alloc, &part, part.start(), inputs.as_slice(), 0, middle)?;
-    let now = respond(alloc, &part, before.memory, inputs.as_slice(), middle, last)?;
+    let inputs = record.inputs.as_slice();
+    let last = times.told_until();
+    let first = last - units;
+    let (from, next) = if has_memory(record.kind) {
+        (0, first + 1)
+    } else {
+        (first, last)
+    };
+    let begun = pieces(alloc, set, inputs, from, first + 1)?;
+    let before = respond(alloc, &part, part.start(), begun.as_slice(), from, first + 1)?;
+    let gone_on = pieces(alloc, set, inputs, next, last + 1)?;
+    let now = respond(alloc, &part, before.memory, gone_on.as_slice(), next, last + 1)?;
     Ok(is_same_state(&before.memory, &now.memory))
+}
+
+/// Whether a module of the kind does what it does after what its inputs did before.
+fn has_memory(kind: Kind) -> bool
+    ensures { result ≡ has_memory kind }
+{
+    match kind {
+        Kind::C | Kind::Toggle | Kind::Select | Kind::Call | Kind::Arbiter | Kind::Reg => true,
+        Kind::Buf | Kind::Not | Kind::Xor => false,
+        Kind::AddC | Kind::XorC | Kind::Sum | Kind::Bit => false,
+    }
 }
 
 /// Whether two states are the same.
@@ -95,17 +114,25 @@ fn is_same_state(one: &Memory, other: &Memory) -> bool
         && one.waiting.second == other.waiting.second
 }
 
-/// The waves at the inputs of a module, up to the horizon.
-fn pieces(alloc: Global, set: WireSet<'_>, inputs: &[Input]) -> Result<Vec<InPiece>, AllocError>
-    requires { All (λ (i : Port). IsSome (wire_at set.of.netlist.now i.wire.0)) inputs.now }
+/// The waves at the inputs of a module, from one time to before another.
+fn pieces(
+    alloc: Global,
+    set: WireSet<'_>,
+    inputs: &[Input],
+    from: u32,
+    to: u32,
+) -> Result<Vec<InPiece>, AllocError>
+    requires stand { All (λ (i : Port). IsSome (wire_at set.of.netlist.now i.wire.0)) inputs.now }
+    requires some { from < to }
+    requires within { to ≤ set.of.netlist.now.horizon }
     ensures count { IfOk result (λ pieces. vec_len pieces ≡ length inputs.now) }
-    ensures levels { IfOk result (λ pieces. (t : ℕ) → t < set.entry.of.netlist.now.horizon
+    ensures levels { IfOk result (λ pieces. (t : ℕ) → from ≤ t → t < to
         → levels_at pieces.items t ≡ map (λ i. input_by set.entry.of.netlist.now (level set.entry.of.netlist.now) i t) inputs.now) }
 {
     let mut pieces = Vec::with_capacity(alloc, inputs.len())?;
     for &input in inputs {
         let wave = set.wave_of(input.wire);
-        pieces.push(cut_delayed(alloc, wave, input.delay, 0, set.of.netlist.horizon())?)?;
+        pieces.push(cut_delayed(alloc, wave, input.delay, from, to)?)?;
     }
     Ok(pieces)
 }
