@@ -27,12 +27,14 @@ events_line n units w = events_text (wire_name n (wire_id w)) (events n units w)
 abbrev pub module_line : Circuit → ModuleShare → List ℕ
 module_line n s = codes "module " ++ share_line n s
 
--- the lines of a cycle, as `cycle 18 from q2 189`, and of its modules
+-- the line of a cycle of so many units, as `cycle 18 from q2 189`
+abbrev pub cycle_line : Circuit → WireChange → ℕ → List ℕ
+cycle_line n c units = codes "cycle " ++ (decimal units ++ (codes " from " ++ (wire_name n c.wire ++ (codes " " ++ (decimal c.time ++ codes "\n")))))
+
+-- the lines of a cycle and of its modules
 abbrev pub cycle_text : Circuit → List WireChange → List ℕ
 cycle_text n [] = []
-cycle_text n (c ∷ cs) =
-    (codes "cycle " ++ (decimal (cycle_length n (c ∷ cs)) ++ (codes " from " ++ (wire_name n c.wire ++ (codes " " ++ (decimal c.time ++ codes "\n"))))))
-    ++ flat_map (module_line n) (by_units (filter has_steps (shares n (c ∷ cs))))
+cycle_text n (c ∷ cs) = cycle_line n c (cycle_length n (c ∷ cs)) ++ flat_map (module_line n) (by_units (filter has_steps (shares n (c ∷ cs))))
 
 -- what is said of wires that repeat, as `repeats from 6 every 18`, behind a word on which these are
 abbrev pub repeats_text : Circuit → List ℕ → List ℕ → ℕ → List ℕ

@@ -1,4 +1,9 @@
 //! The critical cycle.
+ghost use Rattle.std.specs.Prelude.{◌≡◌, ◌+◌, ◌*◌, ◌<◌, ◌≤◌, IfOk};
+ghost use Rattle.mp_steady.specs.Cycles.{from_place};
+ghost use Rattle.mp_steady.specs.RunTimes.{AreTimes};
+ghost use Rattle.mp_steady.specs.WireSets.{numbers};
+
 use crate::run_times::RunTimes;
 use crate::wire_set::WireSet;
 use mp_netlist::WireId;
@@ -11,6 +16,9 @@ use std::collections::BTreeSet;
 /// How many numbers there are for the wires of one time.
 const WIRES: u64 = 4_294_967_296;
 
+/// Among how many changes a cycle is looked for.
+const MOST_PLACES: u32 = 4_294_967_295;
+
 /// Some wires with their period.
 #[derive(Clone, Copy)]
 pub(crate) struct Repeating<'a> {
@@ -18,11 +26,26 @@ pub(crate) struct Repeating<'a> {
     pub(crate) times: RunTimes,
     /// The period.
     pub(crate) units: u32,
+    ghost are_times: { AreTimes set.of.netlist.now (numbers set.wires.now) times },
+    ghost some: { 0 < units },
+    ghost few: { units ≤ times.end },
 }
 
 impl<'a> Repeating<'a> {
+    ghost use Rattle.std.specs.Prelude.{◌≡◌, ◌<◌, ◌-◌, ◌^◌, IfOk, IsSome, All, length};
+    ghost use Rattle.mp_netlist.specs.Circuit.{wire_at};
+    ghost use Rattle.mp_model.specs.Waves.{level};
+    ghost use Rattle.mp_wave.specs.WaveChanges.{changes_in};
+    ghost use Rattle.mp_questions.specs.timing.Events.{event_times, times_of};
+    ghost use Rattle.mp_questions.specs.declared.causes.wire_change.WireChange.{WireChange as Change};
+    ghost use Rattle.mp_steady.specs.Cycles.{behind, cycle, first_wire, last_of};
+    ghost use Rattle.mp_steady.specs.WireSets.{has_events, numbers};
+
     /// The changes of a wire in the last period.
-    pub(crate) fn changes_of(self, wire: WireId) -> WaveChanges<'a> {
+    pub(crate) fn changes_of(self, wire: WireId) -> WaveChanges<'a>
+        requires { IsSome (wire_at self.set.of.netlist.now wire.0) }
+        ensures { times_of (changes_in result) ≡ event_times (level self.entry.set.of.netlist.now wire.0) (self.entry.set.of.netlist.now.horizon - self.entry.units) self.entry.set.of.netlist.now.horizon }
+    {
         let (from, to) = (self.times.end - self.units, self.times.end + 1);
         self.set.wave_of(wire).changes_between(from, to)
     }
@@ -33,11 +56,17 @@ impl<'a> Repeating<'a> {
         self,
         alloc: Global,
         tracer: &mut Tracer<'_>,
-    ) -> Result<Vec<WireChange>, AllocError> {
+    ) -> Result<Vec<WireChange>, AllocError>
+        requires { tracer.old.levels.netlist.now ≡ self.set.of.netlist.now }
+        ensures value { IfOk result (λ found. found.items ≡ cycle self.entry.set.of.netlist.now (numbers self.entry.set.wires.now) self.entry.units) }
+        ensures few { IfOk result (λ found. length found.items < 2 ^ 32) }
+        ensures within { IfOk result (λ found. All (λ (c : Change). (0 < c.time) × (c.time < self.entry.set.of.netlist.now.horizon)) found.items) }
+        ensures tracer { tracer.new.levels ≡ tracer.old.levels }
+    {
         let mut seen = BTreeSet::new(alloc);
         let mut way = Vec::new(alloc);
         let mut next = self.first_change();
-        for _ in 0..self.place_bound() {
+        for _ in 0..MOST_PLACES {
             let Some(change) = next else {
                 break;
             };
@@ -50,13 +79,13 @@ impl<'a> Repeating<'a> {
         Ok(Vec::new(alloc))
     }
 
-    /// More than there are changes of wires in one period.
-    fn place_bound(self) -> u64 {
-        u64::from(self.units) * u64::from(self.set.of.netlist.wire_slots()) + 1
-    }
-
     /// The change behind a change.
-    fn behind(self, tracer: &mut Tracer<'_>, change: WireChange) -> Option<WireChange> {
+    fn behind(self, tracer: &mut Tracer<'_>, change: WireChange) -> Option<WireChange>
+        requires tracer { tracer.old.levels.netlist.now ≡ self.set.of.netlist.now }
+        requires within { change.time < self.set.of.netlist.now.horizon }
+        ensures value { result ≡ behind self.entry.set.of.netlist.now self.entry.units change }
+        ensures tracer { tracer.new.levels ≡ tracer.old.levels }
+    {
         let found = tracer.followed(change)?;
         Some(WireChange {
             wire: found.wire,
@@ -66,7 +95,9 @@ impl<'a> Repeating<'a> {
     }
 
     /// The last change of the first wire of width 1 with events; if there is none, of the first wire with events.
-    fn first_change(self) -> Option<WireChange> {
+    fn first_change(self) -> Option<WireChange>
+        ensures { result ≡ last_of self.entry.set.of.netlist.now (first_wire self.entry.set.of.netlist.now self.entry.units (numbers self.entry.set.wires.now)) }
+    {
         match self.last_change(true) {
             Some(change) => Some(change),
             None => self.last_change(false),
@@ -86,7 +117,9 @@ impl<'a> Repeating<'a> {
     }
 
     /// Whether a wire has width 1.
-    fn has_events(self, wire: WireId) -> bool {
+    fn has_events(self, wire: WireId) -> bool
+        ensures { result ≡ has_events self.entry.set.of.netlist.now wire.0 }
+    {
         match self.set.of.netlist.wire(wire) {
             Some(found) => found.width == 1,
             None => false,
@@ -95,7 +128,9 @@ impl<'a> Repeating<'a> {
 }
 
 /// A change as a number.
-fn key_of(change: WireChange) -> u64 {
+fn key_of(change: WireChange) -> u64
+    ensures { result ≡ change.time * 4294967296 + change.wire.0 }
+{
     u64::from(change.time) * WIRES + u64::from(change.wire.0)
 }
 
@@ -104,7 +139,9 @@ fn from_place(
     alloc: Global,
     change: WireChange,
     way: &[WireChange],
-) -> Result<Vec<WireChange>, AllocError> {
+) -> Result<Vec<WireChange>, AllocError>
+    ensures { IfOk result (λ found. found.items ≡ from_place change way.now) }
+{
     let mut place = 0;
     while place < way.len() && key_of(way[place]) != key_of(change) {
         place += 1;

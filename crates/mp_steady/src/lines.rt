@@ -1,7 +1,16 @@
 //! What is said of a netlist that repeats, and of one that doesn't.
-ghost use Rattle.std.specs.Prelude.{◌≡◌};
+ghost use Rattle.std.specs.Prelude.{◌≡◌, ◌<◌, ◌^◌, ◌++◌, ◌||◌, [], ℕ, List, All, IfOk, IfSome, IsSome, is_some, length, not};
+ghost use Rattle.std.specs.List.{flat_map};
+ghost use Rattle.mp_streams.specs.Outgoing.{Writes as WritesTo};
 ghost use Rattle.mp_streams.specs.WriteErrors.{Writes};
-ghost use Rattle.mp_steady.specs.SteadyLines.{steady_text};
+ghost use Rattle.mp_records.specs.declared.ids.WireId.{WireId as Id};
+ghost use Rattle.mp_netlist.specs.Circuit.{IsCircuit, wire_at};
+ghost use Rattle.mp_questions.specs.declared.causes.wire_change.WireChange.{WireChange as Change};
+ghost use Rattle.mp_steady.specs.Cycles.{cycle, cycle_length};
+ghost use Rattle.mp_steady.specs.Periods.{is_over, period};
+ghost use Rattle.mp_steady.specs.RunTimes.{AreTimes};
+ghost use Rattle.mp_steady.specs.SteadyLines.{cycle_line, cycle_text, events_line, none_text, steady_text, text_of};
+ghost use Rattle.mp_steady.specs.WireSets.{numbers};
 
 use crate::control::control;
 use crate::cycle::Repeating;
@@ -33,7 +42,7 @@ pub fn put_steady<S: Sink>(
     let all = all_wires(alloc, of.netlist)?;
     let words = Words {
         over: "nothing changes after ",
-        repeats: "repeats from ",
+        before: "",
     };
     if put_set(alloc, out, words, of, all.as_slice())?.is_none() {
         return Ok(());
@@ -41,7 +50,7 @@ pub fn put_steady<S: Sink>(
     let control = control(alloc, of)?;
     let words = Words {
         over: "control stands still after ",
-        repeats: "control repeats from ",
+        before: "control ",
     };
     if control.is_empty() {
         let set = WireSet {
@@ -57,11 +66,11 @@ pub fn put_steady<S: Sink>(
     Ok(())
 }
 
-/// How the first line begins.
+/// How the first line begins: of wires that are over, and before `repeats`.
 #[derive(Clone, Copy)]
 struct Words {
     over: &'static str,
-    repeats: &'static str,
+    before: &'static str,
 }
 
 /// Writes what is said of wires that are over or repeat. For others nothing is written, and their times are returned.
@@ -71,7 +80,12 @@ fn put_set<S: Sink>(
     words: Words,
     of: Driven<'_>,
     wires: &[WireId],
-) -> Result<Option<RunTimes>, WriteError> {
+) -> Result<Option<RunTimes>, WriteError>
+    requires { All (λ (w : Id). IsSome (wire_at of.netlist.now w.0)) wires.now }
+    ensures text { Writes result out.old out.new (text_of of.entry.netlist.now words.over.now words.before.now (numbers wires.now) []) }
+    ensures found { IfOk result (λ times. is_some times ≡ not (is_over of.entry.netlist.now (numbers wires.now) || is_some (period of.entry.netlist.now (numbers wires.now)))) }
+    ensures times { IfOk result (λ found. IfSome found (AreTimes of.entry.netlist.now (numbers wires.now))) }
+{
     let set = WireSet { of, wires };
     let times = RunTimes::of(set);
     if times.is_over() {
@@ -82,7 +96,8 @@ fn put_set<S: Sink>(
         return Ok(Some(times));
     };
     let from = start(set, times, units);
-    (words.repeats, from, " every ", (units, "\n")).put_to(out)?;
+    let line = (words.before, "repeats from ", from);
+    (line, " every ", (units, "\n")).put_to(out)?;
     put_repeating(alloc, out, Repeating { set, times, units })?;
     Ok(None)
 }
@@ -92,7 +107,9 @@ fn put_repeating<S: Sink>(
     alloc: Global,
     out: &mut Out<S>,
     of: Repeating<'_>,
-) -> Result<(), WriteError> {
+) -> Result<(), WriteError>
+    ensures { Writes result out.old out.new (flat_map (events_line of.entry.set.of.netlist.now of.entry.units) (numbers of.entry.set.wires.now) ++ cycle_text of.entry.set.of.netlist.now (cycle of.entry.set.of.netlist.now (numbers of.entry.set.wires.now) of.entry.units)) }
+{
     put_events(out, of)?;
     let netlist = of.set.of.netlist;
     let mut tracer = Tracer::of(alloc, netlist, of.set.of.waves)?;
@@ -101,10 +118,7 @@ fn put_repeating<S: Sink>(
         return Ok(());
     };
     let shares = shares_of(alloc, &mut tracer, cycle.as_slice())?;
-    let mut length = 0;
-    for share in shares.as_slice() {
-        length += share.units;
-    }
+    let length = cycle_length(&mut tracer, cycle.as_slice());
     put_cycle(out, netlist, first, length)?;
     for &share in shares.as_slice() {
         out.put_text("module ")?;
@@ -113,19 +127,42 @@ fn put_repeating<S: Sink>(
     Ok(())
 }
 
+/// The units of all steps of a cycle.
+fn cycle_length(tracer: &mut Tracer<'_>, cycle: &[WireChange]) -> u64
+    requires form { IsCircuit tracer.old.levels.netlist.now }
+    requires few { length cycle.now < 2 ^ 32 }
+    requires within { All (λ (c : Change). (0 < c.time) × (c.time < tracer.old.levels.netlist.now.horizon)) cycle.now }
+    ensures value { result ≡ cycle_length tracer.old.levels.netlist.now cycle.now }
+    ensures tracer { tracer.new.levels ≡ tracer.old.levels }
+{
+    let mut length = 0;
+    for &change in cycle {
+        let sooner = match tracer.followed(change) {
+            Some(found) => found.time,
+            None => 0,
+        };
+        length += u64::from(change.time - sooner);
+    }
+    length
+}
+
 /// Writes the line of a cycle.
 fn put_cycle<S: Sink>(
     out: &mut Out<S>,
     netlist: &Netlist,
     first: WireChange,
-    length: u32,
-) -> Result<(), Failed> {
+    length: u64,
+) -> Result<(), Failed>
+    ensures { WritesTo result out.old out.new (cycle_line netlist.now first length) }
+{
     let name = wire_name(netlist, first.wire);
     ("cycle ", length, " from ", (name, " ", first.time, "\n")).put_to(out)
 }
 
 /// Writes the lines of the wires with events.
-fn put_events<S: Sink>(out: &mut Out<S>, of: Repeating<'_>) -> Result<(), Failed> {
+fn put_events<S: Sink>(out: &mut Out<S>, of: Repeating<'_>) -> Result<(), Failed>
+    ensures { WritesTo result out.old out.new (flat_map (events_line of.entry.set.of.netlist.now of.entry.units) (numbers of.entry.set.wires.now)) }
+{
     for &wire in of.set.wires {
         let count = of.changes_of(wire).len();
         if count > 0 {
@@ -137,7 +174,9 @@ fn put_events<S: Sink>(out: &mut Out<S>, of: Repeating<'_>) -> Result<(), Failed
 }
 
 /// Writes that no period was found.
-fn put_none<S: Sink>(out: &mut Out<S>, netlist: &Netlist, times: RunTimes) -> Result<(), Failed> {
+fn put_none<S: Sink>(out: &mut Out<S>, netlist: &Netlist, times: RunTimes) -> Result<(), Failed>
+    ensures { (wires : List ℕ) → AreTimes netlist.now wires times → WritesTo result out.old out.new (none_text netlist.now wires) }
+{
     ("doesn't repeat before ", netlist.horizon(), ": ").put_to(out)?;
     if times.last_set > 0 {
         ("stimuli until ", times.last_set, ", ").put_to(out)?;
