@@ -1,6 +1,7 @@
 -- The critical cycle of wires that repeat: the causes that lead round a period.
-use Rattle.std.specs.Prelude.{ℕ, ◌-◌, ◌%◌, Bool, ◌==◌, ◌&&◌, List, [], ◌∷◌, ◌++◌, nat_lt, option_map, option_or, Option, Some, None, zero, suc, if◌then◌else◌}
+use Rattle.std.specs.Prelude.{ℕ, ◌-◌, ◌%◌, Bool, ◌==◌, ◌&&◌, List, [], ◌∷◌, ◌++◌, nat_lt, option_map, Option, Some, None, zero, suc, if◌then◌else◌}
 use Rattle.std.specs.List.{find, list_any, sum_by}
+use Rattle.std.specs.Option.{option_or}
 use Rattle.mp_records.specs.declared.ids.WireId.{WireId}
 use Rattle.mp_netlist.specs.Circuit.{Circuit}
 use Rattle.mp_questions.specs.declared.causes.wire_change.WireChange.{WireChange}

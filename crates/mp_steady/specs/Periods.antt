@@ -72,7 +72,7 @@ longest_period n wires = heard_from n wires - last_set n wires
 
 -- the least time from which on, up to t, a level is the one so many units later
 abbrev pub repeats_from : (ℕ → ℕ) → ℕ → ℕ → ℕ
-repeats_from f units zero = if f 0 == f units then 0 else 1
+repeats_from f units zero = if f 0 == f (0 + units) then 0 else 1
 repeats_from f units (suc t) = if f (suc t) == f (suc t + units) then repeats_from f units t else suc (suc t)
 
 -- the least time from which on each of these wires has, up to the last unit, the level of so many units before

@@ -1,9 +1,8 @@
 //! Since when a wave repeats.
-ghost use Rattle.std.specs.Prelude.{◌≡◌, ◌+◌, ◌<◌, ◌^◌, [], max};
-ghost use Rattle.mp_wave.specs.Waveform.{AreChanges, IsWaveform, last_from, last_time, level_of};
+ghost use Rattle.std.specs.Prelude.{◌≡◌, ◌+◌, ◌<◌, ◌≤◌, ◌^◌, ℕ, max};
+ghost use Rattle.mp_wave.specs.Waveform.{AreChanges, IsWaveform, earlier_than, last_from, last_time, level_of};
 ghost use Rattle.mp_wave.specs.WaveChanges.{changes_in};
 ghost use Rattle.mp_steady.specs.Periods.{repeats_from};
-ghost use Rattle.mp_steady.specs.WaveRepeats.{without_last};
 
 use mp_wave::{Wave, WaveChanges};
 
@@ -50,9 +49,10 @@ fn time_of(changes: WaveChanges<'_>) -> u32
     }
 }
 
-/// The changes but the last one, if that is at this time.
+/// The changes before a time, of changes up to that.
 fn before(changes: WaveChanges<'_>, time: u32) -> WaveChanges<'_>
-    ensures { changes_in result ≡ without_last time (changes_in changes.entry) }
+    requires { last_time 0 (changes_in changes) ≤ time }
+    ensures { (level : ℕ) → AreChanges 0 level (changes_in changes.entry) → changes_in result ≡ earlier_than time (changes_in changes.entry) }
 {
     let count = changes.len();
     if count > 0 && time_of(changes) == time {
