@@ -13,3 +13,6 @@ pub mod StillOutputLemmas
 pub mod CycleLemmas
 pub mod StillModuleLemmas
 pub mod ForEverLemmas
+pub mod RepeatLemmas
+pub mod AgainLemmas
+pub mod RoundLemmas
