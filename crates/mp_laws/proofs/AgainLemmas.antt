@@ -272,12 +272,11 @@ module _ (n later : Circuit) (ok : IsCircuit n) (later_ok : IsCircuit later) (wh
 pub findings_repeat_for_ever : FindingsRepeatForEver
 findings_repeat_for_ever n later ok later_ok goes units some few again place t code told past below =
     let whole = all_whole n ok in
-    let within = below_horizon n later ok later_ok whole goes units some few again place (t + units) below in
-    (
+    let within = below_horizon n later ok later_ok whole goes units some few again place (t + units) below in (
       λ listed.
-      (let f = (finds_by_rule later (record { time = t; place = place; code = code })).0 listed in
-      (finds_by_rule later (record { time = t + units; place = place; code = code })).1 (omega (arith, f.0), within, rules_later n later ok later_ok whole goes units some few again place t code told past below f.2)),
+          (let f = (finds_by_rule later (record { time = t; place = place; code = code })).0 listed in
+          (finds_by_rule later (record { time = t + units; place = place; code = code })).1 (omega (arith, f.0), within, rules_later n later ok later_ok whole goes units some few again place t code told past below f.2)),
       λ listed.
-      (let f = (finds_by_rule later (record { time = t + units; place = place; code = code })).0 listed in
-      (finds_by_rule later (record { time = t; place = place; code = code })).1 (omega (arith, past), omega (arith, within), rules_sooner n later ok later_ok whole goes units some few again place t code told past f.2)),
+          (let f = (finds_by_rule later (record { time = t + units; place = place; code = code })).0 listed in
+          (finds_by_rule later (record { time = t; place = place; code = code })).1 (omega (arith, past), omega (arith, within), rules_sooner n later ok later_ok whole goes units some few again place t code told past f.2)),
     )

@@ -24,8 +24,7 @@ module _ (n : Circuit) (ok : IsCircuit n) (units : ℕ) (some : 0 < units) where
 
   step_is : (c f : WireChange) → IsInRun c → followed (cause_of n c) ≡ Some f → IsStep n units c (in_last n units f) × IsInRun (in_last n units f)
   step_is c f run follows =
-      let early = followed_time n ok c run.from (Some f) follows in
-      (
+      let early = followed_time n ok c run.from (Some f) follows in (
         record {
           cause = f;
           follows = follows;

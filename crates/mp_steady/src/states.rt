@@ -86,9 +86,23 @@ fn is_state_again(
         (first, last)
     };
     let begun = pieces(alloc, set, inputs, from, first + 1)?;
-    let before = respond(alloc, &part, part.start(), begun.as_slice(), from, first + 1)?;
+    let before = respond(
+        alloc,
+        &part,
+        part.start(),
+        begun.as_slice(),
+        from,
+        first + 1,
+    )?;
     let gone_on = pieces(alloc, set, inputs, next, last + 1)?;
-    let now = respond(alloc, &part, before.memory, gone_on.as_slice(), next, last + 1)?;
+    let now = respond(
+        alloc,
+        &part,
+        before.memory,
+        gone_on.as_slice(),
+        next,
+        last + 1,
+    )?;
     Ok(is_same_state(&before.memory, &now.memory))
 }
 
