@@ -260,6 +260,14 @@ class Checks(Case):
         self.assertEqual("doesn't repeat before 20: no period of up to 14", short.reason)
 
     @needs("steady")
+    def test_a_session_tells_its_pace(self) -> None:
+        n = Netlist.read(FIFO)
+        with Session(n) as session:
+            self.assertEqual(n.steady(), session.steady())
+            session.edit("delay c2 0 2")
+            self.assertEqual(Fraction(1, 6), session.steady().pace("q1"))
+
+    @needs("steady")
     def test_what_the_program_says_of_periods_is_read_whole(self) -> None:
         for text in [FIFO, LATE, ALL_KINDS, *map(example, examples())]:
             self.assertEqual(raw(text, "steady"), str(Netlist.read(text).steady()))

@@ -18,7 +18,7 @@ pub use Rattle.mp_report.specs.Lines.{report_text}
 pub use Rattle.mp_streams.specs.Outgoing.{Writes}
 pub use Rattle.mp_text.specs.Written.{written}
 pub use Rattle.mp_text.specs.declared.question.Question.{Question}
-pub use Rattle.mp_text.specs.declared.question.Question.TheVariants.{Check, Dump, Edits, Graph, Measure, Path, Report, Show, Text, Verilog, Version, Waits, Wave, Waves, Why, Work}
+pub use Rattle.mp_text.specs.declared.question.Question.TheVariants.{Check, Dump, Edits, Graph, Measure, Path, Report, Show, Steady, Text, Verilog, Version, Waits, Wave, Waves, Why, Work}
 pub use Rattle.mp_questions.specs.timing.Measures.{measure}
 pub use Rattle.mp_questions.specs.timing.Waits.{waits}
 pub use Rattle.mp_exports.specs.vcd.Dumps.{dump}

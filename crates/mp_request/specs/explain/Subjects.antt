@@ -33,7 +33,7 @@ title (Seat code) = codes "seat " ++ (decimal (seat_codes.number_of code) ++ (co
 title (Finding code) = codes "finding " ++ (decimal (code_number code) ++ (codes " " ++ code_word code))
 title (Check word) = codes "check " ++ check_word.word_of word
 title (OfKind kind) = codes "kind " ++ word_of kind
-title Steady = codes "steady"
+title Steady = codes "command steady"
 
 abbrev pub is_one_of : List ℕ → ℕ → List ℕ → Bool
 is_one_of word number name = str_eq_ignore_ascii_case word name || bytes_eq word (decimal number)

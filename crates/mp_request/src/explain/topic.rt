@@ -59,7 +59,7 @@ impl Text for Topic {
             Topic::Finding(code) => put_finding_title(out, *code),
             Topic::Check(check) => ("check ", check.word()).put_to(out),
             Topic::Kind(kind) => ("kind ", kind.word()).put_to(out),
-            Topic::Steady => out.put_text("steady"),
+            Topic::Steady => out.put_text("command steady"),
         }
     }
 }
