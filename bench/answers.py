@@ -7,6 +7,7 @@ import formats
 import pictures
 import reader
 import reference
+import steadiness
 import verilog as verilog_texts
 from circuit import Refused
 from reader import Fault
@@ -130,6 +131,8 @@ class Keeper:
             return formats.report(self.circuit, self.levels, self.found)
         if question[0] == "check":
             return checks.check(self.circuit)[0]
+        if question[0] == "steady":
+            return steadiness.steady(self.circuit)
         return {"waves": formats.waves, "dump": formats.dump}[question[0]](self.circuit, self.levels)
 
     def shown(self, begin, end, names):

@@ -10,7 +10,7 @@ CODES[10] = "BadFormat"
 
 # the words of the questions of a script, with how many words their lines have
 # of each question, how many words may stand behind its first one, and which of these are numbers
-QUESTIONS = {word: (range(1), []) for word in ["waves", "text", "report", "check", "dump", "work", "graph", "verilog"]}
+QUESTIONS = {word: (range(1), []) for word in ["waves", "text", "report", "check", "steady", "dump", "work", "graph", "verilog"]}
 QUESTIONS |= {"wave": (range(1, 2), []), "waits": (range(1, 2), [1]), "path": (range(2, 3), [2]), "measure": (range(2, 3), [1, 2])}
 QUESTIONS |= {"why": (range(2, 4), [2, 3]), "show": (range(2, 1 << 22), [1, 2])}
 MOST_STEPS = 1048576

@@ -2,7 +2,7 @@
 # ./mpwb page. The page is the viewer, and in it what the program writes of a netlist, just as it was written.
 
 viewer=$top/viewer
-scripts=(waves causes compare view painter marks page input) # those of the viewer, each behind those that it uses
+scripts=(waves causes period compare view painter marks page input) # those of the viewer, each behind those that it uses
 
 # between two answers stands that to a line which isn't read: no line of an answer is the same
 divider=---
@@ -20,7 +20,7 @@ start_page() {
         file=$room/given name="standard input"
         if ! cat >"$file" 2>/dev/null; then fail_device read; fi
     fi
-    (printf '%s\n' text "$divider" waves "$divider" check | run play -- "$file") >"$room/answers" || exit
+    (printf '%s\n' text "$divider" waves "$divider" check "$divider" steady | run play -- "$file") >"$room/answers" || exit
     write_page "$name" 2>/dev/null || fail_device write
 }
 
@@ -37,8 +37,8 @@ write_page() {
 # the answers, each in an element of its own
 write_answers() {
     awk -v divided="$divided" '
-        function begin(id) { printf "<script type=\"text/plain\" id=\"%s-text\" title=\"%s\">", id, id == "places" ? "check" : id }
-        BEGIN { split("netlist waves places", ids); begin(ids[++part]) }
+        function begin(id) { printf "<script type=\"text/plain\" id=\"%s-text\" title=\"%s\">", id, titles[part] }
+        BEGIN { split("netlist waves check steady", titles); split("netlist waves places period", ids); begin(ids[++part]) }
         $0 == divided { print "</script>"; begin(ids[++part]); next }
         { print }
         END { print "</script>" }' "$room/answers"

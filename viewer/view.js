@@ -49,6 +49,8 @@ class View {
     this.pointed = new Set(); // the wires of the place that the list leads to
     this.chain = null;
     this.effects = [];
+    this.period = null;
+    this.isPeriodShown = false;
     this.isHex = false;
     this.digits = this.all.reduce((most, row) => (row.isNarrow ? most : Math.max(most, row.wave.longest())), 1); // those of the longest level
     this.setRows(this.all);

@@ -230,7 +230,7 @@ class Netlist(Builder, Questions, Stressed):
 
 
 # questions that a command answers as they are, with their numbers
-_SAME = re.compile(r"waves|report|check|dump|graph|verilog|waits \d+|path \w+ \d+", re.ASCII)
+_SAME = re.compile(r"waves|report|check|steady|dump|graph|verilog|waits \d+|path \w+ \d+", re.ASCII)
 _MEASURE = re.compile(r"measure (\d+) (\d+)", re.ASCII)
 _WHY = re.compile(r"why (\w+) (\d+) (\d+)", re.ASCII)
 

@@ -10,6 +10,7 @@ from .answers.causes import PathPart, Step, Wait, read_path, read_waits, read_wh
 from .answers.measure import Measure, read_measure
 from .answers.picture import Picture
 from .answers.report import Check, Report, read_check, read_report
+from .answers.steady import Steady, read_steady
 from .answers.waves import Wave, Waves, read_wave, read_waves
 from .answers.work import MadeEdit, Work, read_edits, read_version, read_work
 from .names import plain_name
@@ -50,6 +51,7 @@ READERS: Dict[str, Callable[[str, str], Any]] = {
     "report": read_report,
     "check": read_check,
     "measure": read_measure,
+    "steady": read_steady,
     "why": read_why,
     "path": read_path,
     "waits": read_waits,
@@ -122,6 +124,11 @@ class Questions(ABC):
         """Events of wires, the gaps between them and margins of bundles, at the times from `start` to before `end`."""
         measure: Measure = self._answer(["measure", str(start), str(end)])
         return measure
+
+    def steady(self) -> Steady:
+        """Whether the netlist repeats for ever, how fast, and which modules set the pace."""
+        steady: Steady = self._answer(["steady"])
+        return steady
 
     def why(self, wire: AnyWire, time: int = END, steps: int = 20) -> Tuple[Step, ...]:
         """The chain of causes of the wire's level at a time, the last change first, of at most `steps` steps."""

@@ -10,6 +10,7 @@ mod measure_lines;
 mod path_lines;
 mod picture_text;
 mod report_lines;
+mod steady_lines;
 mod view;
 mod wave_lines;
 mod why_lines;

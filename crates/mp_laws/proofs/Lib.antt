@@ -12,3 +12,6 @@ pub mod LateDataLemmas
 pub mod ReadLemmas
 pub mod CycleLemmas
 pub mod ForEverLemmas
+pub mod RepeatLemmas
+pub mod AgainLemmas
+pub mod RoundLemmas

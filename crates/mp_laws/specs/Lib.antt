@@ -9,3 +9,5 @@ pub mod Windows
 pub mod Stimuli
 pub mod LateData
 pub mod ForEver
+pub mod Repeating
+pub mod CriticalCycles

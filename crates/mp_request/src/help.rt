@@ -231,6 +231,26 @@ in `check`.
 A line leaves out what doesn't exist, such as the gaps of a wire that changes
 once.";
 
+/// What `steady` does.
+pub(crate) const STEADY: &str = "Writes whether the netlist repeats for ever, and how fast";
+
+/// What `steady` reads and writes.
+pub(crate) const STEADY_LONG: &str = "\
+Writes whether the netlist repeats for ever, and how fast.
+
+Reads a netlist, as `waves` does.
+
+If all stimuli have ended and the netlist comes to one configuration twice, it
+repeats for ever. Then this writes the period and since when it repeats, for
+each wire how often it changes in a period, the critical cycle (the causes that
+lead from a change to the same change of an earlier period), and the modules of
+that cycle with their units and steps, as `path` has them. The pace of a wire is
+its changes in a period over the period, exactly.
+
+If the data never repeat, as those of a counter, but the wires of width 1 do,
+with what they depend on, the lines are about these and begin with `control`.
+Other netlists come to an end, or are told not to repeat before the horizon.";
+
 /// What `graph` does.
 pub(crate) const GRAPH: &str = "Writes the netlist as a graph for Graphviz";
 

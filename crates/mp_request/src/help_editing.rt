@@ -32,6 +32,7 @@ or a question:
   path WIRE TIME
   waits TIME
   measure FROM TO
+  steady
   graph
   verilog
   version                                   how many edits were accepted

@@ -3,15 +3,15 @@ use crate::arguments::Arguments;
 use crate::command_form::CommandForm;
 use crate::help::{
     ABOUT, CHECK, CHECK_LONG, DUMP, DUMP_LONG, GRAPH, GRAPH_LONG, MEASURE, MEASURE_LONG, PATH,
-    PATH_LONG, REPORT, REPORT_LONG, SHOW, SHOW_LONG, STATUS, VERILOG, VERILOG_LONG, WAITS,
-    WAITS_LONG, WAVES, WAVES_LONG, WHY, WHY_LONG,
+    PATH_LONG, REPORT, REPORT_LONG, SHOW, SHOW_LONG, STATUS, STEADY, STEADY_LONG, VERILOG,
+    VERILOG_LONG, WAITS, WAITS_LONG, WAVES, WAVES_LONG, WHY, WHY_LONG,
 };
 use crate::help_editing::{DESK, DESK_LONG, EXPLAIN, EXPLAIN_LONG, PLAY, PLAY_LONG};
 use clap::Command as Parser;
 use std::alloc::{AllocError, Global};
 
 /// The commands that read a netlist, in the order in which help lists them.
-static COMMANDS: [CommandForm; 13] = [
+static COMMANDS: [CommandForm; 14] = [
     CommandForm {
         name: "waves",
         about: WAVES,
@@ -70,6 +70,12 @@ static COMMANDS: [CommandForm; 13] = [
         about: MEASURE,
         long_about: MEASURE_LONG,
         arguments: &[Arguments::Range, Arguments::Input],
+    },
+    CommandForm {
+        name: "steady",
+        about: STEADY,
+        long_about: STEADY_LONG,
+        arguments: &[Arguments::Input],
     },
     CommandForm {
         name: "graph",

@@ -110,6 +110,7 @@ fn plain_command<'a>(word: &str) -> Option<Command<'a>>
         "waves" => Command::Waves,
         "report" => Command::Report,
         "check" => Command::Check,
+        "steady" => Command::Steady,
         "dump" => Command::Dump,
         "graph" => Command::Graph,
         "verilog" => Command::Verilog,

@@ -35,6 +35,8 @@ pub enum Command<'a> {
         from: u64,
         to: u64,
     },
+    /// Write whether the netlist repeats for ever, and how fast.
+    Steady,
     /// Write the netlist as a graph.
     Graph,
     /// Write the netlist as Verilog.

@@ -1,6 +1,6 @@
 -- What a script asks for.
 use Rattle.std.specs.Prelude.{◌&&◌, ◌∷◌, if◌then◌else◌}
-use Rattle.mp_text.specs.Names.{bytes_eq, LineError, WordCount, BadNumber, ◌>>=◌, number_word, ℕ, List, [], Option, Some, None, Result, Ok, Err, nat_le, codes, QuestionWord, Wave, Waves, Text, Report, Check, Dump, Work, Show, Why, Path, Waits, Measure, Graph, Verilog, Version, Edits}
+use Rattle.mp_text.specs.Names.{bytes_eq, LineError, WordCount, BadNumber, ◌>>=◌, number_word, ℕ, List, [], Option, Some, None, Result, Ok, Err, nat_le, codes, QuestionWord, Wave, Waves, Text, Report, Check, Steady, Dump, Work, Show, Why, Path, Waits, Measure, Graph, Verilog, Version, Edits}
 use Rattle.mp_text.specs.declared.question.Question.{Question}
 use Rattle.mp_text.specs.declared.question.Question.TheVariants as questions
 use Rattle.mp_text.specs.Limits.{max_steps, usual_steps}
@@ -25,12 +25,13 @@ lone_word word =
     else (if bytes_eq word (codes "text") then Some Text
     else (if bytes_eq word (codes "report") then Some Report
     else (if bytes_eq word (codes "check") then Some Check
+    else (if bytes_eq word (codes "steady") then Some Steady
     else (if bytes_eq word (codes "dump") then Some Dump
     else (if bytes_eq word (codes "work") then Some Work
     else (if bytes_eq word (codes "graph") then Some Graph
     else (if bytes_eq word (codes "verilog") then Some Verilog
     else (if bytes_eq word (codes "version") then Some Version
-    else None))))))))
+    else None)))))))))
 
 -- the first word of a question
 abbrev pub question_word : List ℕ → Option QuestionWord
@@ -51,6 +52,7 @@ stated_question Waves [] = Ok questions.Waves
 stated_question Text [] = Ok questions.Text
 stated_question Report [] = Ok questions.Report
 stated_question Check [] = Ok questions.Check
+stated_question Steady [] = Ok questions.Steady
 stated_question Dump [] = Ok questions.Dump
 stated_question Work [] = Ok questions.Work
 stated_question Show (from ∷ to ∷ wires) = do

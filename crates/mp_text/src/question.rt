@@ -15,6 +15,8 @@ pub enum Question {
     Report,
     /// Whether the netlist works.
     Check,
+    /// Whether the netlist repeats for ever, and how fast.
+    Steady,
     /// The value change dump of the netlist.
     Dump,
     /// What was computed again for the last edit.

@@ -14,6 +14,8 @@ pub enum QuestionWord {
     Report,
     /// `check`
     Check,
+    /// `steady`
+    Steady,
     /// `dump`
     Dump,
     /// `work`
@@ -67,6 +69,7 @@ impl QuestionWord {
             _ if is_text(word, "text") => Some(QuestionWord::Text),
             _ if is_text(word, "report") => Some(QuestionWord::Report),
             _ if is_text(word, "check") => Some(QuestionWord::Check),
+            _ if is_text(word, "steady") => Some(QuestionWord::Steady),
             _ if is_text(word, "dump") => Some(QuestionWord::Dump),
             _ if is_text(word, "work") => Some(QuestionWord::Work),
             _ if is_text(word, "graph") => Some(QuestionWord::Graph),

@@ -142,6 +142,7 @@ fn lone_question(word: QuestionWord) -> Result<Question, LineError>
         QuestionWord::Text => Ok(Question::Text),
         QuestionWord::Report => Ok(Question::Report),
         QuestionWord::Check => Ok(Question::Check),
+        QuestionWord::Steady => Ok(Question::Steady),
         QuestionWord::Dump => Ok(Question::Dump),
         QuestionWord::Work => Ok(Question::Work),
         QuestionWord::Graph => Ok(Question::Graph),

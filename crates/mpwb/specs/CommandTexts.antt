@@ -1,7 +1,7 @@
 -- What the commands write.
 use Rattle.std.specs.Prelude.{ℕ, Bool, true, List, map, nat_le, Option, Some, None, if◌then◌else◌, ◌&&◌}
 use Rattle.mp_netlist.specs.Circuit.{Circuit}
-use Rattle.mp_commands.specs.answers.Names.{report_text, dump, graph, verilog, waits, measure, waves_text, why_of, path_of, picture_text}
+use Rattle.mp_commands.specs.answers.Names.{report_text, steady_text, dump, graph, verilog, waits, measure, waves_text, why_of, path_of, picture_text}
 use Rattle.mp_commands.specs.views.CausePictures.{cause_picture}
 use Rattle.mp_commands.specs.views.Limits.{max_columns}
 use Rattle.mp_commands.specs.declared.views.drawing.Drawing.{Drawing}
@@ -11,7 +11,7 @@ use Rattle.mp_picture.specs.declared.numerals.Numerals.{Numerals}
 use Rattle.mp_picture.specs.declared.numerals.Numerals.TheVariants.{Decimal, Hex}
 use Rattle.mp_request.specs.declared.picture_words.PictureWords.{PictureWords}
 use Rattle.mp_request.specs.declared.request.Command.{Command}
-use Rattle.mp_request.specs.declared.request.Command.TheVariants.{Waves, Report, Dump, Show, Why, Path, Waits, Measure, Graph, Verilog}
+use Rattle.mp_request.specs.declared.request.Command.TheVariants.{Waves, Report, Dump, Show, Why, Path, Waits, Measure, Steady, Graph, Verilog}
 use Rattle.mp_request.specs.Wires.{wires_of}
 use Rattle.mp_text.specs.Limits.{max_steps}
 
@@ -36,6 +36,7 @@ picture_of words names (Some time) = λ n. cause_picture n names time words.from
 abbrev pub text_of : Command → Option (Circuit → List ℕ)
 text_of Waves = Some waves_text
 text_of Report = Some report_text
+text_of Steady = Some steady_text
 text_of Dump = Some dump
 text_of Graph = Some graph
 text_of Verilog = Some verilog

@@ -22,6 +22,7 @@ pub(crate) fn view_of<'a>(command: &Command<'a>, names: &'a [Name]) -> Option<Vi
     match command {
         Command::Waves => Some(View::Waves),
         Command::Report => Some(View::Report),
+        Command::Steady => Some(View::Steady),
         Command::Dump => Some(View::Dump),
         Command::Graph => Some(View::Graph),
         Command::Verilog => Some(View::Verilog),

@@ -1,6 +1,6 @@
 -- What questions are answered.
 use Rattle.std.specs.Prelude.{◌+◌, ◌-◌, ◌∷◌, ◌++◌, ◌&&◌, if◌then◌else◌}
-use Rattle.mp_commands.specs.answers.Names.{decimal, Edit, NoSuchWire, Circuit, wire_at, wire_named, Unicode, Decimal, missing_at, usual_columns, ℕ, Bool, List, [], length, Option, Some, None, nat_le, codes, wave, report_text, waits, measure, dump, BadNumber, check_text, Question, Wave, Waves, Text, Report, Check, Dump, Work, Show, Why, Path, Waits, Measure, Graph, Verilog, Version, Edits, written, graph, verilog, picture_text, why_of, path_of, slot_line, waves_text}
+use Rattle.mp_commands.specs.answers.Names.{decimal, Edit, NoSuchWire, Circuit, wire_at, wire_named, Unicode, Decimal, missing_at, usual_columns, ℕ, Bool, List, [], length, Option, Some, None, nat_le, codes, wave, report_text, waits, measure, dump, BadNumber, check_text, steady_text, Question, Wave, Waves, Text, Report, Check, Steady, Dump, Work, Show, Why, Path, Waits, Measure, Graph, Verilog, Version, Edits, written, graph, verilog, picture_text, why_of, path_of, slot_line, waves_text}
 use Rattle.mp_commands.specs.declared.views.drawing.Drawing.TheVariants as drawings
 use Rattle.mp_commands.specs.answers.WorkLines.{work_text}
 use Rattle.mp_commands.specs.answers.EditAnswers.{edits_from}
@@ -39,6 +39,7 @@ answer_text kept Waves = waves_text kept.netlist
 answer_text kept Text = written kept.netlist
 answer_text kept Report = report_text kept.netlist
 answer_text kept Check = check_text kept.netlist
+answer_text kept Steady = steady_text kept.netlist
 answer_text kept Dump = dump kept.netlist
 answer_text kept Work = work_text kept.netlist kept.work
 answer_text kept (Show from to wires) = asked_text (missing_at kept.netlist wires) (picture_text kept.netlist wires from to usual_columns (drawings.Text Unicode) Decimal)

@@ -3,6 +3,7 @@ pub use Rattle.std.specs.Fmt.{decimal}
 pub use Rattle.std.specs.List.{flat_map, slice_get}
 pub use Rattle.std.specs.Prelude.{Bool, List, None, Option, Some, [], codes, drop, if◌then◌else◌, length, nat_le, unwrap_or, ℕ, ◌&&◌, ◌++◌, ◌+◌, ◌-◌, ◌∷◌}
 pub use Rattle.mp_check.specs.CheckLines.{check_text}
+pub use Rattle.mp_steady.specs.SteadyLines.{steady_text}
 pub use Rattle.mp_text.specs.edit_lines.EditLines.{edit_text}
 pub use Rattle.mp_model.specs.Waves.{wave}
 pub use Rattle.mp_netlist.specs.Circuit.{Circuit, module_at, wire_at, wire_named}
@@ -17,7 +18,7 @@ pub use Rattle.mp_report.specs.Lines.{report_text}
 pub use Rattle.mp_streams.specs.Outgoing.{Writes}
 pub use Rattle.mp_text.specs.Written.{written}
 pub use Rattle.mp_text.specs.declared.question.Question.{Question}
-pub use Rattle.mp_text.specs.declared.question.Question.TheVariants.{Check, Dump, Edits, Graph, Measure, Path, Report, Show, Text, Verilog, Version, Waits, Wave, Waves, Why, Work}
+pub use Rattle.mp_text.specs.declared.question.Question.TheVariants.{Check, Dump, Edits, Graph, Measure, Path, Report, Show, Steady, Text, Verilog, Version, Waits, Wave, Waves, Why, Work}
 pub use Rattle.mp_questions.specs.timing.Measures.{measure}
 pub use Rattle.mp_questions.specs.timing.Waits.{waits}
 pub use Rattle.mp_exports.specs.vcd.Dumps.{dump}

@@ -3,6 +3,7 @@ use Rattle.std.specs.Prelude.{ℕ, List, [], ◌∷◌}
 use Rattle.mp_netlist.specs.Circuit.{Circuit}
 use Rattle.mp_report.specs.Lines.{report_text}
 use Rattle.mp_check.specs.CheckLines.{check_text}
+use Rattle.mp_steady.specs.SteadyLines.{steady_text}
 use Rattle.mp_exports.specs.vcd.Dumps.{dump}
 use Rattle.mp_exports.specs.verilog.Verilog.{verilog}
 use Rattle.mp_picture.specs.GraphSections.{graph}
@@ -20,6 +21,7 @@ abbrev pub view_text : View → Circuit → List ℕ
 view_text views.Waves n = waves_text n
 view_text views.Report n = report_text n
 view_text views.Check n = check_text n
+view_text views.Steady n = steady_text n
 view_text views.Dump n = dump n
 view_text views.Graph n = graph n
 view_text views.Verilog n = verilog n

@@ -40,6 +40,7 @@ impl<'a> AskedAnswer<'a> {
             Question::Waves => AskedAnswer::View(View::Waves),
             Question::Report => AskedAnswer::View(View::Report),
             Question::Check => AskedAnswer::View(View::Check),
+            Question::Steady => AskedAnswer::View(View::Steady),
             Question::Dump => AskedAnswer::View(View::Dump),
             Question::Graph => AskedAnswer::View(View::Graph),
             Question::Verilog => AskedAnswer::View(View::Verilog),

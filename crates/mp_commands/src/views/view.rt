@@ -12,6 +12,7 @@ use crate::views::measure_lines::put_measure_lines;
 use crate::views::path_lines::PathLines;
 use crate::views::picture_text::PictureText;
 use crate::views::report_lines::put_report_lines;
+use crate::views::steady_lines::put_steady_lines;
 use crate::views::wave_lines::put_wave_lines;
 use crate::views::why_lines::WhyLines;
 use mp_exports::{put_dump, put_verilog};
@@ -31,6 +32,8 @@ pub enum View<'a> {
     Report,
     /// Findings, late data, deadlocks, and notes on wires.
     Check,
+    /// Whether the netlist repeats for ever, and how fast.
+    Steady,
     /// The value change dump.
     Dump,
     /// The netlist as a graph, for `dot`.
@@ -61,7 +64,7 @@ impl<'a> View<'a> {
             View::CausePicture(picture) => missing_at(netlist, picture.asked.wires),
             View::Why(lines) => missing_wire(netlist, lines.wire),
             View::Path(lines) => missing_wire(netlist, lines.wire),
-            View::Waves | View::Report | View::Check | View::Dump => None,
+            View::Waves | View::Report | View::Check | View::Steady | View::Dump => None,
             View::Graph | View::Verilog | View::Waits { .. } | View::Measure(_) => None,
         }
     }
@@ -80,6 +83,7 @@ impl<'a> View<'a> {
             View::Waves => Ok(put_wave_lines(out, of)?),
             View::Report => put_report_lines(rt, alloc, out, of),
             View::Check => put_check_lines(rt, alloc, out, of),
+            View::Steady => put_steady_lines(alloc, out, of),
             View::Dump => put_dump(rt, alloc, out, of.netlist, of.waves, of.threads()),
             View::Graph => put_graph(out, of.netlist),
             View::Verilog => put_verilog(alloc, out, of.netlist),

@@ -14,7 +14,7 @@ use Rattle.mp_request.specs.declared.explain.check_word.CheckWord.{CheckWord}
 use Rattle.mp_request.specs.declared.explain.check_word.CheckWord.TheVariants as words
 use Rattle.mp_request.specs.declared.explain.seat_code.SeatCode.{SeatCode}
 use Rattle.mp_request.specs.declared.explain.seat_code.SeatCode.TheVariants as seats
-use Rattle.mp_request.specs.declared.explain.topic.Topic.TheVariants.{Text, Edit, Seat, Finding, Check, Kind as OfKind}
+use Rattle.mp_request.specs.declared.explain.topic.Topic.TheVariants.{Text, Edit, Seat, Finding, Check, Kind as OfKind, Steady}
 use Rattle.mp_request.specs.explain.Laws.{TellsOfEach, titles}
 use Rattle.mp_request.specs.explain.Subjects.{title}
 
@@ -107,3 +107,4 @@ tells_of_each (Seat code) = seat_told code
 tells_of_each (Finding code) = finding_told code
 tells_of_each (Check word) = check_told word
 tells_of_each (OfKind kind) = kind_told kind
+tells_of_each Steady = (67, omega (arith, many), refl)
