@@ -29,7 +29,7 @@ run_told() {
 }
 
 run_below() {
-    if [ ! -t "$answer" ]; then exec "$@" >&"$answer" {answer}>&- {terminal}>&-; fi
+    if [ ! -t "$answer" ] && [ -z "$is_counted" ]; then exec "$@" >&"$answer" {answer}>&- {terminal}>&-; fi
     set +e
     "$@" {answer}>&- {terminal}>&- | pass_answer >&"$answer"
     exit "${PIPESTATUS[0]}"
