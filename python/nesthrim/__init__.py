@@ -15,7 +15,7 @@ All answers are those of the program `mpwb`, which is found as `find_program` sa
 from .answers.causes import Event, PathPart, Step, Wait
 from .answers.measure import BundleMeasure, Measure, WireMeasure
 from .answers.picture import Picture
-from .answers.report import BusyNote, Check, Deadlock, Finding, Late, Note, Report
+from .answers.report import BriefCheck, BusyNote, Check, Deadlock, Finding, Group, Late, Note, Report
 from .answers.steady import Cycle, Steady
 from .answers.waves import Wave, Waves
 from .answers.work import MadeEdit, Outcome, Work
@@ -49,9 +49,9 @@ from .wires import Bundle, Module, Port, Stimulus, Wire
 __version__ = "0.1.0"
 
 __all__ = [
-    "END", "AnswerError", "BrokenPipe", "Bundle", "BundleMeasure", "BundleStress", "BusyNote", "Check", "Closed", "Cycle", "Deadlock", "Desk",
-    "Differs", "Event", "Fault", "FifoStage", "Finding", "Fit", "Late", "Limit", "MadeEdit", "Measure", "Module", "Moved", "NesthrimError", "Netlist",
-    "NoSeat", "Note", "OpenOrder", "OutOfMemory", "Outcome", "Part", "PathPart", "Picture", "Port", "Program", "ProgramFailed", "ProgramMissing",
-    "Race", "Races", "Refused", "Report", "Seat", "Session", "Steady", "Step", "Stimulus", "Stress", "SystemFailed", "UnknownName", "Unread",
-    "Variant", "Wait", "Wave", "Waves", "Wire", "WireMeasure", "Work", "Worst", "find_program", "sweep",
+    "END", "AnswerError", "BriefCheck", "BrokenPipe", "Bundle", "BundleMeasure", "BundleStress", "BusyNote", "Check", "Closed", "Cycle", "Deadlock",
+    "Desk", "Differs", "Event", "Fault", "FifoStage", "Finding", "Fit", "Group", "Late", "Limit", "MadeEdit", "Measure", "Module", "Moved",
+    "NesthrimError", "Netlist", "NoSeat", "Note", "OpenOrder", "OutOfMemory", "Outcome", "Part", "PathPart", "Picture", "Port", "Program",
+    "ProgramFailed", "ProgramMissing", "Race", "Races", "Refused", "Report", "Seat", "Session", "Steady", "Step", "Stimulus", "Stress",
+    "SystemFailed", "UnknownName", "Unread", "Variant", "Wait", "Wave", "Waves", "Wire", "WireMeasure", "Work", "Worst", "find_program", "sweep",
 ]  # fmt: skip

@@ -10,7 +10,7 @@ from typing import Any, Dict, Iterable, Iterator, List, Mapping, Optional, Seque
 
 from .builder import Builder
 from .errors import AnswerError, Refused
-from .faults import Origin, fault_of
+from .faults import Origin, written_by
 from .names import asked_name, find, plain_name
 from .program import Program, find_program
 from .questions import END, AnyWire, Path, Questions, wire_name, write_file
@@ -25,10 +25,6 @@ _PACKAGE = os.path.dirname(os.path.abspath(__file__)) + os.sep
 
 # what a text without `format`, and one with `format 2`, has at most
 _SHORT, _LONG, _WIRES, _MODULES, _BUNDLES, _BYTES = 65_536, 1_048_576, 8_192, 4_096, 1_024, 4_194_304
-
-# the status of `check` if it finds more than notes
-_FOUND = 5
-
 
 class Netlist(Builder, Questions, Stressed):
     """A netlist with a horizon: the waves are those of the times from 0 to `horizon - 1`.
@@ -183,11 +179,7 @@ class Netlist(Builder, Questions, Stressed):
         return self.program or find_program()
 
     def _run(self, words: Sequence[str]) -> str:
-        program, text = self._program(), str(self)
-        output = program.run(words, text)
-        if output.status != 0 and not (words[0] == "check" and output.status == _FOUND):
-            raise fault_of(output, program, text, self.origin)
-        return output.written
+        return written_by(self._program(), words, str(self), self.origin)
 
     def _ask(self, words: Sequence[str]) -> str:
         command = _command(words)
@@ -196,14 +188,11 @@ class Netlist(Builder, Questions, Stressed):
         with Session(self, self.program) as session:
             return session._ask(words)
 
-    def _draw(self, words: Sequence[str]) -> str:
-        return self._run(["show", *words])
-
     def show(self, start: int = 0, end: int = END, wires: Iterable[AnyWire] = (), columns: int = 72, ascii: bool = False, hex: bool = False) -> str:
         """The timing diagram of a range, of these wires or of all, as text of at most `columns` columns."""
         chosen = [f"--wire={wire_name(wire)}" for wire in wires]
         forms = [*(["--ascii"] if ascii else []), *(["--hex"] if hex else [])]
-        return self._draw([f"--from={start}", f"--to={end}", f"--columns={columns}", *chosen, *forms])
+        return self._run(["show", f"--from={start}", f"--to={end}", f"--columns={columns}", *chosen, *forms])
 
     # ---- edits
 
@@ -231,8 +220,10 @@ class Netlist(Builder, Questions, Stressed):
 
 # questions that a command answers as they are, with their numbers
 _SAME = re.compile(r"waves|report|check|steady|dump|graph|verilog|waits \d+|path \w+ \d+", re.ASCII)
-_MEASURE = re.compile(r"measure (\d+) (\d+)", re.ASCII)
+_FOUND = re.compile(r"(report|check(?: brief)?)(?: (\d+) (\d+))?", re.ASCII)
+_MEASURE = re.compile(r"measure (\d+) (\d+)((?: \w+)*)", re.ASCII)
 _WHY = re.compile(r"why (\w+) (\d+) (\d+)", re.ASCII)
+_PATH = re.compile(r"path (\w+) (\d+) (\d+)", re.ASCII)
 
 
 def _command(words: Sequence[str]) -> Optional[List[str]]:
@@ -240,10 +231,15 @@ def _command(words: Sequence[str]) -> Optional[List[str]]:
     question = " ".join(words)
     if _SAME.fullmatch(question):
         return list(words)
+    if found := _FOUND.fullmatch(question):
+        times = [] if found[2] is None else [f"--from={found[2]}", f"--to={found[3]}"]
+        return [*found[1].replace(" ", " --").split(), *times]
     if found := _MEASURE.fullmatch(question):
-        return ["measure", f"--from={found[1]}", f"--to={found[2]}"]
+        return ["measure", f"--from={found[1]}", f"--to={found[2]}", *(f"--wire={wire}" for wire in found[3].split())]
     if found := _WHY.fullmatch(question):
         return ["why", found[1], found[2], f"--steps={found[3]}"]
+    if found := _PATH.fullmatch(question):
+        return ["path", found[1], found[2], f"--from={found[3]}"]
     return None
 
 

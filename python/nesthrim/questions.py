@@ -4,24 +4,25 @@ from __future__ import annotations
 
 import os
 from abc import ABC, abstractmethod
-from typing import Any, Callable, Dict, Iterable, Optional, Sequence, Tuple, Union
+from typing import Any, Callable, Dict, Iterable, Literal, Optional, Sequence, Tuple, Union, overload
 
 from .answers.causes import PathPart, Step, Wait, read_path, read_waits, read_why
 from .answers.measure import Measure, read_measure
 from .answers.picture import Picture
-from .answers.report import Check, Report, read_check, read_report
+from .answers.report import BriefCheck, Check, Report, read_brief_check, read_check, read_report
 from .answers.steady import Steady, read_steady
 from .answers.waves import Wave, Waves, read_wave, read_waves
 from .answers.work import MadeEdit, Work, read_edits, read_version, read_work
 from .names import plain_name
 from .system import asking_the_system
-from .wires import Wire
+from .wires import Bundle, Module, Wire
 
 # a time above all horizons: the program reads it as the last time, and at the end of a range as the horizon
 END = 2**64 - 1
 
 Path = Union[str, "os.PathLike[str]"]
 AnyWire = Union[str, Wire]
+AnyPlace = Union[str, Module, Bundle]
 
 
 # the first words of edits
@@ -40,6 +41,10 @@ def _text(text: str, question: str) -> str:
     return text
 
 
+def _any_check(text: str, question: str) -> Union[Check, BriefCheck]:
+    return read_brief_check(text, question) if question.split()[1:2] == ["brief"] else read_check(text, question)
+
+
 def _one_wave(text: str, question: str) -> Wave:
     return read_wave(text.rstrip("\n"), question)
 
@@ -49,7 +54,7 @@ READERS: Dict[str, Callable[[str, str], Any]] = {
     "wave": _one_wave,
     "waves": read_waves,
     "report": read_report,
-    "check": read_check,
+    "check": _any_check,
     "measure": read_measure,
     "steady": read_steady,
     "why": read_why,
@@ -64,6 +69,11 @@ READERS: Dict[str, Callable[[str, str], Any]] = {
 def wire_name(wire: AnyWire) -> str:
     """The name of a wire that is given by its name or as an object."""
     return wire.name if isinstance(wire, Wire) else plain_name(wire)
+
+
+def _place_name(place: AnyPlace) -> str:
+    """The name of a module or a bundle that is given by its name or as an object."""
+    return plain_name(place) if isinstance(place, str) else place.name
 
 
 def write_file(path: Optional[Path], text: str) -> None:
@@ -85,8 +95,8 @@ class Questions(ABC):
         """What the program writes for the words of a question."""
 
     @abstractmethod
-    def _draw(self, words: Sequence[str]) -> str:
-        """What the program's command `show` writes with these words behind it."""
+    def _run(self, words: Sequence[str]) -> str:
+        """What a command of the program, with its options, writes of the netlist as it is now."""
 
     def ask(self, line: str) -> str:
         """The answer to a line of a script that asks, as "measure 0 100": the text that the program writes. `ValueError` for an edit."""
@@ -110,19 +120,39 @@ class Questions(ABC):
         wave: Wave = self._answer(["wave", wire_name(wire)])
         return wave
 
-    def report(self) -> Report:
-        """What breaks a rule of a module or a bundle."""
-        report: Report = self._answer(["report"])
-        return report
+    def _found(self, words: Sequence[str], start: int, end: int, at: Iterable[AnyPlace]) -> str:
+        """The answer to `report` or `check`. A question names no modules and bundles, but a command does."""
+        names = [f"--at={_place_name(place)}" for place in at]
+        if names:
+            return self._run([words[0], *(f"--{word}" for word in words[1:]), f"--from={start}", f"--to={end}", *names])
+        return self._ask([*words, *([] if (start, end) == (0, END) else [str(start), str(end)])])
 
-    def check(self) -> Check:
-        """Whether it works: the report, data that are late, modules that wait for each other for ever, and notes."""
-        check: Check = self._answer(["check"])
-        return check
+    def report(self, start: int = 0, end: int = END, at: Iterable[AnyPlace] = ()) -> Report:
+        """What breaks a rule of a module or a bundle at the times from `start` to before `end`: of all, or of the modules and bundles of some names.
 
-    def measure(self, start: int = 0, end: int = END) -> Measure:
-        """Events of wires, the gaps between them and margins of bundles, at the times from `start` to before `end`."""
-        measure: Measure = self._answer(["measure", str(start), str(end)])
+        `UnknownName` (4 NoSuchModule) for a name that neither a module nor a bundle has.
+        """
+        return read_report(self._found(["report"], start, end, at), "report")
+
+    @overload
+    def check(self, start: int = 0, end: int = END, at: Iterable[AnyPlace] = (), *, brief: Literal[False] = False) -> Check: ...
+
+    @overload
+    def check(self, start: int = 0, end: int = END, at: Iterable[AnyPlace] = (), *, brief: Literal[True]) -> BriefCheck: ...
+
+    def check(self, start: int = 0, end: int = END, at: Iterable[AnyPlace] = (), *, brief: bool = False) -> Union[Check, BriefCheck]:
+        """Whether it works: the report, data that are late, modules that wait for each other for ever, and notes.
+
+        The report and the late data are those of the times from `start` to before `end`; all else is of the whole run. `at` is as that of `report`:
+        it leaves the deadlocks with such a module, and the notes about such a bundle. `brief` has findings and late data in groups.
+        """
+        if brief:
+            return read_brief_check(self._found(["check", "brief"], start, end, at), "check brief")
+        return read_check(self._found(["check"], start, end, at), "check")
+
+    def measure(self, start: int = 0, end: int = END, wires: Iterable[AnyWire] = ()) -> Measure:
+        """Events of wires, the gaps between them and margins of bundles, at the times from `start` to before `end`: of all, or of these wires alone."""
+        measure: Measure = self._answer(["measure", str(start), str(end), *map(wire_name, wires)])
         return measure
 
     def steady(self) -> Steady:
@@ -135,9 +165,12 @@ class Questions(ABC):
         why: Tuple[Step, ...] = self._answer(["why", wire_name(wire), str(time), str(steps)])
         return why
 
-    def path(self, wire: AnyWire, time: int = END) -> Tuple[PathPart, ...]:
-        """Where the time of this chain went: the modules that set the pace, the slowest first."""
-        path: Tuple[PathPart, ...] = self._answer(["path", wire_name(wire), str(time)])
+    def path(self, wire: AnyWire, time: int = END, since: Optional[int] = None) -> Tuple[PathPart, ...]:
+        """Where the time of this chain went: the modules that set the pace, the slowest first.
+
+        With `since`, which has to be below `time`, only the time from it on counts. If the chain begins before, the last part is what lies before.
+        """
+        path: Tuple[PathPart, ...] = self._answer(["path", wire_name(wire), str(time), *([] if since is None else [str(since)])])
         return path
 
     def waits(self, time: int = END) -> Tuple[Wait, ...]:
@@ -152,7 +185,7 @@ class Questions(ABC):
     def svg(self, start: int = 0, end: int = END, wires: Iterable[AnyWire] = (), columns: int = 72) -> Picture:
         """The timing diagram as an SVG picture, which a notebook shows."""
         chosen = [f"--wire={wire_name(wire)}" for wire in wires]
-        return Picture(self._draw(["--svg", f"--from={start}", f"--to={end}", f"--columns={columns}", *chosen]))
+        return Picture(self._run(["show", "--svg", f"--from={start}", f"--to={end}", f"--columns={columns}", *chosen]))
 
     def graph(self) -> str:
         """The netlist as a graph for `dot`."""

@@ -8,7 +8,7 @@ from typing import TYPE_CHECKING, Optional, Sequence, Union
 
 from .channel import Channel
 from .errors import BrokenPipe, NesthrimError
-from .faults import Origin, fault_of
+from .faults import Origin, fault_of, no_origin, written_by
 from .program import Complaints, Output, Program, find_program
 from .talk import Talk
 
@@ -47,12 +47,8 @@ class Session(Talk):
             return BrokenPipe("the program has gone away before it answered; open another session", status, said)
         return fault_of(Output(status, "", said), self.program, self._text, self._origin)
 
-    def _draw(self, words: Sequence[str]) -> str:
-        text = self.text()
-        output = self.program.run(["show", *words], text)
-        if output.status != 0:
-            raise fault_of(output, self.program, text, lambda line: None)
-        return output.written
+    def _run(self, words: Sequence[str]) -> str:
+        return written_by(self.program, words, self.text(), no_origin)
 
     def close(self) -> None:
         self._end()

@@ -36,8 +36,8 @@ class Variant(Questions):
     def _ask(self, words: Sequence[str]) -> str:
         return self._open()._ask(words)
 
-    def _draw(self, words: Sequence[str]) -> str:
-        return self._open()._draw(words)
+    def _run(self, words: Sequence[str]) -> str:
+        return self._open()._run(words)
 
     def _end(self) -> None:
         self._session = None

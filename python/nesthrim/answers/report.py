@@ -4,10 +4,10 @@ from __future__ import annotations
 
 import re
 from dataclasses import dataclass
-from typing import Iterator, List, Sequence, Tuple, Union, overload
+from typing import Iterator, List, Optional, Sequence, Tuple, Union, overload
 
 from ..errors import AnswerError
-from .reading import NAME, match
+from .reading import NAME, match, number
 
 _FINDING = re.compile(rf"(\d+) (module|bundle) ({NAME}) ([a-z-]+)")
 _LATE = re.compile(rf"(\d+) bundle ({NAME}) late (\d+)")
@@ -15,6 +15,9 @@ _DEADLOCK = re.compile(r"(\d+) deadlock (.+)")
 _WAIT = re.compile(rf"({NAME}) waits for ({NAME})")
 _NOTE = re.compile(rf"note (wire|bundle) ({NAME}) (.+)")
 _BUSY = re.compile(r"is busy since (\d+)")
+_GROUP = re.compile(
+    rf"(module|bundle) ({NAME}) ([a-z-]+) (?:1 time, at (\d+)(?:, by (\d+))?|(\d+) times, first (\d+), last (\d+)(?:, worst (\d+))?)"
+)
 
 
 @dataclass(frozen=True)
@@ -129,6 +132,49 @@ class Check:
         return str(self.findings) + "".join(f"{line}\n" for line in (*self.late, *self.deadlocks, *self.notes))
 
 
+@dataclass(frozen=True)
+class Group:
+    """All findings of one code (`code`, as "setup") of a module or a bundle (`sort`), or, as `code` "late", all late data of a bundle.
+
+    - `times`: how many they are;
+    - `first`, `last`: the times of the first and the last one;
+    - `worst`: of late data the most units by which one is late, else `None`.
+    """
+
+    sort: str
+    name: str
+    code: str
+    times: int
+    first: int
+    last: int
+    worst: Optional[int] = None
+
+    def __str__(self) -> str:
+        if self.times == 1:
+            how = f"1 time, at {self.first}" + ("" if self.worst is None else f", by {self.worst}")
+        else:
+            how = f"{self.times} times, first {self.first}, last {self.last}" + ("" if self.worst is None else f", worst {self.worst}")
+        return f"{self.sort} {self.name} {self.code} {how}"
+
+
+@dataclass(frozen=True)
+class BriefCheck:
+    """Whether a netlist works, as `Check`, with its findings and late data in groups, in the order of the time of their first one."""
+
+    groups: Tuple[Group, ...]
+    deadlocks: Tuple[Deadlock, ...]
+    notes: Tuple[Union[Note, BusyNote], ...]
+
+    @property
+    def ok(self) -> bool:
+        """Whether there is nothing but notes."""
+        return not (self.groups or self.deadlocks)
+
+    def __str__(self) -> str:
+        """The lines that `mpwb check --brief` writes."""
+        return "".join(f"{line}\n" for line in (*self.groups, *self.deadlocks, *self.notes))
+
+
 def _read_finding(line: str, question: str) -> Finding:
     found = match(_FINDING, line, question)
     return Finding(int(found[1]), found[2], found[3], found[4])
@@ -158,19 +204,42 @@ def _read_note(kind: str, name: str, text: str, line: str) -> Union[Note, BusyNo
     return BusyNote(name, int(busy[1]))
 
 
-def read_check(text: str, question: str) -> Check:
-    """What `check` writes."""
-    findings: List[Finding] = []
-    late: List[Late] = []
+def _divided(text: str) -> Tuple[List[str], Tuple[Deadlock, ...], Tuple[Union[Note, BusyNote], ...]]:
+    """The lines of a check before its deadlocks, these, and its notes."""
+    lines: List[str] = []
     deadlocks: List[Deadlock] = []
     notes: List[Union[Note, BusyNote]] = []
     for line in text.splitlines():
-        if found := _LATE.fullmatch(line):
-            late.append(Late(int(found[1]), found[2], int(found[3])))
-        elif found := _DEADLOCK.fullmatch(line):
+        if found := _DEADLOCK.fullmatch(line):
             deadlocks.append(_read_deadlock(found[1], found[2], line))
         elif found := _NOTE.fullmatch(line):
             notes.append(_read_note(found[1], found[2], found[3], line))
         else:
+            lines.append(line)
+    return lines, tuple(deadlocks), tuple(notes)
+
+
+def read_check(text: str, question: str) -> Check:
+    """What `check` writes."""
+    findings: List[Finding] = []
+    late: List[Late] = []
+    lines, deadlocks, notes = _divided(text)
+    for line in lines:
+        if found := _LATE.fullmatch(line):
+            late.append(Late(int(found[1]), found[2], int(found[3])))
+        else:
             findings.append(_read_finding(line, question))
-    return Check(Report(findings), tuple(late), tuple(deadlocks), tuple(notes))
+    return Check(Report(findings), tuple(late), deadlocks, notes)
+
+
+def _read_group(line: str, question: str) -> Group:
+    sort, name, code, time, by, times, first, last, worst = match(_GROUP, line, question).groups()
+    if time is not None:
+        return Group(sort, name, code, 1, int(time), int(time), number(by))
+    return Group(sort, name, code, int(times), int(first), int(last), number(worst))
+
+
+def read_brief_check(text: str, question: str) -> BriefCheck:
+    """What `check --brief` writes."""
+    lines, deadlocks, notes = _divided(text)
+    return BriefCheck(tuple(_read_group(line, question) for line in lines), deadlocks, notes)
