@@ -103,15 +103,15 @@ class Keeper:
 
     def __init__(self, circuit):
         self.circuit, self.accepted, self.work = circuit, 0, []
-        self.levels, self.states, self.found = reference.evaluated(circuit)
+        self.levels, self.states, _ = reference.evaluated(circuit)
 
     def change(self, edit):
         new = reader.edited(self.circuit, edit)
         if self.accepted == MOST_EDITS:
             raise Refused(18)
-        levels, states, found = reference.evaluated(new)
+        levels, states, _ = reference.evaluated(new)
         self.work = reference.work(self.circuit, self.states, new, states)
-        self.circuit, self.levels, self.states, self.found, self.accepted = new, levels, states, found, self.accepted + 1
+        self.circuit, self.levels, self.states, self.accepted = new, levels, states, self.accepted + 1
 
     def answer(self, question):
         if question[0] == "wave":
@@ -128,9 +128,10 @@ class Keeper:
         if question[0] == "text":
             return formats.text(self.circuit)
         if question[0] == "report":
-            return formats.report(self.circuit, self.levels, self.found)
+            return checks.report(self.circuit, checks.Part(*question[1:]))
         if question[0] == "check":
-            return checks.check(self.circuit)[0]
+            brief = question[1:2] == ["brief"]
+            return checks.check(self.circuit, checks.Part(*question[2 if brief else 1 :]), brief)[0]
         if question[0] == "steady":
             return steadiness.steady(self.circuit)
         return {"waves": formats.waves, "dump": formats.dump}[question[0]](self.circuit, self.levels)

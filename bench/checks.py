@@ -1,5 +1,7 @@
 """Whether a netlist works, computed once more in Python: late data by all that leads to a change, deadlocks by the greatest set of dead ports, and
-notes. Netlists are as in `reference.py`; the modules' names are `module_names`."""
+notes; all of it, or a part of it. Netlists are as in `reference.py`; the modules' names are `module_names`."""
+from dataclasses import dataclass
+
 import formats
 import reference
 from questions import Causes
@@ -13,11 +15,26 @@ def events(line):
     return [time for time in range(1, len(line)) if line[time] != line[time - 1]]
 
 
-class Check:
-    """A netlist with its levels."""
+@dataclass(frozen=True)
+class Part:
+    """The part of a check that is asked for: times from one to before another, and the names of modules and bundles, or none for all."""
 
-    def __init__(self, netlist):
-        self.netlist = netlist
+    begin: int = 0
+    end: int = 1 << 64
+    names: tuple = ()
+
+    def has_time(self, horizon, time):
+        return min(self.begin, horizon - 1) <= time < min(self.end, horizon)
+
+    def has_name(self, name):
+        return not self.names or name in self.names
+
+
+class Check:
+    """A netlist with its levels, and the part of its check that is asked for."""
+
+    def __init__(self, netlist, part=Part()):
+        self.netlist, self.part = netlist, part
         self.levels, self.states, self.at_modules = reference.evaluated(netlist)
         self.causes = Causes(netlist)
         self.ports = {
@@ -203,22 +220,51 @@ class Check:
                 if self.levels[request][-1] != self.levels[acknowledge][-1]:
                     yield f"{name} is busy since {max(events(self.levels[request]), default=0)}"
 
-    # ---- all of it
+    # ---- all that is asked for
 
-    def wrong(self):
-        """The lines that aren't notes."""
-        yield from formats.report(self.netlist, self.levels, self.at_modules).splitlines()
-        for time, number, units in sorted(self.late()):
-            yield f"{time} bundle {self.netlist.bundles[number][0]} late {units}"
+    def found(self):
+        """The findings, and then the late data, each with its time, sort, name and code, and the units of late data."""
+        late = [(time, "bundle", self.netlist.bundles[number][0], "late", units) for time, number, units in sorted(self.late())]
+        for found in [*formats.found_lines(self.netlist, self.levels, self.at_modules), *late]:
+            if self.part.has_time(self.netlist.horizon, found[0]) and self.part.has_name(found[2]):
+                yield found
+
+    def groups(self):
+        """The line of each group of them, by the time of its first one."""
+        groups = {}
+        for time, sort, name, code, *units in self.found():
+            groups.setdefault(f"{sort} {name} {code}", []).append((time, *units))
+        for group, met in sorted(groups.items(), key=lambda each: each[1][0][0]):
+            units = [late for _, *late in met if late]
+            worst = max(units)[0] if units else None
+            if len(met) == 1:
+                yield f"{group} 1 time, at {met[0][0]}" + (f", by {worst}" if units else "")
+            else:
+                yield f"{group} {len(met)} times, first {met[0][0]}, last {met[-1][0]}" + (f", worst {worst}" if units else "")
+
+    def stopped(self):
+        """The lines of deadlocks."""
         for waits in self.deadlocks():
-            since = max(max(events(self.levels[wire]), default=0) for _, wire in waits)
-            told = ", ".join(f"{self.netlist.module_names[number]} waits for {self.netlist.wires[wire][0]}" for number, wire in waits)
-            yield f"{since} deadlock {told}"
+            if any(self.part.has_name(self.netlist.module_names[number]) for number, _ in waits):
+                since = max(max(events(self.levels[wire]), default=0) for _, wire in waits)
+                told = ", ".join(f"{self.netlist.module_names[number]} waits for {self.netlist.wires[wire][0]}" for number, wire in waits)
+                yield f"{since} deadlock {told}"
+
+    def noted(self):
+        """The lines of notes."""
+        if not self.part.names:
+            yield from (f"note wire {note}" for note in self.notes())
+        yield from (f"note bundle {note}" for note in self.busy() if self.part.has_name(note.split()[0]))
 
 
-def check(netlist):
+def check(netlist, part=Part(), brief=False):
     """What `check` writes, and the status with which it ends."""
-    of = Check(netlist)
-    wrong = list(of.wrong())
-    lines = wrong + [f"note wire {note}" for note in of.notes()] + [f"note bundle {note}" for note in of.busy()]
-    return "".join(f"{line}\n" for line in lines), 5 if wrong else 0
+    of = Check(netlist, part)
+    lines = of.groups() if brief else (" ".join(map(str, found)) for found in of.found())
+    wrong = [*lines, *of.stopped()]
+    return "".join(f"{line}\n" for line in [*wrong, *of.noted()]), 5 if wrong else 0
+
+
+def report(netlist, part=Part()):
+    """What `report` writes."""
+    return "".join(f"{' '.join(map(str, found))}\n" for found in Check(netlist, part).found() if found[3] != "late")

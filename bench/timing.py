@@ -37,13 +37,15 @@ def measured_bundle(name, requests, acknowledges, changes, late):
     return ["bundle", name, len(requests), *setup, *response, *(["late", max(late)] if late else [])]
 
 
-def measure(netlist, begin=0, end=None):
-    """What `measure` writes."""
+def measure(netlist, begin=0, end=None, wires=None):
+    """What `measure` writes, of the wires with these numbers alone if any are given."""
     levels, _, _ = reference.evaluated(netlist)
     begin = min(begin, netlist.horizon - 1)
     end = netlist.horizon if end is None else min(end, netlist.horizon)
     all_events = [line and events(line) for line in levels]
     within = lambda wire: [time for time in all_events[wire] if begin <= time < end]
+    if wires:
+        return lines_of(" ".join(map(str, measured_wire(netlist.wires[number][0], within(number)))) for number in dict.fromkeys(wires))
     found = [measured_wire(wire[0], within(number)) for number, wire in enumerate(netlist.wires) if wire]
     all_late = list(checks.Check(netlist).late()) if any(netlist.bundles) else []
     for number, (name, request, acknowledge, data, _) in ((number, bundle) for number, bundle in enumerate(netlist.bundles) if bundle):
