@@ -57,7 +57,12 @@ fn put_shares<S: Sink>(
     Ok(())
 }
 
-fn put_share<S: Sink>(out: &mut Out<S>, netlist: &Netlist, share: ModuleShare) -> Result<(), Failed>
+/// Writes the line of a share, as in `put_path`. `Failed` comes as there.
+pub fn put_share<S: Sink>(
+    out: &mut Out<S>,
+    netlist: &Netlist,
+    share: ModuleShare,
+) -> Result<(), Failed>
     ensures { WritesTo result out.old out.new (share_line netlist.now share) }
 {
     match netlist.module(share.id) {

@@ -1,5 +1,5 @@
 -- The shares of a chain, step by step, and what they add up to.
-use Rattle.std.proofs.Common.{◌≡◌, ℕ, ◌+◌, ◌-◌, ◌<◌, ◌≤◌, ◌^◌, ◌==◌, Bool, true, false, not, cond, List, [], ◌∷◌, length, get_or, map, filter, nat_lt, Option, Some, None, zero, suc, refl, ap, sym, subst, ◌∙◌, arith, inl, inr, zero-add}
+use Rattle.std.proofs.Common.{◌≡◌, ℕ, ◌+◌, ◌*◌, ◌-◌, ◌<◌, ◌≤◌, ◌^◌, ◌==◌, Bool, true, false, not, cond, List, [], ◌∷◌, length, drop, get_or, add-one, drop-cons, map, filter, nat_lt, Option, Some, None, zero, suc, refl, ap, sym, subst, ◌∙◌, arith, inl, inr, zero-add}
 use Rattle.std.specs.List.{sum_by, range_with_len}
 use Rattle.std.proofs.lemmas.Bool.{cases_eq, eq-eqb, ne_eqb, ltb-false}
 use Rattle.std.proofs.lemmas.List.{same_lists}
@@ -300,3 +300,41 @@ pub path_is : (n : Circuit) → IsCircuit n → (moment : Moment) (c : WireChang
     → path n moment ≡ by_units (filter has_steps (shares n (chain_from n c.time (Some c))))
 unfolding path
 path_is n ok moment c some = ap (λ cs. by_units (filter has_steps (shares n cs))) (chain_is n ok moment.wire (read_time n.horizon moment.time) (Some c) (sym some))
+
+-- ---- changes that are noted one by one
+
+-- the units of some changes are few where these are
+units_few : (n : Circuit) (changes : List WireChange) → ((k : ℕ) (d : WireChange) → k < length changes → (get_or changes k d).time < 2 ^ 31) → sum_by (units_of n) changes ≤ length changes * 2 ^ 31
+units_few n [] early = omega arith
+units_few n (c ∷ changes) early =
+    omega (arith, sum_by-cons (units_of n) c changes, units_few n changes (λ k d low. early (suc k) d (omega (arith, low))), early 0 c (omega arith))
+
+-- so what is noted of a module has room for another step
+pub noted_room : (n : Circuit) (all left : List WireChange) (m : ℕ) (s : ModuleShare) → length all < 2 ^ 32 → ((k : ℕ) (d : WireChange) → k < length all → (get_or all k d).time < 2 ^ 31) → IsShareOf n all left m s
+    → HasRoom (2 ^ 32) s
+noted_room n all left m s few early of =
+    record {
+      units = omega (arith, of.units, units_in n m all, units_few n all early, few);
+      steps = omega (arith, of.steps, steps_few n m all, few);
+    }
+
+pub room_enough : (u : ℕ) (s : ModuleShare) → u < 2 ^ 32 → HasRoom (2 ^ 32) s → HasRoom u s
+room_enough u s low room = record { units = omega (arith, room.units, low); steps = room.steps }
+
+-- one of them more
+pub noted_next : (n : Circuit) (all : List WireChange) (i m : ℕ) (c : WireChange) (s : ModuleShare) → i < length all → IsShareOf n all (drop i all) m s
+    → IsShareOf n all (drop (i + 1) all) m (noted (is_step_in n m (get_or all i c)) (units_of n (get_or all i c)) s)
+noted_next n all i m c s low of =
+    let first : drop i all ≡ get_or all i c ∷ drop (i + 1) all = rw (add-one, drop-cons all i c) refl in
+    noted_more n all (drop (i + 1) all) (get_or all i c) m s (subst (λ l. IsShareOf n all l m s) first of)
+
+dropped : (all : List WireChange) (i : ℕ) → length all ≤ i → drop i all ≡ []
+dropped [] zero past = refl
+dropped [] (suc i) past = refl
+dropped (c ∷ cs) zero past = absurd (omega (arith, past))
+dropped (c ∷ cs) (suc i) past = dropped cs i (omega (arith, past))
+
+-- when all are noted, these are their shares
+pub all_noted : (n : Circuit) (all : List WireChange) (i : ℕ) (list : List ModuleShare) → length all ≤ i → length list ≡ length n.modules
+    → ((m : ℕ) (d : ModuleShare) → m < length n.modules → IsShareOf n all (drop i all) m (get_or list m d)) → list ≡ shares n all
+all_noted n all i list past long each = shares_are n all list long (λ m d low. subst (λ l. IsShareOf n all l m (get_or list m d)) (dropped all i past) (each m d low))
