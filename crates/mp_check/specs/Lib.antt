@@ -8,5 +8,11 @@ pub mod Deadlocks
 pub mod Over
 pub mod Notes
 pub mod ReadWires
+pub mod Selections
 pub mod CheckLines
+pub mod Problems
+pub mod Keys
+pub mod Grouping
+pub mod Briefs
+pub mod CheckTexts
 pub mod Checks

@@ -18,6 +18,7 @@ mod range;
 mod trail;
 mod wait_moment;
 mod waits;
+mod wire_measures;
 
 pub use client_watch::{ClientWatch, follow};
 pub use delayed_input::DelayedInput;
@@ -28,3 +29,4 @@ pub use range::TimeRange;
 pub(crate) use range::read_time;
 pub use wait_moment::WaitMoment;
 pub use waits::put_waits;
+pub use wire_measures::put_wire_measures;

@@ -12,7 +12,7 @@ use Rattle.mp_questions.specs.declared.causes.moment.Moment.{Moment}
 use Rattle.mp_questions.specs.causes.Changes.{last_change}
 use Rattle.mp_questions.specs.timing.Ranges.{read_time}
 use Rattle.mp_questions.specs.causes.Causes.{Cause, Outside, Start, Events, cause_of}
-use Rattle.mp_questions.specs.causes.Chains.{chain}
+use Rattle.mp_questions.specs.causes.Chains.{chain, begin_of}
 use Rattle.mp_questions.specs.causes.Paths.{path}
 
 -- a wire has a new level at a time from 1 on
@@ -60,17 +60,6 @@ IsWhole n (c ∷ d ∷ cs) = IsWhole n (d ∷ cs)
 -- a chain goes back to a stimulus or a start
 abbrev pub GoesBack : Type 0
 GoesBack = (n : Circuit) → IsCircuit n → (wire : WireId) (t : ℕ) → IsWhole n (chain n wire t)
-
--- the time at which a chain begins: that of its first change where that is set from outside, and 0 where it is a start
-abbrev pub begin_by : WireChange → Cause → ℕ
-begin_by c Outside = c.time
-begin_by c (Start g) = 0
-begin_by c (Events g es) = 0
-
-abbrev pub begin_of : Circuit → List WireChange → ℕ
-begin_of n [] = 0
-begin_of n (c ∷ []) = begin_by c (cause_of n c)
-begin_of n (c ∷ d ∷ cs) = begin_of n (d ∷ cs)
 
 -- the units of all shares are the time from the begin of the chain to its last change
 abbrev pub AddsUp : Type 0

@@ -2,8 +2,8 @@
 ghost use Rattle.std.specs.Prelude.{◌≡◌, ◌≢◌, ◌<◌, ◌^◌, ℕ, true, All, Some, IfOk, filter, length, slice_index_or, option_map};
 ghost use Rattle.mp_netlist.specs.Circuit.{IsCircuit};
 ghost use Rattle.mp_questions.specs.causes.Causes.{port_seen};
-ghost use Rattle.mp_questions.specs.causes.Chains.{chain_from};
-ghost use Rattle.mp_questions.specs.causes.Shares.{shares, has_steps, by_units, is_port_of, is_step_in, time_of, units_of};
+ghost use Rattle.mp_questions.specs.causes.Chains.{begin_of, chain_from};
+ghost use Rattle.mp_questions.specs.causes.Shares.{shares, shares_above, has_steps, by_units, is_port_of, is_step_in, time_of, units_of};
 ghost use Rattle.mp_questions.specs.causes.Noting.{AreByNumber, HasRoom, IsNone, noted, with_step};
 ghost use Rattle.mp_questions.specs.declared.causes.module_share.ModuleShare.{ModuleShare as Share};
 ghost use Rattle.mp_questions.specs.declared.causes.wire_change.WireChange.{WireChange as Change};
@@ -16,27 +16,40 @@ use mp_netlist::{ModuleId, Netlist};
 use std::alloc::{AllocError, Global};
 use std::cmp::Reverse;
 
-/// The share of each module, by number, in the chain of a change.
-pub(crate) fn shares(
+/// What is told of a chain of causes above a time.
+#[derive(Drop)]
+pub(crate) struct ChainShares {
+    /// The share of each module above that time, by number.
+    pub(crate) shares: Vec<ModuleShare>,
+    /// When the whole chain begins: the time of what is set from outside, and 0 if it begins with the start of a module.
+    pub(crate) begin: u32,
+}
+
+/// The shares in the chain of a change, above a time, and when that chain begins.
+pub(crate) fn shares_above(
     alloc: Global,
     tracer: &mut Tracer<'_>,
     last: WireChange,
-) -> Result<Vec<ModuleShare>, AllocError>
+    from: u32,
+) -> Result<ChainShares, AllocError>
     requires form { IsCircuit tracer.old.levels.netlist.now }
     requires from { 0 < last.time }
     requires within { last.time < tracer.old.levels.netlist.now.horizon }
-    ensures value { IfOk result (λ found. found.items ≡ shares tracer.old.levels.netlist.now (chain_from tracer.old.levels.netlist.now last.time (Some last))) }
-    ensures order { IfOk result (λ found. AreByNumber 0 found.items) }
+    ensures value { IfOk result (λ found. found.shares.items ≡ shares_above tracer.old.levels.netlist.now from (chain_from tracer.old.levels.netlist.now last.time (Some last))) }
+    ensures order { IfOk result (λ found. AreByNumber 0 found.shares.items) }
+    ensures begin { IfOk result (λ found. found.begin ≡ begin_of tracer.old.levels.netlist.now (chain_from tracer.old.levels.netlist.now last.time (Some last))) }
 {
     let mut shares = no_shares(alloc, tracer.levels.netlist)?;
+    let mut begin: u32 = 0;
     let mut next = Some(last);
     while let Some(change) = next {
         let cause = tracer.cause_of(change);
         next = cause.followed();
-        let units = change.time - time_of(next);
-        note(&mut shares, cause.port(), units);
+        begin = cause.begin(change);
+        let units = change.time.saturating_sub(time_of(next).max(from));
+        note(&mut shares, cause.port_above(from, change), units);
     }
-    Ok(shares)
+    Ok(ChainShares { shares, begin })
 }
 
 /// How the time of some changes divides among modules: the shares of the modules that made them, the most units first, and of equal ones the lesser
