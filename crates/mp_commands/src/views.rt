@@ -19,6 +19,8 @@ pub use asked_picture::{AskedPicture, MAX_COLUMNS, USUAL_COLUMNS};
 pub use cause_picture::CausePicture;
 pub use drawing::Drawing;
 pub use evaluated::Evaluated;
+pub use measure_lines::MeasureLines;
+pub use mp_check::{CheckAsked, Selection};
 pub use mp_picture::{Charset, Numerals};
 pub use mp_questions::TimeRange;
 pub use path_lines::PathLines;
