@@ -5,9 +5,11 @@ import re
 import checks
 import formats
 import pictures
+import questions
 import reader
 import reference
 import steadiness
+import timing
 import verilog as verilog_texts
 from circuit import Refused
 from reader import Fault
@@ -134,7 +136,18 @@ class Keeper:
             return checks.check(self.circuit, checks.Part(*question[2 if brief else 1 :]), brief)[0]
         if question[0] == "steady":
             return steadiness.steady(self.circuit)
+        if question[0] == "waits":
+            return timing.waits(self.circuit, question[1])
+        if question[0] in ("why", "path"):
+            return self.of_wires(question[1:2], lambda wires: getattr(questions, question[0])(self.circuit, *wires, *question[2:]))
+        if question[0] == "measure":
+            return self.of_wires(question[3:], lambda wires: timing.measure(self.circuit, *question[1:3], wires))
         return {"waves": formats.waves, "dump": formats.dump}[question[0]](self.circuit, self.levels)
+
+    def of_wires(self, names, answer):
+        """An answer about the wires of these names, by their numbers, if all stand."""
+        wires = [self.circuit.wire(name) for name in names]
+        return "refused 3 NoSuchWire\n" if None in wires else answer(wires)
 
     def shown(self, begin, end, names):
         if names and None in map(self.circuit.wire, names):
