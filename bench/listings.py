@@ -121,7 +121,7 @@ def compare_commands(run, wrong):
         wrong("docs/COMMANDS.md, Commands", sorted(documented), sorted(told))
     for name in sorted(told & {line.split()[0] for line in run("mpwb --help") if re.match(r"  [a-z]+  +[A-Z]", line)}):
         options = {match[1] for line in run(f"mpwb {name} --help") if (match := re.match(r"\s+(?:-\w, )?(--[a-z]+)", line))}
-        options -= {"--workers", "--least", "--help", "--at"}  # (what all have is said once, and `--at` beside its command)
+        options -= {"--workers", "--least", "--help", *(["--at"] if name == "desk" else [])}  # (what all have is said once, and `--at` beside `desk`)
         if options != documented[name]:
             wrong(f"docs/COMMANDS.md, {name}", sorted(documented[name]), sorted(options))
 
