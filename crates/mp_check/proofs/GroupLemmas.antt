@@ -1,12 +1,14 @@
 -- Groups of problems, problem by problem.
-use Rattle.std.proofs.Common.{◌≡◌, ℕ, ◌+◌, ◌*◌, ◌<◌, ◌≤◌, ◌==◌, ◌&&◌, ◌||◌, Bool, true, false, not, cond, nat_eq, List, [], ◌∷◌, ◌++◌, append-nil, length, length-append, map, max, filter, fold, Option, Some, None, refl, ap, ap₂, sym, ◌∙◌, arith}
+use Rattle.std.proofs.Common.{◌≡◌, ℕ, ◌+◌, ◌*◌, ◌<◌, ◌≤◌, ◌^◌, ◌==◌, ◌&&◌, ◌||◌, Bool, true, false, not, cond, nat_eq, List, [], ◌∷◌, ◌++◌, append-nil, length, length-append, get_or, IfSome, map, max, filter, fold, Option, Some, None, refl, ap, ap₂, sym, ◌∙◌, arith}
 use Rattle.std.specs.List.{AllByRecursion, list_any}
 use Rattle.std.specs.Map.{lookup}
 use Rattle.std.proofs.lemmas.Bool.Decides.{nat_tests}
 use Rattle.std.proofs.lemmas.Bool.{eqb-true, eq-eqb, ne_eqb}
 use Rattle.std.proofs.lemmas.List.{map-append}
-use Rattle.std.proofs.lemmas.List.Elements.{filter-append}
+use Rattle.std.proofs.lemmas.List.Elements.{All-map, filter-append}
+use Rattle.std.proofs.lemmas.List.Filters.{length-filter_both}
 use Rattle.std.proofs.lemmas.List.Sums.{fold-append}
+use Rattle.std.proofs.lemmas.Map.Entries.{All-lookup}
 use Rattle.std.proofs.lemmas.Map.Views.{any-filter_same}
 use Rattle.indexmap.specs.IndexMap.{insert_entry}
 use Rattle.mp_modules.specs.Findings.{code_number}
@@ -227,3 +229,15 @@ module _ (q : Problem) (problems : List Problem) where
       ∙ ap (λ (l : List (ℕ × Group)). map entry fs ++ l) (last_entry known refl)
       ∙ sym (map-append entry fs (cond known [] (q ∷ [])))
       ∙ ap (map entry) (sym (firsts_more is_alike problems q))
+
+-- ---- how many there are
+
+few : (problems : List Problem) (p : Problem) → (group_of problems p).count ≤ length problems
+few problems p = omega (arith, length-filter_both (is_alike p) (λ q. not (is_alike p q)) (λ q. refl) problems)
+
+-- so a group has room for one more
+pub room_left : (problems : List Problem) (q : Problem) → length problems + 1 < 2 ^ 64 → IfSome (lookup (nat_eq (key_of q)) (keyed_groups problems)) (λ (group : Group). group.count + 1 < 2 ^ 64)
+room_left problems q room =
+    All-lookup (λ (group : Group). group.count + 1 < 2 ^ 64) (nat_eq (key_of q)) (keyed_groups problems)
+    (All-map (λ (e : ℕ × Group). e.1.count + 1 < 2 ^ 64) (λ (p : Problem). (key_of p, group_of problems p)) (firsts is_alike problems)
+    (λ k d within. (let small = few problems (get_or (firsts is_alike problems) k d) in omega (arith, small, room))))
