@@ -203,22 +203,57 @@ class Check:
                 if self.levels[request][-1] != self.levels[acknowledge][-1]:
                     yield f"{name} is busy since {max(events(self.levels[request]), default=0)}"
 
-    # ---- all of it
+    # ---- what is selected
 
-    def wrong(self):
-        """The lines that aren't notes."""
-        yield from formats.report(self.netlist, self.levels, self.at_modules).splitlines()
-        for time, number, units in sorted(self.late()):
-            yield f"{time} bundle {self.netlist.bundles[number][0]} late {units}"
+    def selects(self, begin, end, names):
+        """A selection: whether a time is one of the range, and whether a module or bundle of this name is asked for."""
+        last = self.end + 1 if end is None else min(end, self.end + 1)
+        return lambda time: min(begin, self.end) <= time < last, lambda name: not names or name in names
+
+    def problems(self, begin=0, end=None, names=()):
+        """The lines of findings and late data that are selected, each as a list of its words."""
+        has_time, has_name = self.selects(begin, end, names)
+        lines = formats.report(self.netlist, self.levels, self.at_modules).splitlines()
+        lines += [f"{time} bundle {self.netlist.bundles[number][0]} late {units}" for time, number, units in sorted(self.late())]
+        words = [line.split() for line in lines]
+        return [found for found in words if has_time(int(found[0])) and has_name(found[2])]
+
+    def locked(self, names=()):
+        """The lines of the deadlocks in which a module with one of these names stands, or of all."""
         for waits in self.deadlocks():
             since = max(max(events(self.levels[wire]), default=0) for _, wire in waits)
-            told = ", ".join(f"{self.netlist.module_names[number]} waits for {self.netlist.wires[wire][0]}" for number, wire in waits)
-            yield f"{since} deadlock {told}"
+            told = [(self.netlist.module_names[number], self.netlist.wires[wire][0]) for number, wire in waits]
+            if not names or any(module in names for module, _ in told):
+                yield f"{since} deadlock " + ", ".join(f"{module} waits for {wire}" for module, wire in told)
+
+    def noted(self, names=()):
+        """The lines of the notes: with names those of bundles alone that have one of them."""
+        if not names:
+            yield from (f"note wire {note}" for note in self.notes())
+        yield from (f"note bundle {note}" for note in self.busy() if not names or note.split()[0] in names)
 
 
-def check(netlist):
+def brief(problems):
+    """A line for all of one module or bundle and one code, by the time of the first one."""
+    groups = {}
+    for time, *what in problems:
+        groups.setdefault(tuple(what[:3]), []).append((int(time), *map(int, what[3:])))
+    for (kind, name, code), found in sorted(groups.items(), key=lambda group: group[1][0][0]):
+        if len(found) == 1:
+            yield f"{kind} {name} {code} 1 time, at {found[0][0]}" + "".join(f", by {units}" for units in found[0][1:])
+        else:
+            worst = f", worst {max(units for _, units in found)}" if code == "late" else ""
+            yield f"{kind} {name} {code} {len(found)} times, first {found[0][0]}, last {found[-1][0]}{worst}"
+
+
+def check(netlist, begin=0, end=None, names=(), is_brief=False):
     """What `check` writes, and the status with which it ends."""
     of = Check(netlist)
-    wrong = list(of.wrong())
-    lines = wrong + [f"note wire {note}" for note in of.notes()] + [f"note bundle {note}" for note in of.busy()]
-    return "".join(f"{line}\n" for line in lines), 5 if wrong else 0
+    problems, locked = of.problems(begin, end, names), list(of.locked(names))
+    lines = list(brief(problems)) if is_brief else [" ".join(found) for found in problems]
+    return "".join(f"{line}\n" for line in [*lines, *locked, *of.noted(names)]), 5 if problems or locked else 0
+
+
+def report(netlist, begin=0, end=None, names=()):
+    """What `report` writes."""
+    return "".join(" ".join(found) + "\n" for found in Check(netlist).problems(begin, end, names) if found[3] != "late")
