@@ -130,24 +130,23 @@ class Keeper:
         if question[0] == "text":
             return formats.text(self.circuit)
         if question[0] == "report":
-            return checks.report(self.circuit, checks.Part(*question[1:]))
+            return checks.report(self.circuit, *question[1:])
         if question[0] == "check":
             brief = question[1:2] == ["brief"]
-            return checks.check(self.circuit, checks.Part(*question[2 if brief else 1 :]), brief)[0]
+            return checks.check(self.circuit, *question[2 if brief else 1 :], is_brief=brief)[0]
         if question[0] == "steady":
             return steadiness.steady(self.circuit)
         if question[0] == "waits":
             return timing.waits(self.circuit, question[1])
         if question[0] in ("why", "path"):
-            return self.of_wires(question[1:2], lambda wires: getattr(questions, question[0])(self.circuit, *wires, *question[2:]))
+            return self.of_wires(question[1:2], lambda: getattr(questions, question[0])(self.circuit, self.circuit.wire(question[1]), *question[2:]))
         if question[0] == "measure":
-            return self.of_wires(question[3:], lambda wires: timing.measure(self.circuit, *question[1:3], wires))
+            return self.of_wires(question[3:], lambda: timing.measure(self.circuit, *question[1:3], question[3:]))
         return {"waves": formats.waves, "dump": formats.dump}[question[0]](self.circuit, self.levels)
 
     def of_wires(self, names, answer):
-        """An answer about the wires of these names, by their numbers, if all stand."""
-        wires = [self.circuit.wire(name) for name in names]
-        return "refused 3 NoSuchWire\n" if None in wires else answer(wires)
+        """An answer about the wires of these names, if all stand."""
+        return "refused 3 NoSuchWire\n" if None in map(self.circuit.wire, names) else answer()
 
     def shown(self, begin, end, names):
         if names and None in map(self.circuit.wire, names):

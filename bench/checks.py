@@ -1,7 +1,5 @@
 """Whether a netlist works, computed once more in Python: late data by all that leads to a change, deadlocks by the greatest set of dead ports, and
-notes; all of it, or a part of it. Netlists are as in `reference.py`; the modules' names are `module_names`."""
-from dataclasses import dataclass
-
+notes. Netlists are as in `reference.py`; the modules' names are `module_names`."""
 import formats
 import reference
 from questions import Causes
@@ -15,26 +13,11 @@ def events(line):
     return [time for time in range(1, len(line)) if line[time] != line[time - 1]]
 
 
-@dataclass(frozen=True)
-class Part:
-    """The part of a check that is asked for: times from one to before another, and the names of modules and bundles, or none for all."""
-
-    begin: int = 0
-    end: int = 1 << 64
-    names: tuple = ()
-
-    def has_time(self, horizon, time):
-        return min(self.begin, horizon - 1) <= time < min(self.end, horizon)
-
-    def has_name(self, name):
-        return not self.names or name in self.names
-
-
 class Check:
-    """A netlist with its levels, and the part of its check that is asked for."""
+    """A netlist with its levels."""
 
-    def __init__(self, netlist, part=Part()):
-        self.netlist, self.part = netlist, part
+    def __init__(self, netlist):
+        self.netlist = netlist
         self.levels, self.states, self.at_modules = reference.evaluated(netlist)
         self.causes = Causes(netlist)
         self.ports = {
@@ -220,51 +203,57 @@ class Check:
                 if self.levels[request][-1] != self.levels[acknowledge][-1]:
                     yield f"{name} is busy since {max(events(self.levels[request]), default=0)}"
 
-    # ---- all that is asked for
+    # ---- what is selected
 
-    def found(self):
-        """The findings, and then the late data, each with its time, sort, name and code, and the units of late data."""
-        late = [(time, "bundle", self.netlist.bundles[number][0], "late", units) for time, number, units in sorted(self.late())]
-        for found in [*formats.found_lines(self.netlist, self.levels, self.at_modules), *late]:
-            if self.part.has_time(self.netlist.horizon, found[0]) and self.part.has_name(found[2]):
-                yield found
+    def selects(self, begin, end, names):
+        """A selection: whether a time is one of the range, and whether a module or bundle of this name is asked for."""
+        last = self.end + 1 if end is None else min(end, self.end + 1)
+        return lambda time: min(begin, self.end) <= time < last, lambda name: not names or name in names
 
-    def groups(self):
-        """The line of each group of them, by the time of its first one."""
-        groups = {}
-        for time, sort, name, code, *units in self.found():
-            groups.setdefault(f"{sort} {name} {code}", []).append((time, *units))
-        for group, met in sorted(groups.items(), key=lambda each: each[1][0][0]):
-            units = [late for _, *late in met if late]
-            worst = max(units)[0] if units else None
-            if len(met) == 1:
-                yield f"{group} 1 time, at {met[0][0]}" + (f", by {worst}" if units else "")
-            else:
-                yield f"{group} {len(met)} times, first {met[0][0]}, last {met[-1][0]}" + (f", worst {worst}" if units else "")
+    def problems(self, begin=0, end=None, names=()):
+        """The lines of findings and late data that are selected, each as a list of its words."""
+        has_time, has_name = self.selects(begin, end, names)
+        lines = formats.report(self.netlist, self.levels, self.at_modules).splitlines()
+        lines += [f"{time} bundle {self.netlist.bundles[number][0]} late {units}" for time, number, units in sorted(self.late())]
+        words = [line.split() for line in lines]
+        return [found for found in words if has_time(int(found[0])) and has_name(found[2])]
 
-    def stopped(self):
-        """The lines of deadlocks."""
+    def locked(self, names=()):
+        """The lines of the deadlocks in which a module with one of these names stands, or of all."""
         for waits in self.deadlocks():
-            if any(self.part.has_name(self.netlist.module_names[number]) for number, _ in waits):
-                since = max(max(events(self.levels[wire]), default=0) for _, wire in waits)
-                told = ", ".join(f"{self.netlist.module_names[number]} waits for {self.netlist.wires[wire][0]}" for number, wire in waits)
-                yield f"{since} deadlock {told}"
+            since = max(max(events(self.levels[wire]), default=0) for _, wire in waits)
+            told = [(self.netlist.module_names[number], self.netlist.wires[wire][0]) for number, wire in waits]
+            if not names or any(module in names for module, _ in told):
+                yield f"{since} deadlock " + ", ".join(f"{module} waits for {wire}" for module, wire in told)
 
-    def noted(self):
-        """The lines of notes."""
-        if not self.part.names:
+    def noted(self, names=()):
+        """The lines of the notes: with names those of bundles alone that have one of them."""
+        if not names:
             yield from (f"note wire {note}" for note in self.notes())
-        yield from (f"note bundle {note}" for note in self.busy() if self.part.has_name(note.split()[0]))
+        yield from (f"note bundle {note}" for note in self.busy() if not names or note.split()[0] in names)
 
 
-def check(netlist, part=Part(), brief=False):
+def brief(problems):
+    """A line for all of one module or bundle and one code, by the time of the first one."""
+    groups = {}
+    for time, *what in problems:
+        groups.setdefault(tuple(what[:3]), []).append((int(time), *map(int, what[3:])))
+    for (kind, name, code), found in sorted(groups.items(), key=lambda group: group[1][0][0]):
+        if len(found) == 1:
+            yield f"{kind} {name} {code} 1 time, at {found[0][0]}" + "".join(f", by {units}" for units in found[0][1:])
+        else:
+            worst = f", worst {max(units for _, units in found)}" if code == "late" else ""
+            yield f"{kind} {name} {code} {len(found)} times, first {found[0][0]}, last {found[-1][0]}{worst}"
+
+
+def check(netlist, begin=0, end=None, names=(), is_brief=False):
     """What `check` writes, and the status with which it ends."""
-    of = Check(netlist, part)
-    lines = of.groups() if brief else (" ".join(map(str, found)) for found in of.found())
-    wrong = [*lines, *of.stopped()]
-    return "".join(f"{line}\n" for line in [*wrong, *of.noted()]), 5 if wrong else 0
+    of = Check(netlist)
+    problems, locked = of.problems(begin, end, names), list(of.locked(names))
+    lines = list(brief(problems)) if is_brief else [" ".join(found) for found in problems]
+    return "".join(f"{line}\n" for line in [*lines, *locked, *of.noted(names)]), 5 if problems or locked else 0
 
 
-def report(netlist, part=Part()):
+def report(netlist, begin=0, end=None, names=()):
     """What `report` writes."""
-    return "".join(f"{' '.join(map(str, found))}\n" for found in Check(netlist, part).found() if found[3] != "late")
+    return "".join(" ".join(found) + "\n" for found in Check(netlist).problems(begin, end, names) if found[3] != "late")

@@ -14,15 +14,11 @@ def waves(netlist, levels):
     return "".join(f"{wave_line(wire, line)}\n" for wire, line in zip(netlist.wires, levels) if wire)
 
 
-def found_lines(netlist, levels, at_modules):
-    """The time of each finding, its module or bundle by sort and name, and its code, from what is found at modules."""
-    name = {"module": lambda n: netlist.module_names[n], "bundle": lambda n: netlist.bundles[n][0]}
-    return [(time, sort, name[sort](number), code) for time, sort, number, code in reference.findings(netlist, levels, at_modules)]
-
-
 def report(netlist, levels, at_modules):
     """What `mpwb report` writes, from what is found at modules."""
-    return "".join(f"{time} {sort} {name} {code}\n" for time, sort, name, code in found_lines(netlist, levels, at_modules))
+    name = {"module": lambda n: netlist.module_names[n], "bundle": lambda n: netlist.bundles[n][0]}
+    found = reference.findings(netlist, levels, at_modules)
+    return "".join(f"{time} {sort} {name[sort](number)} {code}\n" for time, sort, number, code in found)
 
 
 def code_of(number):

@@ -74,19 +74,19 @@ def why(netlist, wire, time, steps=20):
 
 
 def path(netlist, wire, time, since=0):
-    """What `path` writes for a wire by number, of the part of the chain above a time."""
+    """What `path` writes for a wire by number, above a time."""
+    since = min(since, netlist.horizon - 1)
     units, steps = Counter(), Counter()
-    since = begin = min(since, netlist.horizon - 1)
+    begin = since
     for (_, at), driver, events in Causes(netlist).chain(wire, time):
         before = events[0][0][1] if events else 0
         begin = before if driver else at
         if driver and at > since:
             units[driver[0]] += at - max(before, since)
             steps[driver[0]] += 1
-    order = sorted(units, key=lambda number: (-units[number], number))
-    lines = [f"{netlist.module_names[number]} {units[number]} {steps[number]}" for number in order]
-    lines += [f"- {since} {since - begin}"] if begin < since else []
-    return "".join(f"{line}\n" for line in lines)
+    order = sorted(steps, key=lambda number: (-units[number], number))
+    lines = [f"{netlist.module_names[number]} {units[number]} {steps[number]}\n" for number in order]
+    return "".join(lines + [f"- {since} {since - begin}\n"] * (begin < since))
 
 
 def main():

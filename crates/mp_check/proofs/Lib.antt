@@ -4,6 +4,9 @@ pub mod ReadLemmas
 pub mod LineLemmas
 pub mod PortLemmas
 pub mod NoteLemmas
+pub mod GroupLemmas
+pub mod ProblemLemmas
+pub mod SelectedLemmas
 pub mod CheckLemmas
 pub mod StillLemmas
 pub mod QuietLemmas

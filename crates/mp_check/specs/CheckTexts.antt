@@ -1,6 +1,6 @@
 -- What is written of a selection.
-use Rattle.std.specs.Prelude.{ℕ, Bool, not, ◌&&◌, List, [], ◌++◌, filter, length, if◌then◌else◌}
-use Rattle.std.specs.List.{flat_map, range_with_len}
+use Rattle.std.specs.Prelude.{ℕ, Bool, ◌||◌, List, [], ◌++◌, filter, length, if◌then◌else◌}
+use Rattle.std.specs.List.{flat_map, list_any, range_with_len}
 use Rattle.mp_netlist.specs.Circuit.{Circuit}
 use Rattle.mp_model.specs.Findings.{findings}
 use Rattle.mp_model.specs.declared.finding.Finding.{Finding}
@@ -45,6 +45,4 @@ check_text n s brief = problem_lines n s brief ++ (selected_deadlocks n s ++ sel
 
 -- more than notes is written
 abbrev pub is_wrong : Circuit → Selected → Bool
-is_wrong n s =
-    not (has_none (filter (keeps_finding n s) (findings n)) && has_none (filter (keeps_late n s) (all_late n))
-    && has_none (filter (keeps_deadlock n s) (deadlocks n)))
+is_wrong n s = (list_any (keeps_finding n s) (findings n) || list_any (keeps_late n s) (all_late n)) || list_any (keeps_deadlock n s) (deadlocks n)

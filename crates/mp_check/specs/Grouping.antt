@@ -1,7 +1,8 @@
 -- Groups of problems that are made problem by problem.
-use Rattle.std.specs.Prelude.{ℕ, ◌×◌, ◌+◌, List, Option, Some, None, map, max}
+use Rattle.std.specs.Prelude.{ℕ, ◌+◌, List, Option, Some, None, map, max}
+use Rattle.mp_questions.specs.Once.{firsts}
 use Rattle.mp_check.specs.Keys.{key_of}
-use Rattle.mp_check.specs.Problems.{groups, time_of, units_of}
+use Rattle.mp_check.specs.Problems.{group_of, is_alike, time_of, units_of}
 use Rattle.mp_check.specs.declared.group.Group.{Group}
 use Rattle.mp_check.specs.declared.problem.Problem.{Problem}
 
@@ -18,10 +19,6 @@ abbrev pub joined_to : Option Group → Problem → Group
 joined_to None p = alone p
 joined_to (Some g) p = joined g p
 
--- a group under the key of its problems
-abbrev pub keyed : Group → ℕ × Group
-keyed g = (key_of g.first, g)
-
--- the groups of some problems, in their order, each under its key
+-- the groups of some problems, in their order, each under the key of its problems
 abbrev pub keyed_groups : List Problem → List (ℕ × Group)
-keyed_groups problems = map keyed (groups problems)
+keyed_groups problems = map (λ first. (key_of first, group_of problems first)) (firsts is_alike problems)

@@ -15,4 +15,5 @@ pub mod Keys
 pub mod Grouping
 pub mod Briefs
 pub mod CheckTexts
+pub mod CheckLaws
 pub mod Checks

@@ -95,11 +95,7 @@ fn grouped(alloc: Global, problems: &[Problem]) -> Result<Vec<Group>, AllocError
     ensures { IfOk result (λ found. found.items ≡ groups problems.now) }
 {
     let keyed = keyed_groups(alloc, problems)?;
-    let mut groups = Vec::with_capacity(alloc, keyed.len())?;
-    for group in keyed.values() {
-        groups.push(*group)?;
-    }
-    Ok(groups)
+    keyed.values().copied().collect(alloc)
 }
 
 /// The groups of some problems, each under its key, in the order of their first ones.

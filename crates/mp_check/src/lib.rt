@@ -15,6 +15,7 @@ mod deadlocks;
 mod group;
 mod grouping;
 mod held_memory;
+pub mod laws;
 mod lines;
 mod module_end;
 mod names;

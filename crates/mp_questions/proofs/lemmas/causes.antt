@@ -2,4 +2,5 @@ pub mod EventLemmas
 pub mod ChainLemmas
 pub mod OrderLemmas
 pub mod ShareLemmas
+pub mod AboveLemmas
 pub mod WhyLemmas

@@ -9,7 +9,7 @@ ghost use Rattle.mp_questions.specs.causes.Paths.{before_line, path_since, path_
 use crate::causes::levels::Levels;
 use crate::causes::module_share::ModuleShare;
 use crate::causes::moment::Moment;
-use crate::causes::shares::{ChainShares, by_units, shares_above};
+use crate::causes::shares::{by_units, shares_above};
 use crate::causes::tracer::Tracer;
 use crate::timing::read_time;
 use mp_model::Waves;
@@ -34,6 +34,8 @@ pub fn put_path<S: Sink>(
     requires { AreWavesOf netlist.now waves.now }
     ensures { Writes result out.old out.new (path_text netlist.now moment) }
 {
+    // Its contract says that the netlist is well formed.
+    let _horizon = netlist.horizon();
     put_path_since(alloc, out, netlist, waves, moment, 0)
 }
 
@@ -57,11 +59,12 @@ pub fn put_path_since<S: Sink>(
     let Some(last) = levels.last_change(moment) else {
         return Ok(());
     };
-    let from = read_time(netlist.horizon(), from);
+    let since = read_time(netlist.horizon(), from);
     let mut tracer = Tracer::new(alloc, levels)?;
-    let ChainShares { shares, begin } = shares_above(alloc, &mut tracer, last, from)?;
-    let shares = by_units(shares);
-    put_above(out, netlist, shares.as_slice(), from, begin)?;
+    let found = shares_above(alloc, &mut tracer, last, since)?;
+    let begin = found.begin;
+    let shares = by_units(found.shares);
+    put_above(out, netlist, shares.as_slice(), since, begin)?;
     Ok(())
 }
 

@@ -71,40 +71,6 @@ noted_more n all left c m s of = by (is_step_in n m c) refl
         let none : steps_in n m (c ∷ left) ≡ steps_in n m left = rw is refl in
         record { id = of.id; units = ap (λ cs. s.units + sum_by (units_of n) cs) (sym none) ∙ of.units; steps = ap (λ cs. s.steps + length cs) (sym none) ∙ of.steps }
 
--- the numbers of a share are no greater than the time of its chain
-pub share_room : (n : Circuit) → IsCircuit n → (last : WireChange) (left : List WireChange) (c : WireChange) (m : ℕ) (s : ModuleShare) → 0 < last.time → last.time < 2 ^ 31 → is_step_in n m c ≡ true
-    → IsShareOf n (rest n (Some last)) (c ∷ left) m s → HasRoom (units_of n c) s
-share_room n ok last left c m s from low is of =
-    let all = rest n (Some last) in
-    let more = noted_more n all left c m s of in
-    let kept : noted (is_step_in n m c) (units_of n c) s ≡ with_step (units_of n c) s = ap (λ b. noted b (units_of n c) s) is in
-    let now : IsShareOf n all left m (with_step (units_of n c) s) = subst (IsShareOf n all left m) kept more in
-    let a = units_in n m all in
-    let b = units_bound n ok last.time (Some last) from in
-    let d = steps_few n m all in
-    let e = steps_bound n ok last.time (Some last) from in
-    record { units = omega (arith, now.units, a, b, low); steps = omega (arith, now.steps, d, e, low) }
-
--- what is left before a step, and the step's units
-module _ (n : Circuit) (ok : IsCircuit n) (change : WireChange) (now next : Option WireChange) (o : Option DrivingPort) (t : ℕ) (is : now ≡ Some change) (from : 0 < change.time)
-    (goes : followed (cause_of n change) ≡ next) (port : o ≡ port_of (cause_of n change)) (time : t ≡ time_of next) where
-  left_is : rest n now ≡ change ∷ rest n next
-  left_is = ap (rest n) is ∙ rest_step n ok change from ∙ ap (λ f. change ∷ rest n f) goes
-
-  units_are : units_of n change ≡ change.time - t
-  units_are = ap (λ f. change.time - time_of f) goes ∙ ap (λ u. change.time - u) (sym time)
-
-  pub step_noted : (all : List WireChange) (m : ℕ) (s : ModuleShare) → IsShareOf n all (rest n now) m s → IsShareOf n all (rest n next) m (noted (is_port_of m o) (change.time - t) s)
-  step_noted all m s of =
-      subst (IsShareOf n all (rest n next) m)
-      (ap (λ b. noted b (units_of n change) s) (ap (is_port_of m) (sym port)) ∙ ap (λ u. noted (is_port_of m o) u s) units_are)
-      (noted_more n all (rest n next) change m s (subst (λ l. IsShareOf n all l m s) left_is of))
-
-  pub step_room : (last : WireChange) (m : ℕ) (s : ModuleShare) → 0 < last.time → last.time < 2 ^ 31 → is_port_of m o ≡ true → IsShareOf n (rest n (Some last)) (rest n now) m s → HasRoom (change.time - t) s
-  step_room last m s some low here of =
-      subst (λ u. HasRoom u s) units_are
-      (share_room n ok last (rest n next) change m s some low (ap (is_port_of m) (sym port) ∙ here) (subst (λ l. IsShareOf n (rest n (Some last)) l m s) left_is of))
-
 -- when all is noted, these are the shares
 pub shares_are : (n : Circuit) (all : List WireChange) (list : List ModuleShare) → length list ≡ length n.modules
     → ((m : ℕ) (d : ModuleShare) → m < length n.modules → IsShareOf n all [] m (get_or list m d)) → list ≡ shares n all
@@ -284,22 +250,6 @@ adds_up n ok moment c is =
     let total : begin_of n changes + sum_by (ported n) changes ≡ c.time
     = subst (λ cs. begin_of n cs + sum_by (ported n) cs ≡ c.time) (sym (chain_is n ok moment.wire t (Some c) is)) (chain_sum n ok c.time c last.from (omega arith)) in
     ap (λ k. begin_of n changes + k) sum ∙ total
-
--- ---- the path of a chain
-
-none_kept : (n : Circuit) (a k : ℕ) → filter has_steps (map (share n []) (range_with_len a k)) ≡ []
-none_kept n a zero = refl
-none_kept n a (suc k) = none_kept n (a + 1) k
-
-pub no_path : (n : Circuit) → IsCircuit n → (moment : Moment) → None ≡ last_change n moment.wire (read_time n.horizon moment.time) → path n moment ≡ []
-unfolding path
-no_path n ok moment none =
-    ap (λ cs. by_units (filter has_steps (shares n cs))) (chain_is n ok moment.wire (read_time n.horizon moment.time) None (sym none)) ∙ ap by_units (none_kept n 0 (length n.modules))
-
-pub path_is : (n : Circuit) → IsCircuit n → (moment : Moment) (c : WireChange) → Some c ≡ last_change n moment.wire (read_time n.horizon moment.time)
-    → path n moment ≡ by_units (filter has_steps (shares n (chain_from n c.time (Some c))))
-unfolding path
-path_is n ok moment c some = ap (λ cs. by_units (filter has_steps (shares n cs))) (chain_is n ok moment.wire (read_time n.horizon moment.time) (Some c) (sym some))
 
 -- ---- changes that are noted one by one
 
