@@ -11,7 +11,10 @@ use clap::{ArgMatches, Error};
 use std::alloc::{AllocError, Global};
 
 /// The options of a timing diagram.
-pub(crate) fn picture_words<'a>(alloc: Global, found: &ArgMatches<'a>) -> Result<PictureWords<'a>, Error>
+pub(crate) fn picture_words<'a>(
+    alloc: Global,
+    found: &ArgMatches<'a>,
+) -> Result<PictureWords<'a>, Error>
     ensures { IfOk result (λ words. IsTrue (is_label words.unit.now)) }
 {
     let unit = unit(alloc, found)?;
