@@ -7,6 +7,7 @@ pub mod NoteLemmas
 pub mod CheckLemmas
 pub mod StillLemmas
 pub mod QuietLemmas
+pub mod KeptLevelLemmas
 pub mod StateLemmas
 pub mod NeedLemmas
 pub mod DeadLemmas
