@@ -44,7 +44,7 @@ told_alike kinds.Call params width told s t x same = let no : ⊥ = cc in absurd
 told_alike kinds.Arbiter params width told s t x same = let no : ⊥ = cc in absurd no
 
 -- of these kinds a REG alone has a further output
-only_reg : (kind : Kind) (p : ℕ) → is_told_by_output kind ≡ true → 0 < p → p < output_count kind → kind ≡ kinds.Reg
+pub only_reg : (kind : Kind) (p : ℕ) → is_told_by_output kind ≡ true → 0 < p → p < output_count kind → kind ≡ kinds.Reg
 only_reg kinds.Reg p told some low = refl
 only_reg kinds.Buf p told some low = absurd (omega (arith, some, low))
 only_reg kinds.Not p told some low = absurd (omega (arith, some, low))
