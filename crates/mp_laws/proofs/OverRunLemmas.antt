@@ -194,8 +194,7 @@ module _ (n : Circuit) (ok : IsCircuit n) (over : is_over n ≡ true) where
           let here : delay_at n (port_number m p) ≡ delay_of r p =
           ap (λ k. port_delay (module_at n k) (port_number m p % port_numbers)) first ∙ ap (port_delay (module_at n m)) second ∙ ap (λ slot. port_delay slot p) found.stands
           ∙ ap (λ b. cond b (delay_of r p) 0) (ap is_some found.output) in
-          let known = each_below (delay_at n) (port_slots n) (port_number m p) low in
-          omega (arith, here, known)
+          subst (λ (k : ℕ). k ≤ longest_delay n) here (each_below (delay_at n) (port_slots n) (port_number m p) low)
 
       inputs_short : greatest (map (λ (i : Input). i.delay) (depends_on r.kind p r.inputs)) ≤ longest_input_delay n
       inputs_short =
@@ -203,8 +202,7 @@ module _ (n : Circuit) (ok : IsCircuit n) (over : is_over n ≡ true) where
           let here : input_delay_at n (port_number m p) ≡ all =
           ap (λ k. port_input_delay (module_at n k) (port_number m p % port_numbers)) first ∙ ap (port_input_delay (module_at n m)) second
           ∙ ap (λ slot. port_input_delay slot p) found.stands ∙ ap (λ b. cond b all 0) (ap is_some found.output) in
-          let known = each_below (input_delay_at n) (port_slots n) (port_number m p) low in
-          subst (λ k. k ≤ longest_input_delay n) here known
+          subst (λ (k : ℕ). k ≤ longest_input_delay n) here (each_below (input_delay_at n) (port_slots n) (port_number m p) low)
 
       -- the output stays, since the module's state does
       by_state : depends_on r.kind p r.inputs ≡ r.inputs → (from u : ℕ) → all_hear ≤ from → from ≤ u → u < t → output_of (state n m u) p ≡ output_of (state n m from) p
