@@ -12,3 +12,4 @@ pub mod LateDataLemmas
 pub mod ReadLemmas
 pub mod CycleLemmas
 pub mod ForEverLemmas
+pub mod OverRunLemmas

@@ -9,3 +9,4 @@ pub mod Windows
 pub mod Stimuli
 pub mod LateData
 pub mod ForEver
+pub mod OverRuns

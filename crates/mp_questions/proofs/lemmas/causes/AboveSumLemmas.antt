@@ -26,8 +26,10 @@ module _ (n : Circuit) (from : ℕ) where
   steps_same [] m = refl
   steps_same (c ∷ changes) m = by (nat_lt from c.time) refl (is_step_in n m c)
     where
-      above later : List WireChange
+      above : List WireChange
       above = steps_above n from m changes
+
+      later : List WireChange
       later = steps_in n m changes
 
       by : (a : Bool) → nat_lt from c.time ≡ a → (b : Bool) → sum_by u (cond (a && b) (c ∷ above) above) ≡ sum_by u (cond b (c ∷ later) later)
