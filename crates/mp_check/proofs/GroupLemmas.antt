@@ -100,7 +100,7 @@ module _ (q : Problem) where
       let count : length (group ++ q ∷ []) ≡ length group + 1 = length-append group (q ∷ []) in
       let last : last_time (group ++ q ∷ []) ≡ time_of q = fold-append (λ (before : ℕ) (r : Problem). time_of r) 0 group (q ∷ []) in
       let worst : most_units (group ++ q ∷ []) ≡ max (most_units group) (units_of q) =
-          ap (fold max 0) (map-append units_of group (q ∷ [])) ∙ fold-append max 0 (map units_of group) (units_of q ∷ []) in
+      ap (fold max 0) (map-append units_of group (q ∷ [])) ∙ fold-append max 0 (map units_of group) (units_of q ∷ []) in
       ap (λ (k : ℕ). let g : Group = record { first = p; count = k; last = last_time (group ++ q ∷ []); worst = most_units (group ++ q ∷ []) } in g) count
       ∙ ap (λ (t : ℕ). let g : Group = record { first = p; count = length group + 1; last = t; worst = most_units (group ++ q ∷ []) } in g) last
       ∙ ap (λ (u : ℕ). let g : Group = record { first = p; count = length group + 1; last = time_of q; worst = u } in g) worst

@@ -10,6 +10,7 @@ pub mod SelectedLemmas
 pub mod CheckLemmas
 pub mod StillLemmas
 pub mod QuietLemmas
+pub mod KeptLevelLemmas
 pub mod StateLemmas
 pub mod NeedLemmas
 pub mod DeadLemmas

@@ -61,11 +61,6 @@ module _ (n : Circuit) (ok : IsCircuit n) (m : ℕ) (r : ModuleRecord) (at : mod
       le-leb (since (given n m p) (last_unit n)) after
       (still_since (given n m p) (last_unit n) after (λ s from upto. ap (λ (x : Memory). output_of x p) (state_still s from upto)))
 
-  pub quiet_by_inputs : (p delay : ℕ) → after ≡ last_unit n - delay → delay ≤ last_unit n → true ≡ is_quiet n m p delay
-  quiet_by_inputs p delay is short =
-      let still : is_still n (given n m p) (last_unit n - delay) ≡ true = subst (λ t. is_still n (given n m p) t ≡ true) is (outputs_still p) in
-      sym (ap (λ b. b && is_still n (given n m p) (last_unit n - delay)) (le-leb delay (last_unit n) short) ∙ still)
-
 module _ (n : Circuit) (m p delay : ℕ) where
   pub not_quiet : last_unit n < delay → false ≡ is_quiet n m p delay
   not_quiet long = sym (ap (λ b. b && is_still n (given n m p) (last_unit n - delay)) (lt-gtb delay (last_unit n) long))
@@ -77,10 +72,8 @@ module _ (n : Circuit) (m p delay : ℕ) where
           by true is = let low = leb-true a b is in absurd (omega (arith, low, less))
           by false is = refl
 
-  pub quiet_by_mark : (mark t : ℕ) → mark ≡ since (given n m p) (last_unit n) → t ≡ last_unit n - delay → delay ≤ last_unit n → nat_le mark t ≡ is_quiet n m p delay
-  quiet_by_mark mark t is at short =
-      ap (λ s. nat_le s t) is ∙ ap (nat_le (since (given n m p) (last_unit n))) at
-      ∙ sym (ap (λ b. b && is_still n (given n m p) (last_unit n - delay)) (le-leb delay (last_unit n) short))
+  pub quiet_by_still : delay ≤ last_unit n → is_still n (given n m p) (last_unit n - delay) ≡ is_quiet n m p delay
+  quiet_by_still short = sym (ap (λ b. b && is_still n (given n m p) (last_unit n - delay)) (le-leb delay (last_unit n) short))
 
 -- since when an output of a module is what it is
 pub mark_is : (n : Circuit) (m : ℕ) (r : ModuleRecord) (t : ℕ) (w : ClientWatch) → IsWatch n m r t w → (p : ℕ) → p < 3 → mark_of w.marks p ≡ since (given n m p) t

@@ -89,6 +89,16 @@ module _ (n : Circuit) (ok : IsCircuit n) (m : ℕ) (r : ModuleRecord) (at : mod
       ap (λ (l : List ℕ). slice_index l q) (state_inputs t) ∙ padded (inputs_by n (level n) r t) q low
       ∙ get_or_past (inputs_by n (level n) r t) q 0 (let same = length-map r.inputs (λ (j : Input). input_by n (level n) j t) in omega (arith, same, past))
 
+  -- the level of a wire tells what its port gave before the delay
+  pub wire_tells : (p : ℕ) (v : WireId) → (output_at r p).wire ≡ Some v → delay_of r p ≤ last_unit n → level n v.0 (last_unit n) ≡ given n m p (last_unit n - delay_of r p)
+  wire_tells p v on short =
+      let d = delay_of r p in
+      let end = last_unit n in
+      let back : end - d + d ≡ end = omega (arith, short) in
+      let drives : Drives n m p v.0 = record { part = r; stands = at; output = on } in
+      let driven : driver n v.0 ≡ Port (record { 0 = m }) p = finds_ports n ok m p v.0 drives in
+      ap (level n v.0) (sym back) ∙ port_level_is n ok m p v.0 (end - d) r at driven
+
   -- what a quiet port gives is the level of its wire
   pub quiet_level : (p : ℕ) (v : WireId) → (output_at r p).wire ≡ Some v → is_quiet n m p (delay_of r p) ≡ true → level n v.0 (last_unit n) ≡ given n m p (last_unit n)
   quiet_level p v on quiet =
@@ -97,7 +107,4 @@ module _ (n : Circuit) (ok : IsCircuit n) (m : ℕ) (r : ModuleRecord) (at : mod
       let parts = and_parts (nat_le d end) (is_still n (given n m p) (end - d)) quiet in
       let short : d ≤ end = leb-true d end parts.0 in
       let still : since (given n m p) end ≤ end - d = leb-true (since (given n m p) end) (end - d) parts.1 in
-      let back : end - d + d ≡ end = omega (arith, short) in
-      let drives : Drives n m p v.0 = record { part = r; stands = at; output = on } in
-      let driven : driver n v.0 ≡ Port (record { 0 = m }) p = finds_ports n ok m p v.0 drives in
-      ap (level n v.0) (sym back) ∙ port_level_is n ok m p v.0 (end - d) r at driven ∙ since_still (given n m p) end (end - d) (end - d) still (omega arith) (omega arith)
+      wire_tells p v on short ∙ since_still (given n m p) end (end - d) (end - d) still (omega arith) (omega arith)

@@ -1,6 +1,8 @@
 -- How it is found that an output is quiet.
-use Rattle.std.specs.Prelude.{ℕ, Bool, List, zero, suc}
+use Rattle.std.specs.Prelude.{ℕ, Bool, true, false, List, zero, suc}
 use Rattle.std.specs.List.{list_all}
+use Rattle.mp_modules.specs.declared.kind.Kind.{Kind}
+use Rattle.mp_modules.specs.declared.kind.Kind.TheVariants as kinds
 use Rattle.mp_records.specs.declared.ports.Input.{Input}
 use Rattle.mp_netlist.specs.Circuit.{Circuit}
 use Rattle.mp_model.specs.Levels.{input_by}
@@ -17,3 +19,11 @@ abbrev pub mark_of : Marks → ℕ → ℕ
 mark_of marks zero = marks.first_output
 mark_of marks (suc zero) = marks.second_output
 mark_of marks (suc (suc p)) = marks.third_output
+
+-- the next state follows from the level of the first output and from the inputs
+abbrev pub is_told_by_output : Kind → Bool
+is_told_by_output kinds.Toggle = false
+is_told_by_output kinds.Select = false
+is_told_by_output kinds.Call = false
+is_told_by_output kinds.Arbiter = false
+is_told_by_output kind = true

@@ -65,9 +65,7 @@ fn has_late(late: &[Late], netlist: &Netlist, selection: Selection<'_>) -> bool
 fn has_deadlock(deadlocks: &[Deadlock], netlist: &Netlist, selection: Selection<'_>) -> bool
     ensures { result ≡ list_any (keeps_deadlock netlist.now (selected selection)) deadlocks.now }
 {
-    deadlocks
-        .iter()
-        .any(|deadlock| selection.keeps_deadlock(netlist, deadlock.waits()))
+    deadlocks.iter().any(|deadlock| selection.keeps_deadlock(netlist, deadlock.waits()))
 }
 
 /// Checks a netlist, given its waves up to the horizon. At most `workers` threads do it, the calling one included; with 1 none is started. The error

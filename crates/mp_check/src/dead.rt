@@ -67,10 +67,9 @@ fn port_needs(of: &ModuleEnd<'_>, port: u32) -> Needs
 {
     // Its contract says that the netlist is well formed.
     let _horizon = of.end.at.netlist.horizon();
-    let output = output_at(of.part, port);
-    match output.wire {
+    match output_at(of.part, port).wire {
         Some(wire) => {
-            if is_quiet(of, port, output.delay) {
+            if is_quiet(of, port, wire) {
                 return held_needs(of, port, given_level(of, port, wire));
             }
             NEVER

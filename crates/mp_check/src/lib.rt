@@ -2,7 +2,8 @@
 //!
 //! `check` collects the findings of a netlist, late data, and deadlocks: ports that wait for each other's wires for ever. `put_check` writes these
 //! and the notes on wires and bundles, as far as they are selected, each in a line or in brief. Begin with `specs/CheckTexts.antt`, which says what is
-//! written; `waiting` has what a port waits for, and `rounds` how the ports that wait in a circle are found.
+//! written. `dead` has which ports never change their wires again, `waiting` which of these wait for each other, `rounds` how those that wait in a circle
+//! are found, and `over` whether anything still changes.
 #![tactic(auto)]
 
 mod awaited;

@@ -16,7 +16,11 @@ use mp_streams::{Failed, Out, Sink, Text};
 use mp_text::wire_name;
 
 /// Writes the line of late data.
-pub(crate) fn put_late<S: Sink>(out: &mut Out<S>, netlist: &Netlist, late: Late) -> Result<(), Failed>
+pub(crate) fn put_late<S: Sink>(
+    out: &mut Out<S>,
+    netlist: &Netlist,
+    late: Late,
+) -> Result<(), Failed>
     ensures { Writes result out.old out.new (late_line netlist.now late) }
 {
     match netlist.bundle(late.bundle) {
@@ -29,7 +33,11 @@ pub(crate) fn put_late<S: Sink>(out: &mut Out<S>, netlist: &Netlist, late: Late)
 }
 
 /// Writes the line of a deadlock.
-pub(crate) fn put_deadlock<S: Sink>(out: &mut Out<S>, end: &RunEnd<'_>, waits: &[Wait]) -> Result<(), Failed>
+pub(crate) fn put_deadlock<S: Sink>(
+    out: &mut Out<S>,
+    end: &RunEnd<'_>,
+    waits: &[Wait],
+) -> Result<(), Failed>
     ensures { Writes result out.old out.new (deadlock_line end.now.at.netlist.now waits.now) }
 {
     (stands_since(end, waits), " deadlock ").put_to(out)?;

@@ -1,6 +1,12 @@
 //! Findings and late data.
+ghost use Rattle.std.specs.Prelude.{◌≡◌, ◌<◌, ◌^◌};
+ghost use Rattle.mp_check.specs.Keys.{place_key};
+
 use mp_model::{Finding, Place};
 use mp_questions::Late;
+
+/// How many keys a place has: more than the greatest number of a code.
+const KEYS: u64 = 16;
 
 /// What a line of a check says of a module or a bundle at a time.
 #[derive(Clone, Copy)]
@@ -67,12 +73,6 @@ impl Problem {
         }
     }
 }
-
-/// How many keys a place has: more than the greatest number of a code.
-const KEYS: u64 = 16;
-
-ghost use Rattle.std.specs.Prelude.{◌≡◌, ◌<◌, ◌^◌};
-ghost use Rattle.mp_check.specs.Keys.{place_key};
 
 /// A number of its own for each module and each bundle.
 fn place_key(place: Place) -> u64

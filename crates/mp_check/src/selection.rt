@@ -33,7 +33,8 @@ impl<'a> Selection<'a> {
     pub(crate) fn keeps_finding(self, netlist: &Netlist, finding: Finding) -> bool
         ensures { result ≡ keeps_finding netlist.now (selected self) finding }
     {
-        self.keeps_time(netlist, finding.time) && self.keeps_name(place_name(netlist, finding.place))
+        self.keeps_time(netlist, finding.time)
+            && self.keeps_name(place_name(netlist, finding.place))
     }
 
     pub(crate) fn keeps_late(self, netlist: &Netlist, late: Late) -> bool

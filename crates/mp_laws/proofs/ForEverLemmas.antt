@@ -73,7 +73,7 @@ module _ (n : Circuit) (ok : IsCircuit n) (m : ℕ) (r : ModuleRecord) (at : mod
         subst (λ (k : Memory). HasSet (holding_sets r.kind r.params k p) set) (sym next) stays.holds,
       )
 
-  held_on : (first last : ℕ) → Held first → ((u : ℕ) → first ≤ u → u < last → AreSame set (heard_at u) (heard_at (suc u))) → (u : ℕ) → first ≤ u → u ≤ last
+  pub held_on : (first last : ℕ) → Held first → ((u : ℕ) → first ≤ u → u < last → AreSame set (heard_at u) (heard_at (suc u))) → (u : ℕ) → first ≤ u → u ≤ last
       → output_of (state n m u) p ≡ output_of (state n m first) p
   held_on first last held calm u from upto =
       (from_on (λ u. (output_of (state n m u) p ≡ output_of (state n m first) p) × Held u) first last (refl, held)

@@ -23,6 +23,7 @@ mod wire_measures;
 pub use client_watch::{ClientWatch, follow};
 pub use delayed_input::DelayedInput;
 pub use extremes::Extremes;
+pub use input_ports::InputPorts;
 pub use marks::Marks;
 pub use measure::put_measure;
 pub use range::TimeRange;

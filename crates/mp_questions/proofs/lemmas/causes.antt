@@ -3,4 +3,5 @@ pub mod ChainLemmas
 pub mod OrderLemmas
 pub mod ShareLemmas
 pub mod AboveLemmas
+pub mod AboveSumLemmas
 pub mod WhyLemmas

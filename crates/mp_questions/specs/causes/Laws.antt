@@ -1,5 +1,5 @@
 -- What causes, chains and shares satisfy.
-use Rattle.std.specs.Prelude.{◌≡◌, ℕ, ◌+◌, ◌<◌, true, List, [], ◌∷◌, All, length, Some, IsSome}
+use Rattle.std.specs.Prelude.{◌≡◌, ℕ, ◌+◌, ◌<◌, true, List, [], ◌∷◌, All, length, max, Some, IsSome}
 use Rattle.std.specs.List.{sum_by}
 use Rattle.mp_modules.specs.Histories.{has_event}
 use Rattle.mp_records.specs.declared.ids.WireId.{WireId}
@@ -14,6 +14,7 @@ use Rattle.mp_questions.specs.timing.Ranges.{read_time}
 use Rattle.mp_questions.specs.causes.Causes.{Cause, Outside, Start, Events, cause_of}
 use Rattle.mp_questions.specs.causes.Chains.{chain, begin_of}
 use Rattle.mp_questions.specs.causes.Paths.{path}
+use Rattle.mp_questions.specs.causes.Shares.{shares_above}
 
 -- a wire has a new level at a time from 1 on
 pub record IsChange (n : Circuit) (c : WireChange) : Type 0 where
@@ -65,3 +66,9 @@ GoesBack = (n : Circuit) → IsCircuit n → (wire : WireId) (t : ℕ) → IsWho
 abbrev pub AddsUp : Type 0
 AddsUp = (n : Circuit) → IsCircuit n → (moment : Moment) (c : WireChange) → last_change n moment.wire (read_time n.horizon moment.time) ≡ Some c →
     begin_of n (chain n moment.wire (read_time n.horizon moment.time)) + sum_by (λ (s : ModuleShare). s.units) (path n moment) ≡ c.time
+
+-- those above a time are the time from there, or from the begin of the chain, whichever is later, to its last change; none where that isn't above it
+abbrev pub AddsUpAbove : Type 0
+AddsUpAbove = (n : Circuit) → IsCircuit n → (moment : Moment) (from : ℕ) (c : WireChange) → last_change n moment.wire (read_time n.horizon moment.time) ≡ Some c →
+    max from (begin_of n (chain n moment.wire (read_time n.horizon moment.time)))
+    + sum_by (λ (s : ModuleShare). s.units) (shares_above n from (chain n moment.wire (read_time n.horizon moment.time))) ≡ max from c.time

@@ -2,8 +2,7 @@
 ghost use Rattle.std.specs.Prelude.{◌≡◌};
 ghost use Rattle.mp_request.specs.explain.CheckWords.{word_of};
 
-/// What a line of `check` reports that isn't a finding. The last four are notes, three on wires and one on
-/// bundles.
+/// What a line of `check` reports that isn't a finding. The last four are notes: three on wires, and one on bundles.
 #[derive(Clone, Copy, PartialEq, Eq)]
 pub enum CheckWord {
     /// Data of a bundle come after their request.

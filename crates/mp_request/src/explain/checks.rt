@@ -48,14 +48,13 @@ pub(crate) const DEADLOCK: Entry = Entry {
   answer:
     0 deadlock x waits for q, y waits for p
   remedy:
-    In a ring, look for the missing bubble first: with a token in each stage no
-    stage can take one, so add a stage or take a token away. Or a bubble of a C
-    is missing: that of a stage that begins empty has one (BUBA or BUBB is 1) at
-    the input by which the next stage answers. With no token at all, start one:
-    with a NOT in place of a BUF, or with the other INIT of a C and the same
-    level at its wire. Else break the cycle. At a CALL or an ARBITER look for
-    the done that never comes, and at a module that waits for two clients for
-    the second, which is only granted behind the first.
+    Look for a missing bubble first: a C waits for the answer of the next stage
+    before it has passed anything on. The C of a stage that begins empty has a
+    bubble (BUBA or BUBB is 1) at the input by which the next stage answers. Or
+    no event was ever started: put a NOT in place of a BUF, or use the other
+    INIT of a C and the same level at its wire. Or a ring is full: add a stage
+    that begins empty. Or a CALL or an ARBITER waits for a done that only comes
+    once the other client is served. If it is none of these, break the cycle.
 ",
 };
 
@@ -119,9 +118,9 @@ pub(crate) const BUSY: Entry = Entry {
     subject: Topic::Check(CheckWord::Busy),
     text: "
   meaning:
-    nothing changes any more, and a bundle's request has changed with no
-      acknowledge after it; the time is that of the last request, 0 if there
-      was none
+    nothing changes any more, and nobody ended a transfer of a bundle: its
+      request and its acknowledge differ; the time is that of the last change of
+      the request, 0 if there is none
   example, read by `mpwb check`:
     horizon 20
     wire r 1 0
@@ -136,8 +135,8 @@ pub(crate) const BUSY: Entry = Entry {
   answer:
     note bundle t is busy since 5
   remedy:
-    If the transfer should have ended, `mpwb waits` shows which module waits
-    for what. It is no fault if the environment just hasn't answered: set the
-    stimulus that answers.
+    It is no fault if the environment just hasn't answered: set the stimulus
+    that answers. If the transfer should have ended, `mpwb waits TIME` shows
+    which module waits, and for which wire.
 ",
 };

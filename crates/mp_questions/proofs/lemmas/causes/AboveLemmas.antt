@@ -81,9 +81,9 @@ module _ (n : Circuit) (from : ℕ) where
       record { units = omega (arith, now.units, a, b, low); steps = omega (arith, now.steps, d, e, low) }
 
   -- a module that a change above the time comes from
-  counted : (m t : ℕ) (o : Option DrivingPort) (b : Bool) → is_port_of m (cond b o None) ≡ b && is_port_of m o
-  counted m t o true = refl
-  counted m t o false = refl
+  counted : (m : ℕ) (o : Option DrivingPort) (b : Bool) → is_port_of m (cond b o None) ≡ b && is_port_of m o
+  counted m o true = refl
+  counted m o false = refl
 
   -- what is left before a step, and the step's units
   module _ (ok : IsCircuit n) (change : WireChange) (now next : Option WireChange) (o : Option DrivingPort) (u : ℕ) (is : now ≡ Some change) (some : 0 < change.time) (goes : followed (cause_of n change) ≡ next)
@@ -95,7 +95,7 @@ module _ (n : Circuit) (from : ℕ) where
     units_are = ap (λ f. change.time - max from (time_of f)) goes ∙ sym units
 
     here_is : (m : ℕ) → is_port_of m o ≡ is_counted n from m change
-    here_is m = ap (is_port_of m) port ∙ counted m change.time (port_of (cause_of n change)) (nat_lt from change.time)
+    here_is m = ap (is_port_of m) port ∙ counted m (port_of (cause_of n change)) (nat_lt from change.time)
 
     pub step_noted : (all : List WireChange) (m : ℕ) (s : ModuleShare) → IsShareAbove n from all (rest n now) m s → IsShareAbove n from all (rest n next) m (noted (is_port_of m o) u s)
     step_noted all m s of =

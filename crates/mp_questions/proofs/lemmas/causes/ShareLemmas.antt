@@ -126,25 +126,26 @@ sum_once g u a (suc k) low high = elim (cases_eq g a) as (λ _. sum_by (once g u
 ]
 
 -- the units of a change that comes from a module
-abbrev in_port : ℕ → Option DrivingPort → ℕ
+abbrev pub in_port : ℕ → Option DrivingPort → ℕ
 in_port u None = 0
 in_port u (Some g) = u
 
-abbrev ported : Circuit → WireChange → ℕ
-ported n c = in_port (units_of n c) (port_of (cause_of n c))
+-- the same, where units are told of each change
+abbrev pub ported : (WireChange → ℕ) → Circuit → WireChange → ℕ
+ported u n c = in_port (u c) (port_of (cause_of n c))
 
-abbrev units_at : Circuit → List WireChange → ℕ → ℕ
-units_at n changes m = sum_by (units_of n) (steps_in n m changes)
+abbrev pub units_at : (WireChange → ℕ) → Circuit → List WireChange → ℕ → ℕ
+units_at u n changes m = sum_by u (steps_in n m changes)
 
 -- with a change more each module has as much, and that of the change its units more
-one_module : (n : Circuit) (c : WireChange) (changes : List WireChange) (m : ℕ) → units_at n (c ∷ changes) m ≡ cond (is_step_in n m c) (units_of n c) 0 + units_at n changes m
-one_module n c changes m = by (is_step_in n m c)
+one_module : (u : WireChange → ℕ) (n : Circuit) (c : WireChange) (changes : List WireChange) (m : ℕ) → units_at u n (c ∷ changes) m ≡ cond (is_step_in n m c) (u c) 0 + units_at u n changes m
+one_module u n c changes m = by (is_step_in n m c)
   where
-    by : (b : Bool) → sum_by (units_of n) (cond b (c ∷ steps_in n m changes) (steps_in n m changes)) ≡ cond b (units_of n c) 0 + units_at n changes m
-    by true = sum_by-cons (units_of n) c (steps_in n m changes)
+    by : (b : Bool) → sum_by u (cond b (c ∷ steps_in n m changes) (steps_in n m changes)) ≡ cond b (u c) 0 + units_at u n changes m
+    by true = sum_by-cons u c (steps_in n m changes)
     by false = omega arith
 
-sum_same : (f g : ℕ → ℕ) (a k : ℕ) → ((m : ℕ) → f m ≡ g m) → sum_by f (range_with_len a k) ≡ sum_by g (range_with_len a k)
+pub sum_same : (f g : ℕ → ℕ) (a k : ℕ) → ((m : ℕ) → f m ≡ g m) → sum_by f (range_with_len a k) ≡ sum_by g (range_with_len a k)
 sum_same f g a zero same = refl
 sum_same f g a (suc k) same = omega (arith, sum_by-cons f a (range_with_len (a + 1) k), sum_by-cons g a (range_with_len (a + 1) k), same a, sum_same f g (a + 1) k same)
 
@@ -157,31 +158,31 @@ sum_none : (f : ℕ → ℕ) (a k : ℕ) → ((m : ℕ) → f m ≡ 0) → sum_b
 sum_none f a zero none = refl
 sum_none f a (suc k) none = omega (arith, sum_by-cons f a (range_with_len (a + 1) k), none a, sum_none f (a + 1) k none)
 
-change_once : (n : Circuit) (c : WireChange) → sum_by (λ m. cond (is_step_in n m c) (units_of n c) 0) (range_with_len 0 (length n.modules)) ≡ ported n c
-change_once n c = by (port_of (cause_of n c)) refl
+change_once : (u : WireChange → ℕ) (n : Circuit) (c : WireChange) → sum_by (λ m. cond (is_step_in n m c) (u c) 0) (range_with_len 0 (length n.modules)) ≡ ported u n c
+change_once u n c = by (port_of (cause_of n c)) refl
   where
-    by : (o : Option DrivingPort) → port_of (cause_of n c) ≡ o → sum_by (λ m. cond (is_port_of m o) (units_of n c) 0) (range_with_len 0 (length n.modules)) ≡ in_port (units_of n c) o
+    by : (o : Option DrivingPort) → port_of (cause_of n c) ≡ o → sum_by (λ m. cond (is_port_of m o) (u c) 0) (range_with_len 0 (length n.modules)) ≡ in_port (u c) o
     by None at = sum_none (λ m. 0) 0 (length n.modules) (λ m. refl)
-    by (Some g) at = sum_once g.id.0 (units_of n c) 0 (length n.modules) (omega arith) (omega (arith, module_within n c g at))
+    by (Some g) at = sum_once g.id.0 (u c) 0 (length n.modules) (omega arith) (omega (arith, module_within n c g at))
 
 -- all modules together have the units of all changes that come from a module
-all_modules : (n : Circuit) (changes : List WireChange) → sum_by (units_at n changes) (range_with_len 0 (length n.modules)) ≡ sum_by (ported n) changes
-all_modules n [] = sum_none (units_at n []) 0 (length n.modules) (λ m. refl)
-all_modules n (c ∷ changes) =
-    let one = λ (m : ℕ). cond (is_step_in n m c) (units_of n c) 0 in
-    sum_same (units_at n (c ∷ changes)) (λ m. one m + units_at n changes m) 0 (length n.modules) (one_module n c changes)
-    ∙ sum_both one (units_at n changes) 0 (length n.modules)
-    ∙ ap (λ k. k + sum_by (units_at n changes) (range_with_len 0 (length n.modules))) (change_once n c)
-    ∙ ap (λ k. ported n c + k) (all_modules n changes)
-    ∙ sym (sum_by-cons (ported n) c changes)
+pub all_modules : (u : WireChange → ℕ) (n : Circuit) (changes : List WireChange) → sum_by (units_at u n changes) (range_with_len 0 (length n.modules)) ≡ sum_by (ported u n) changes
+all_modules u n [] = sum_none (units_at u n []) 0 (length n.modules) (λ m. refl)
+all_modules u n (c ∷ changes) =
+    let one = λ (m : ℕ). cond (is_step_in n m c) (u c) 0 in
+    sum_same (units_at u n (c ∷ changes)) (λ m. one m + units_at u n changes m) 0 (length n.modules) (one_module u n c changes)
+    ∙ sum_both one (units_at u n changes) 0 (length n.modules)
+    ∙ ap (λ k. k + sum_by (units_at u n changes) (range_with_len 0 (length n.modules))) (change_once u n c)
+    ∙ ap (λ k. ported u n c + k) (all_modules u n changes)
+    ∙ sym (sum_by-cons (ported u n) c changes)
 
-shares_sum : (n : Circuit) (changes : List WireChange) (a k : ℕ) → sum_by (λ (s : ModuleShare). s.units) (map (share n changes) (range_with_len a k)) ≡ sum_by (units_at n changes) (range_with_len a k)
+shares_sum : (n : Circuit) (changes : List WireChange) (a k : ℕ) → sum_by (λ (s : ModuleShare). s.units) (map (share n changes) (range_with_len a k)) ≡ sum_by (units_at (units_of n) n changes) (range_with_len a k)
 shares_sum n changes a zero = refl
 shares_sum n changes a (suc k) =
     omega (
       arith,
       sum_by-cons (λ (s : ModuleShare). s.units) (share n changes a) (map (share n changes) (range_with_len (a + 1) k)),
-      sum_by-cons (units_at n changes) a (range_with_len (a + 1) k),
+      sum_by-cons (units_at (units_of n) n changes) a (range_with_len (a + 1) k),
       shares_sum n changes (a + 1) k,
     )
 
@@ -219,21 +220,21 @@ from_module n c d Outside is goes less = cc
 from_module n c d (Start g) is goes less = cc
 from_module n c d (Events g es) is goes less = let e : time_of (followed (cause_of n c)) ≡ d.time = ap (λ f. time_of (followed f)) is ∙ ap time_of goes in omega (arith, e, less)
 
-chain_sum : (n : Circuit) → IsCircuit n → (k : ℕ) (c : WireChange) → 0 < c.time → c.time ≤ k → begin_of n (chain_from n k (Some c)) + sum_by (ported n) (chain_from n k (Some c)) ≡ c.time
+chain_sum : (n : Circuit) → IsCircuit n → (k : ℕ) (c : WireChange) → 0 < c.time → c.time ≤ k → begin_of n (chain_from n k (Some c)) + sum_by (ported (units_of n) n) (chain_from n k (Some c)) ≡ c.time
 chain_sum n ok zero c some le = absurd (omega (arith, some, le))
 chain_sum n ok (suc k) c some le = by (followed (cause_of n c)) refl (λ d has less. chain_sum n ok k d has less)
   where
-    last : (j : ℕ) → followed (cause_of n c) ≡ None → begin_of n (c ∷ chain_from n j None) + sum_by (ported n) (c ∷ chain_from n j None) ≡ c.time
-    last zero none = omega (arith, sum_by-cons (ported n) c [], alone n c (cause_of n c) refl none)
-    last (suc j) none = omega (arith, sum_by-cons (ported n) c [], alone n c (cause_of n c) refl none)
+    last : (j : ℕ) → followed (cause_of n c) ≡ None → begin_of n (c ∷ chain_from n j None) + sum_by (ported (units_of n) n) (c ∷ chain_from n j None) ≡ c.time
+    last zero none = omega (arith, sum_by-cons (ported (units_of n) n) c [], alone n c (cause_of n c) refl none)
+    last (suc j) none = omega (arith, sum_by-cons (ported (units_of n) n) c [], alone n c (cause_of n c) refl none)
 
-    more : (j : ℕ) (d : WireChange) → followed (cause_of n c) ≡ Some d → 0 < d.time → d.time < c.time → d.time ≤ j → begin_of n (chain_from n j (Some d)) + sum_by (ported n) (chain_from n j (Some d)) ≡ d.time
-        → begin_of n (c ∷ chain_from n j (Some d)) + sum_by (ported n) (c ∷ chain_from n j (Some d)) ≡ c.time
+    more : (j : ℕ) (d : WireChange) → followed (cause_of n c) ≡ Some d → 0 < d.time → d.time < c.time → d.time ≤ j → begin_of n (chain_from n j (Some d)) + sum_by (ported (units_of n) n) (chain_from n j (Some d)) ≡ d.time
+        → begin_of n (c ∷ chain_from n j (Some d)) + sum_by (ported (units_of n) n) (c ∷ chain_from n j (Some d)) ≡ c.time
     more zero d goes has less within later = absurd (omega (arith, has, within))
-    more (suc j) d goes has less within later = omega (arith, sum_by-cons (ported n) c (chain_from n (suc j) (Some d)), from_module n c d (cause_of n c) refl goes less, later)
+    more (suc j) d goes has less within later = omega (arith, sum_by-cons (ported (units_of n) n) c (chain_from n (suc j) (Some d)), from_module n c d (cause_of n c) refl goes less, later)
 
-    by : (next : Option WireChange) → followed (cause_of n c) ≡ next → ((d : WireChange) → 0 < d.time → d.time ≤ k → begin_of n (chain_from n k (Some d)) + sum_by (ported n) (chain_from n k (Some d)) ≡ d.time)
-        → begin_of n (c ∷ chain_from n k next) + sum_by (ported n) (c ∷ chain_from n k next) ≡ c.time
+    by : (next : Option WireChange) → followed (cause_of n c) ≡ next → ((d : WireChange) → 0 < d.time → d.time ≤ k → begin_of n (chain_from n k (Some d)) + sum_by (ported (units_of n) n) (chain_from n k (Some d)) ≡ d.time)
+        → begin_of n (c ∷ chain_from n k next) + sum_by (ported (units_of n) n) (c ∷ chain_from n k next) ≡ c.time
     by None at later = last k at
     by (Some d) at later =
         let f = followed_time n ok c some (Some d) at in
@@ -245,10 +246,10 @@ adds_up n ok moment c is =
     let t = read_time n.horizon moment.time in
     let changes = chain n moment.wire t in
     let last = last_change_is n moment.wire t c is in
-    let sum : sum_by (λ (s : ModuleShare). s.units) (by_units (filter has_steps (shares n changes))) ≡ sum_by (ported n) changes
-    = sum_by_units (λ (s : ModuleShare). s.units) (filter has_steps (shares n changes)) ∙ kept_sum n changes 0 (length n.modules) ∙ shares_sum n changes 0 (length n.modules) ∙ all_modules n changes in
-    let total : begin_of n changes + sum_by (ported n) changes ≡ c.time
-    = subst (λ cs. begin_of n cs + sum_by (ported n) cs ≡ c.time) (sym (chain_is n ok moment.wire t (Some c) is)) (chain_sum n ok c.time c last.from (omega arith)) in
+    let sum : sum_by (λ (s : ModuleShare). s.units) (by_units (filter has_steps (shares n changes))) ≡ sum_by (ported (units_of n) n) changes
+    = sum_by_units (λ (s : ModuleShare). s.units) (filter has_steps (shares n changes)) ∙ kept_sum n changes 0 (length n.modules) ∙ shares_sum n changes 0 (length n.modules) ∙ all_modules (units_of n) n changes in
+    let total : begin_of n changes + sum_by (ported (units_of n) n) changes ≡ c.time
+    = subst (λ cs. begin_of n cs + sum_by (ported (units_of n) n) cs ≡ c.time) (sym (chain_is n ok moment.wire t (Some c) is)) (chain_sum n ok c.time c last.from (omega arith)) in
     ap (λ k. begin_of n changes + k) sum ∙ total
 
 -- ---- changes that are noted one by one

@@ -56,7 +56,7 @@ module _ (n : Circuit) (ok : IsCircuit n) (m : ℕ) (r : ModuleRecord) (at : mod
       ap (λ (s : Memory). step part s (x (suc t))) last ∙ stepped_stays part (state n m t) (x (suc t)) ∙ sym last
 
   -- where the inputs stay, the state stays
-  state_stays : (t : ℕ) → input_levels (x (t + 1)) ≡ input_levels (x t) → state n m (t + 1) ≡ state n m t
+  pub state_stays : (t : ℕ) → input_levels (x (t + 1)) ≡ input_levels (x t) → state n m (t + 1) ≡ state n m t
   state_stays t same =
       (satisfies n ok).stepped m t r at ∙ sym (step_padded part (state n m t) (x (t + 1))) ∙ ap (step part (state n m t)) same ∙ step_padded part (state n m t) (x t) ∙ again t
 

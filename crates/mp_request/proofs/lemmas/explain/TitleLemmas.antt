@@ -18,7 +18,7 @@ use Rattle.mp_request.specs.declared.explain.topic.Topic.TheVariants.{Text, Edit
 use Rattle.mp_request.specs.explain.Laws.{TellsOfEach, titles}
 use Rattle.mp_request.specs.explain.Subjects.{title}
 
-many : length titles ≡ 66
+many : length titles ≡ 68
 many = refl
 
 text_told : (code : TextCode) → Contains titles (title (Text code))

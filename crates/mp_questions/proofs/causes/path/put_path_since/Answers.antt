@@ -39,10 +39,10 @@ returns-in_err-put_above g c =
     let begin = c.in_ok-found.ensures.begin ∙ ap (λ (k : Circuit). begin_of k (rest k (Some last))) same in
     let list = c.as_slice.ensures.value ∙ c.by_units-shares.ensures ∙ ap (λ (ss : List ModuleShare). by_units (filter has_steps ss)) found in
     let text =
-        ap (λ (ss : List ModuleShare). flat_map (share_line n) ss ++ before_line f c.in_ok-found.found.begin) list
-        ∙ ap (λ (b : ℕ). flat_map (share_line n) (by_units (filter has_steps (shares_above n f (rest n (Some last))))) ++ before_line f b) begin
-        ∙ ap (λ (t : ℕ). flat_map (share_line n) (by_units (filter has_steps (shares_above n t (rest n (Some last))))) ++ before_line t (begin_of n (rest n (Some last)))) at
-        ∙ sym (text_is n c.new-levels.ensures.form c.args.moment c.args.from last c.in-Some.ensures.from some) in
+    ap (λ (ss : List ModuleShare). flat_map (share_line n) ss ++ before_line f c.in_ok-found.found.begin) list
+    ∙ ap (λ (b : ℕ). flat_map (share_line n) (by_units (filter has_steps (shares_above n f (rest n (Some last))))) ++ before_line f b) begin
+    ∙ ap (λ (t : ℕ). flat_map (share_line n) (by_units (filter has_steps (shares_above n t (rest n (Some last))))) ++ before_line t (begin_of n (rest n (Some last)))) at
+    ∙ sym (text_is n c.new-levels.ensures.form c.args.moment c.args.from last c.in-Some.ensures.from some) in
     puts_as _ WriteFailed c.from_residual-in_err-put_above.ensures.1 refl (puts_text text c.in_err-put_above.ensures)
 
 pub returns : goal.returns
@@ -57,8 +57,8 @@ returns g c =
     let begin = c.in_ok-found.ensures.begin ∙ ap (λ (k : Circuit). begin_of k (rest k (Some last))) same in
     let list = c.as_slice.ensures.value ∙ c.by_units-shares.ensures ∙ ap (λ (ss : List ModuleShare). by_units (filter has_steps ss)) found in
     let text =
-        ap (λ (ss : List ModuleShare). flat_map (share_line n) ss ++ before_line f c.in_ok-found.found.begin) list
-        ∙ ap (λ (b : ℕ). flat_map (share_line n) (by_units (filter has_steps (shares_above n f (rest n (Some last))))) ++ before_line f b) begin
-        ∙ ap (λ (t : ℕ). flat_map (share_line n) (by_units (filter has_steps (shares_above n t (rest n (Some last))))) ++ before_line t (begin_of n (rest n (Some last)))) at
-        ∙ sym (text_is n c.new-levels.ensures.form c.args.moment c.args.from last c.in-Some.ensures.from some) in
+    ap (λ (ss : List ModuleShare). flat_map (share_line n) ss ++ before_line f c.in_ok-found.found.begin) list
+    ∙ ap (λ (b : ℕ). flat_map (share_line n) (by_units (filter has_steps (shares_above n f (rest n (Some last))))) ++ before_line f b) begin
+    ∙ ap (λ (t : ℕ). flat_map (share_line n) (by_units (filter has_steps (shares_above n t (rest n (Some last))))) ++ before_line t (begin_of n (rest n (Some last)))) at
+    ∙ sym (text_is n c.new-levels.ensures.form c.args.moment c.args.from last c.in-Some.ensures.from some) in
     puts_ok (puts_text text c.in_ok-put_above.ensures)
