@@ -31,8 +31,8 @@ pub fn run_check<R: Threads + Wait + Sync, S: Source, T: Sink>(
     asked: CheckAsked<'_>,
 ) -> Result<bool, RunFault>
     requires { out.old.held ≡ [] }
-    ensures checked { IfOk result (ChecksInput asked (S.left source.old) (has_valid_crew options.now) out.old out.new) }
-    ensures stopped { IfErr result (StopsInput asked (S.left source.old) (has_valid_crew options.now) out.old out.new) }
+    ensures checked { IfOk result (ChecksInput asked.entry (S.left source.old) (has_valid_crew options.now) out.old out.new) }
+    ensures stopped { IfErr result (StopsInput asked.entry (S.left source.old) (has_valid_crew options.now) out.old out.new) }
     ensures taken { TakesInput (S.left source.old) (S.left source.new) }
     ensures read_faults { S.fault_count source.new ≡ counted_reads result (S.fault_count source.old) }
 {
@@ -56,8 +56,8 @@ fn check_netlist<R: Threads + Wait + Sync, T: Sink>(
     finders: Finders<'_>,
     asked: CheckAsked<'_>,
 ) -> Result<bool, RunFault>
-    ensures checked { IfOk result (ChecksNetlist asked out.old out.new netlist.now) }
-    ensures stopped { IfErr result (StopsNetlist asked out.old out.new netlist.now) }
+    ensures checked { IfOk result (ChecksNetlist asked.entry out.old out.new netlist.now) }
+    ensures stopped { IfErr result (StopsNetlist asked.entry out.old out.new netlist.now) }
 {
     let Finders { crew, progress } = finders;
     let waves = find_waves(rt, alloc, netlist, &crew, progress)?;
@@ -79,8 +79,8 @@ fn check_waves<R: Threads + Sync, T: Sink>(
     of: &Evaluated<'_>,
     asked: CheckAsked<'_>,
 ) -> Result<bool, RunFault>
-    ensures checked { IfOk result (ChecksNetlist asked out.old out.new of.now.netlist.now) }
-    ensures stopped { IfErr result (StopsNetlist asked out.old out.new of.now.netlist.now) }
+    ensures checked { IfOk result (ChecksNetlist asked.entry out.old out.new of.now.netlist.now) }
+    ensures stopped { IfErr result (StopsNetlist asked.entry out.old out.new of.now.netlist.now) }
 {
     let found = check(rt, alloc, of.netlist, of.waves, of.threads())?;
     let is_wrong = found.is_wrong(of.netlist, asked.selection);

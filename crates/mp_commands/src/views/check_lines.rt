@@ -16,7 +16,7 @@ pub(crate) fn put_check_lines<R: Threads + Sync, T: Sink>(
     of: &Evaluated<'_>,
     asked: CheckAsked<'_>,
 ) -> Result<(), WriteError>
-    ensures { Writes result out.old out.new (check_of asked of.now.netlist.now) }
+    ensures { Writes result out.old out.new (check_of asked.entry of.now.netlist.now) }
 {
     let found = check(rt, alloc, of.netlist, of.waves, of.threads())?;
     put_check(alloc, out, of.netlist, of.waves, &found, asked)

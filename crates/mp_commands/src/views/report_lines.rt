@@ -19,7 +19,7 @@ pub(crate) fn put_report_lines<R: Threads + Sync, T: Sink>(
     of: &Evaluated<'_>,
     selection: Selection<'_>,
 ) -> Result<(), WriteError>
-    ensures { Writes result out.old out.new (selected_report of.now.netlist.now (selected selection)) }
+    ensures { Writes result out.old out.new (selected_report of.now.netlist.now (selected selection.entry)) }
 {
     let found = report(rt, alloc, of.netlist, of.waves, of.threads())?;
     Ok(put_selected_report(out, of.netlist, found.as_slice(), selection)?)
