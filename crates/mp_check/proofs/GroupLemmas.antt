@@ -1,7 +1,7 @@
 -- Groups of problems, problem by problem.
 use Rattle.std.proofs.Common.{◌≡◌, ℕ, ◌+◌, ◌*◌, ◌<◌, ◌≤◌, ◌^◌, ◌==◌, ◌&&◌, ◌||◌, Bool, true, false, not, cond, nat_eq, List, [], ◌∷◌, ◌++◌, append-nil, length, length-append, get_or, IfSome, map, max, filter, fold, Option, Some, None, refl, ap, ap₂, sym, ◌∙◌, arith}
 use Rattle.std.specs.List.{AllByRecursion, list_any}
-use Rattle.std.specs.Map.{lookup}
+use Rattle.std.specs.Map.{lookup, values_of}
 use Rattle.std.proofs.lemmas.Bool.Decides.{nat_tests}
 use Rattle.std.proofs.lemmas.Bool.{eqb-true, eq-eqb, ne_eqb}
 use Rattle.std.proofs.lemmas.List.{map-append}
@@ -20,7 +20,7 @@ use Rattle.mp_questions.specs.Once.{firsts}
 use Rattle.mp_questions.proofs.lemmas.OnceLemmas.{firsts_more, is_known}
 use Rattle.mp_check.specs.Grouping.{alone, joined, joined_to, keyed_groups}
 use Rattle.mp_check.specs.Keys.{key_of, place_key}
-use Rattle.mp_check.specs.Problems.{alike, group_of, is_alike, is_place, last_time, most_units, time_of, units_of}
+use Rattle.mp_check.specs.Problems.{alike, group_of, groups, is_alike, is_place, last_time, most_units, time_of, units_of}
 use Rattle.mp_check.specs.declared.group.Group.{Group}
 use Rattle.mp_check.specs.declared.problem.Problem.{Problem}
 use Rattle.mp_check.specs.declared.problem.Problem.TheVariants.{Found, Late}
@@ -115,8 +115,8 @@ module _ (q : Problem) where
   none_alike (p ∷ others) none = by (is_alike p q) refl none (none_alike others)
     where
       by : (b : Bool) → is_alike p q ≡ b → b || is_known is_alike others q ≡ false → (is_known is_alike others q ≡ false → alike q others ≡ []) → alike q (p ∷ others) ≡ []
-      by true is no later = cc
-      by false is no later = ap (λ (b : Bool). cond b (p ∷ alike q others) (alike q others)) (turned q p ∙ is) ∙ later no
+      by true is out later = cc
+      by false is out later = ap (λ (b : Bool). cond b (p ∷ alike q others) (alike q others)) (turned q p ∙ is) ∙ later out
 
   like_itself : is_alike q q ≡ true
   like_itself = alike_is q q ∙ eq-eqb (key_of q) (key_of q) refl
@@ -214,7 +214,7 @@ module _ (q : Problem) (problems : List Problem) where
   same_entries (x ∷ others) = ap₂ (λ (g : Group) (l : List (ℕ × Group)). (key_of x, g) ∷ l) (sym (group_more q problems x)) (same_entries others)
 
   last_entry : (b : Bool) → is_known is_alike problems q ≡ b
-      → cond b [] ((key_of q, alone q) ∷ []) ≡ map (λ p. (key_of p, group_of (problems ++ q ∷ []) p)) (cond b [] (q ∷ []))
+      → cond {A = List (ℕ × Group)} b [] ((key_of q, alone q) ∷ []) ≡ map (λ p. (key_of p, group_of (problems ++ q ∷ []) p)) (cond b [] (q ∷ []))
   last_entry true is = refl
   last_entry false is = ap (λ (g : Group). (key_of q, g) ∷ []) (sym (first_group q problems is))
 
@@ -241,3 +241,11 @@ room_left problems q room =
     All-lookup (λ (group : Group). group.count + 1 < 2 ^ 64) (nat_eq (key_of q)) (keyed_groups problems)
     (All-map (λ (e : ℕ × Group). e.1.count + 1 < 2 ^ 64) (λ (p : Problem). (key_of p, group_of problems p)) (firsts is_alike problems)
     (λ k d within. (let small = few problems (get_or (firsts is_alike problems) k d) in omega (arith, small, room))))
+
+-- the groups without their keys
+unkeyed : (problems fs : List Problem) → values_of (map (λ p. (key_of p, group_of problems p)) fs) ≡ map (group_of problems) fs
+unkeyed problems [] = refl
+unkeyed problems (p ∷ fs) = ap (λ (gs : List Group). group_of problems p ∷ gs) (unkeyed problems fs)
+
+pub groups_are : (problems : List Problem) → values_of (keyed_groups problems) ≡ groups problems
+groups_are problems = unkeyed problems (firsts is_alike problems)
