@@ -82,8 +82,8 @@ loop-now-preserved c =
           (λ u low high. next.quiet x n.horizon u c.of-ears.ensures (omega (arith, below)) low (omega (arith, high, later))));
     }
 
-pub returns-then : goal.returns-then
-returns-then c =
+pub returns-then-output-level : goal.returns-then-output-level
+returns-then-output-level c =
     let of = c.args.of.now in
     let n = of.end.at.netlist.now in
     let m = of.id.0 in
