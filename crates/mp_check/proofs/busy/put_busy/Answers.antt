@@ -1,4 +1,4 @@
-use Rattle.std.proofs.Common.{◌≡◌, ℕ, Bool, true, List, [], Ok, cond, ap, sym, subst, ◌∙◌}
+use Rattle.std.proofs.Common.{◌≡◌, Bool, [], Ok, cond, ap, sym, subst, ◌∙◌}
 use Rattle.mp_streams.specs.Outgoing.{Writes}
 use Rattle.mp_streams.proofs.OutLemmas.{puts_none}
 use Rattle.mp_model.specs.Waves.{level}

@@ -1,4 +1,4 @@
-use Rattle.std.proofs.Common.{◌≡◌, ◌≤◌, ◌<◌, ◌-◌, Option, ap, subst, sym, ◌∙◌, arith, IfSome}
+use Rattle.std.proofs.Common.{◌≡◌, ◌-◌, Option, ap, subst, ◌∙◌, arith, IfSome}
 use Rattle.mp_modules.specs.Kinds.{output_width}
 use Rattle.mp_records.specs.declared.ids.WireId.{WireId}
 use Rattle.mp_records.specs.declared.ports.Output.{Output}
@@ -6,7 +6,7 @@ use Rattle.mp_records.specs.Outputs.{delay_of}
 use Rattle.mp_netlist.specs.Circuit.{HasWidth, module_width}
 use Rattle.mp_model.specs.Waves.{level}
 use Rattle.mp_questions.specs.timing.Waits.{given}
-use Rattle.mp_check.specs.Dead.{is_quiet, is_still, last_unit}
+use Rattle.mp_check.specs.Dead.{is_still, last_unit}
 use Rattle.mp_check.proofs.PortLemmas.{wired_low}
 use Rattle.mp_check.proofs.QuietLemmas.{not_quiet, quiet_by_still}
 use Rattle.mp_check.proofs.StateLemmas.{wire_tells}

@@ -1,7 +1,7 @@
-use Rattle.std.proofs.Common.{◌≡◌, ℕ, ◌+◌, ◌-◌, ◌<◌, ◌≤◌, List, suc, refl, ap, sym, subst, ◌∙◌, arith}
+use Rattle.std.proofs.Common.{◌≡◌, ℕ, ◌+◌, ◌-◌, ◌<◌, List, suc, refl, ap, sym, subst, ◌∙◌, arith}
 use Rattle.mp_modules.specs.declared.memory.Memory.{Memory}
 use Rattle.mp_modules.specs.declared.storage.any_module.AnyModule.{AnyModule}
-use Rattle.mp_modules.specs.Memories.{input_levels, output_of, with_one_output}
+use Rattle.mp_modules.specs.Memories.{input_levels, output_of}
 use Rattle.mp_modules.specs.storage.AnyModules.{step}
 use Rattle.mp_model.specs.Levels.{built, inputs_by}
 use Rattle.mp_model.specs.Waves.{level}
