@@ -1,7 +1,7 @@
 -- Dead ports keep each other, and each set of ports that keeps its members is of dead ports.
-use Rattle.std.proofs.Common.{◌≡◌, ℕ, ◌+◌, ◌-◌, ◌*◌, ◌/◌, ◌%◌, ◌<◌, ◌≤◌, ◌&&◌, ◌||◌, ◌⊎◌, inl, inr, Bool, true, false, List, [], ◌∷◌, length, Option, Some, None, is_some, refl, ap, sym, subst, ◌∙◌, arith}
+use Rattle.std.proofs.Common.{◌≡◌, ℕ, ◌+◌, ◌-◌, ◌*◌, ◌/◌, ◌%◌, ◌<◌, ◌≤◌, ◌&&◌, ◌⊎◌, inl, inr, Bool, true, false, List, [], ◌∷◌, Option, Some, None, is_some, refl, ap, sym, subst, ◌∙◌, arith}
 use Rattle.std.specs.Prelude.{slice_get}
-use Rattle.std.specs.List.{list_all, list_any}
+use Rattle.std.specs.List.{list_any}
 use Rattle.std.proofs.lemmas.Bool.{and_parts}
 use Rattle.std.proofs.lemmas.Option.{same_Some}
 use Rattle.mp_records.specs.declared.module_record.ModuleRecord.{ModuleRecord}
@@ -14,7 +14,7 @@ use Rattle.mp_netlist.specs.Drivers.{driver}
 use Rattle.mp_netlist.proofs.TableLemmas.{slot_within}
 use Rattle.mp_model.specs.Waves.{level, state}
 use Rattle.mp_holding.specs.Holding.{holding_sets}
-use Rattle.mp_sets.specs.ClosedSets.{is_in, is_closed, in_closed_set}
+use Rattle.mp_sets.specs.ClosedSets.{is_in, is_closed}
 use Rattle.mp_sets.specs.Laws.{IsWithin, KeepsMore}
 use Rattle.mp_sets.proofs.ClosedLemmas.{true_false, and_true, or_first, or_second, or_cases, all_at, union_is_closed, has_closed_sets}
 use Rattle.mp_check.specs.Dead.{dead, port_numbers, port_slots, is_kept, is_kept_at, is_quiet, is_still, is_still_in, is_driven_within, are_still, last_unit}

@@ -1,7 +1,7 @@
 -- Groups of problems, problem by problem.
 use Rattle.std.proofs.Common.{◌≡◌, ℕ, ◌+◌, ◌*◌, ◌<◌, ◌≤◌, ◌^◌, ◌==◌, ◌&&◌, ◌||◌, Bool, true, false, not, cond, nat_eq, List, [], ◌∷◌, ◌++◌, append-nil, length, length-append, get_or, IfSome, map, max, filter, fold, Option, Some, None, refl, ap, ap₂, sym, ◌∙◌, arith}
 use Rattle.std.specs.List.{AllByRecursion, list_any}
-use Rattle.std.specs.Map.{lookup}
+use Rattle.std.specs.Map.{lookup, values_of}
 use Rattle.std.proofs.lemmas.Bool.Decides.{nat_tests}
 use Rattle.std.proofs.lemmas.Bool.{eqb-true, eq-eqb, ne_eqb}
 use Rattle.std.proofs.lemmas.List.{map-append}
@@ -20,7 +20,7 @@ use Rattle.mp_questions.specs.Once.{firsts}
 use Rattle.mp_questions.proofs.lemmas.OnceLemmas.{firsts_more, is_known}
 use Rattle.mp_check.specs.Grouping.{alone, joined, joined_to, keyed_groups}
 use Rattle.mp_check.specs.Keys.{key_of, place_key}
-use Rattle.mp_check.specs.Problems.{alike, group_of, is_alike, is_place, last_time, most_units, time_of, units_of}
+use Rattle.mp_check.specs.Problems.{alike, group_of, groups, is_alike, is_place, last_time, most_units, time_of, units_of}
 use Rattle.mp_check.specs.declared.group.Group.{Group}
 use Rattle.mp_check.specs.declared.problem.Problem.{Problem}
 use Rattle.mp_check.specs.declared.problem.Problem.TheVariants.{Found, Late}
@@ -112,11 +112,11 @@ module _ (q : Problem) where
   -- the first of its kind
   none_alike : (problems : List Problem) → is_known is_alike problems q ≡ false → alike q problems ≡ []
   none_alike [] none = refl
-  none_alike (p ∷ others) none = by (is_alike p q) refl none
+  none_alike (p ∷ others) none = by (is_alike p q) refl none (none_alike others)
     where
-      by : (b : Bool) → is_alike p q ≡ b → b || is_known is_alike others q ≡ false → alike q (p ∷ others) ≡ []
-      by true is no = cc
-      by false is no = ap (λ (b : Bool). cond b (p ∷ alike q others) (alike q others)) (turned q p ∙ is) ∙ none_alike others no
+      by : (b : Bool) → is_alike p q ≡ b → b || is_known is_alike others q ≡ false → (is_known is_alike others q ≡ false → alike q others ≡ []) → alike q (p ∷ others) ≡ []
+      by true is out later = cc
+      by false is out later = ap (λ (b : Bool). cond b (p ∷ alike q others) (alike q others)) (turned q p ∙ is) ∙ later out
 
   like_itself : is_alike q q ≡ true
   like_itself = alike_is q q ∙ eq-eqb (key_of q) (key_of q) refl
@@ -137,27 +137,28 @@ Distinct (x ∷ others) = AllByRecursion (λ y. is_alike x y ≡ false) others �
 
 all_kept : (P : Problem → Type 0) (keep : Problem → Bool) (xs : List Problem) → AllByRecursion P xs → AllByRecursion P (filter keep xs)
 all_kept P keep [] all = tt
-all_kept P keep (x ∷ others) all = by (keep x)
+all_kept P keep (x ∷ others) all = by (keep x) (all_kept P keep others all.1)
   where
-    by : (b : Bool) → AllByRecursion P (cond b (x ∷ filter keep others) (filter keep others))
-    by true = (all.0, all_kept P keep others all.1)
-    by false = all_kept P keep others all.1
+    by : (b : Bool) → AllByRecursion P (filter keep others) → AllByRecursion P (cond b (x ∷ filter keep others) (filter keep others))
+    by true later = (all.0, later)
+    by false later = later
 
 distinct_kept : (keep : Problem → Bool) (xs : List Problem) → Distinct xs → Distinct (filter keep xs)
 distinct_kept keep [] are = tt
-distinct_kept keep (x ∷ others) are = by (keep x)
+distinct_kept keep (x ∷ others) are = by (keep x) (distinct_kept keep others are.1)
   where
-    by : (b : Bool) → Distinct (cond b (x ∷ filter keep others) (filter keep others))
-    by true = (all_kept (λ y. is_alike x y ≡ false) keep others are.0, distinct_kept keep others are.1)
-    by false = distinct_kept keep others are.1
+    by : (b : Bool) → Distinct (filter keep others) → Distinct (cond b (x ∷ filter keep others) (filter keep others))
+    by true later = (all_kept (λ y. is_alike x y ≡ false) keep others are.0, later)
+    by false later = later
 
 left_out : (x : Problem) (xs : List Problem) → AllByRecursion (λ y. is_alike x y ≡ false) (filter (λ y. not (is_alike x y)) xs)
 left_out x [] = tt
-left_out x (y ∷ others) = by (is_alike x y) refl
+left_out x (y ∷ others) = by (is_alike x y) refl (left_out x others)
   where
-    by : (b : Bool) → is_alike x y ≡ b → AllByRecursion (λ z. is_alike x z ≡ false) (cond (not b) (y ∷ filter (λ z. not (is_alike x z)) others) (filter (λ z. not (is_alike x z)) others))
-    by true is = left_out x others
-    by false is = (is, left_out x others)
+    by : (b : Bool) → is_alike x y ≡ b → AllByRecursion (λ z. is_alike x z ≡ false) (filter (λ z. not (is_alike x z)) others)
+        → AllByRecursion (λ z. is_alike x z ≡ false) (cond (not b) (y ∷ filter (λ z. not (is_alike x z)) others) (filter (λ z. not (is_alike x z)) others))
+    by true is later = later
+    by false is later = (is, later)
 
 distinct_firsts : (problems : List Problem) → Distinct (firsts is_alike problems)
 distinct_firsts [] = tt
@@ -166,13 +167,14 @@ distinct_firsts (x ∷ others) = (left_out x (firsts is_alike others), distinct_
 -- one of the first ones is like a problem where one of all is
 known_firsts : (problems : List Problem) (q : Problem) → is_known is_alike (firsts is_alike problems) q ≡ is_known is_alike problems q
 known_firsts [] q = refl
-known_firsts (x ∷ others) q = by (is_alike x q) refl
+known_firsts (x ∷ others) q = by (is_alike x q) refl (known_firsts others q)
   where
-    by : (b : Bool) → is_alike x q ≡ b → b || is_known is_alike (filter (λ y. not (is_alike x y)) (firsts is_alike others)) q ≡ b || is_known is_alike others q
-    by true is = refl
-    by false is =
+    by : (b : Bool) → is_alike x q ≡ b → is_known is_alike (firsts is_alike others) q ≡ is_known is_alike others q
+        → b || is_known is_alike (filter (λ y. not (is_alike x y)) (firsts is_alike others)) q ≡ b || is_known is_alike others q
+    by true is later = refl
+    by false is later =
         any-filter_same (λ y. is_alike y q) (λ y. not (is_alike x y)) true (λ y at. ap not (turned x y ∙ same_kind y q x at ∙ turned q x ∙ is)) (firsts is_alike others)
-        ∙ known_firsts others q
+        ∙ later
 
 -- ---- all groups
 
@@ -195,26 +197,24 @@ module _ (q : Problem) (problems : List Problem) where
   inserted : (xs : List Problem) → Distinct xs → insert_entry nat_eq (map before xs) (key_of q) (joined_to (lookup (nat_eq (key_of q)) (map before xs)) q)
       ≡ map now xs ++ cond (is_known is_alike xs q) [] ((key_of q, alone q) ∷ [])
   inserted [] are = refl
-  inserted (x ∷ others) are = by (is_alike x q) refl (nat_eq (key_of q) (key_of x)) (key_test x)
+  inserted (x ∷ others) are = by (is_alike x q) refl (nat_eq (key_of q) (key_of x)) (key_test x) (inserted others are.1)
     where
-      es : List (ℕ × Group)
-      es = map before others
-
       by : (b : Bool) → is_alike x q ≡ b → (test : Bool) → test ≡ is_alike x q
-          → (let found : Option Group = cond test (Some (group_of problems x)) (lookup (nat_eq (key_of q)) es) in
-          cond test ((key_of x, joined_to found q) ∷ es) (before x ∷ insert_entry nat_eq es (key_of q) (joined_to found q)))
+          → insert_entry nat_eq (map before others) (key_of q) (joined_to (lookup (nat_eq (key_of q)) (map before others)) q) ≡ map now others ++ cond (is_known is_alike others q) [] ((key_of q, alone q) ∷ [])
+          → (let found : Option Group = cond test (Some (group_of problems x)) (lookup (nat_eq (key_of q)) (map before others)) in
+          cond test ((key_of x, joined_to found q) ∷ map before others) (before x ∷ insert_entry nat_eq (map before others) (key_of q) (joined_to found q)))
           ≡ (key_of x, cond b (joined (group_of problems x) q) (group_of problems x)) ∷ (map now others ++ cond (b || is_known is_alike others q) [] ((key_of q, alone q) ∷ []))
-      by true is true at = ap (λ (l : List (ℕ × Group)). (key_of x, joined (group_of problems x) q) ∷ l) (unchanged x others is are.0 ∙ sym (append-nil (map now others)))
-      by true is false at = cc
-      by false is true at = cc
-      by false is false at = ap (λ (l : List (ℕ × Group)). before x ∷ l) (inserted others are.1)
+      by true is true at later = ap (λ (l : List (ℕ × Group)). (key_of x, joined (group_of problems x) q) ∷ l) (unchanged x others is are.0 ∙ sym (append-nil (map now others)))
+      by true is false at later = cc
+      by false is true at later = cc
+      by false is false at later = ap (λ (l : List (ℕ × Group)). before x ∷ l) later
 
   same_entries : (xs : List Problem) → map now xs ≡ map (λ p. (key_of p, group_of (problems ++ q ∷ []) p)) xs
   same_entries [] = refl
   same_entries (x ∷ others) = ap₂ (λ (g : Group) (l : List (ℕ × Group)). (key_of x, g) ∷ l) (sym (group_more q problems x)) (same_entries others)
 
   last_entry : (b : Bool) → is_known is_alike problems q ≡ b
-      → cond b [] ((key_of q, alone q) ∷ []) ≡ map (λ p. (key_of p, group_of (problems ++ q ∷ []) p)) (cond b [] (q ∷ []))
+      → cond {A = List (ℕ × Group)} b [] ((key_of q, alone q) ∷ []) ≡ map (λ p. (key_of p, group_of (problems ++ q ∷ []) p)) (cond b [] (q ∷ []))
   last_entry true is = refl
   last_entry false is = ap (λ (g : Group). (key_of q, g) ∷ []) (sym (first_group q problems is))
 
@@ -241,3 +241,11 @@ room_left problems q room =
     All-lookup (λ (group : Group). group.count + 1 < 2 ^ 64) (nat_eq (key_of q)) (keyed_groups problems)
     (All-map (λ (e : ℕ × Group). e.1.count + 1 < 2 ^ 64) (λ (p : Problem). (key_of p, group_of problems p)) (firsts is_alike problems)
     (λ k d within. (let small = few problems (get_or (firsts is_alike problems) k d) in omega (arith, small, room))))
+
+-- the groups without their keys
+unkeyed : (problems fs : List Problem) → values_of (map (λ p. (key_of p, group_of problems p)) fs) ≡ map (group_of problems) fs
+unkeyed problems [] = refl
+unkeyed problems (p ∷ fs) = ap (λ (gs : List Group). group_of problems p ∷ gs) (unkeyed problems fs)
+
+pub groups_are : (problems : List Problem) → values_of (keyed_groups problems) ≡ groups problems
+groups_are problems = unkeyed problems (firsts is_alike problems)

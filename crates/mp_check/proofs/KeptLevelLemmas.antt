@@ -1,6 +1,5 @@
 -- Outputs that keep their level, of modules whose next state follows from the level of the first output.
-use Rattle.std.proofs.Common.{◌≡◌, ℕ, ◌+◌, ◌-◌, ◌<◌, ◌≤◌, ◌⊎◌, inl, inr, Bool, true, false, List, [], ◌∷◌, length, get_or, slice_index, Some, zero, suc, refl, ap, sym, subst, ◌∙◌, arith}
-use Rattle.std.specs.Prelude.{nat_le}
+use Rattle.std.proofs.Common.{◌≡◌, ℕ, ◌+◌, ◌<◌, ◌≤◌, ◌⊎◌, inl, inr, Bool, true, false, List, [], ◌∷◌, length, get_or, slice_index, Some, zero, suc, refl, ap, sym, subst, ◌∙◌, arith}
 use Rattle.std.proofs.lemmas.Bool.{cases_lt, leb-true, le-leb}
 use Rattle.mp_modules.specs.declared.kind.Kind.{Kind}
 use Rattle.mp_modules.specs.declared.kind.Kind.TheVariants as kinds
@@ -81,23 +80,23 @@ pub still_while : (n : Circuit) (f : ℕ → ℕ) (after v : ℕ) → after ≤ 
 still_while n f after v low keeps =
     sym (le-leb (since f (last_unit n)) after (still_since f (last_unit n) after (λ s from upto. keeps s from upto ∙ sym (keeps (last_unit n) low (omega arith)))))
 
+-- the first output of a module has this level from a time on to another
+abbrev pub Keeps : Circuit → ℕ → ℕ → ℕ → ℕ → Type 0
+Keeps n m v after t = (u : ℕ) → after ≤ u → u ≤ t → given n m 0 u ≡ v
+
 module _ (n : Circuit) (ok : IsCircuit n) (m : ℕ) (r : ModuleRecord) (at : module_at n m ≡ Some r) (told : is_told_by_output r.kind ≡ true) where
   abbrev x : ℕ → List ℕ
   x t = inputs_by n (level n) r t
 
-  -- the first output has this level from a time on to another
-  abbrev pub Keeps : ℕ → ℕ → ℕ → Type 0
-  Keeps v after t = (u : ℕ) → after ≤ u → u ≤ t → given n m 0 u ≡ v
-
   -- it keeps it while no input has an event
-  pub keeps_between : (v after t k : ℕ) → after ≤ t → Keeps v after t → ((u : ℕ) → t ≤ u → u ≤ t + k → input_levels (x u) ≡ input_levels (x t)) → Keeps v after (t + k)
+  pub keeps_between : (v after t k : ℕ) → after ≤ t → Keeps n m v after t → ((u : ℕ) → t ≤ u → u ≤ t + k → input_levels (x u) ≡ input_levels (x t)) → Keeps n m v after (t + k)
   keeps_between v after t zero low keeps quiet u from upto = keeps u from (omega (arith, upto))
   keeps_between v after t (suc k) low keeps quiet u from upto = by (cases_lt u (t + suc k)) (keeps_between v after t k low keeps (λ w since till. quiet w since (omega (arith, till))))
     where
       last : state n m (t + k + 1) ≡ state n m (t + k)
       last = state_stays n ok m r at (t + k) (quiet (t + k + 1) (omega arith) (omega arith) ∙ sym (quiet (t + k) (omega arith) (omega arith)))
 
-      by : (u < t + suc k) ⊎ (t + suc k ≤ u) → Keeps v after (t + k) → given n m 0 u ≡ v
+      by : (u < t + suc k) ⊎ (t + suc k ≤ u) → Keeps n m v after (t + k) → given n m 0 u ≡ v
       by (inl sooner) before = before u from (omega (arith, sooner))
       by (inr here) before =
           let is : t + k + 1 ≡ u = omega (arith, here, upto) in
@@ -109,7 +108,7 @@ module _ (n : Circuit) (ok : IsCircuit n) (m : ℕ) (r : ModuleRecord) (at : mod
       ap (λ (k : Memory). output_of k 0)
       (step_padded (built n r) s (x (suc t)) ∙ told_alike r.kind r.params (module_width n r) told s (state n m t) (x (suc t)) (is ∙ sym was) ∙ sym (next_state n ok m r at t))
 
-  pub keeps_next : (v after t : ℕ) → Keeps v after t → given n m 0 (suc t) ≡ v → Keeps v after (suc t)
+  pub keeps_next : (v after t : ℕ) → Keeps n m v after t → given n m 0 (suc t) ≡ v → Keeps n m v after (suc t)
   keeps_next v after t keeps is u from upto = by (cases_lt u (suc t))
     where
       by : (u < suc t) ⊎ (suc t ≤ u) → given n m 0 u ≡ v

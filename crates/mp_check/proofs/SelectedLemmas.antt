@@ -31,11 +31,11 @@ module _ {X : Type 0} (keeps : X → Bool) (line : X → List ℕ) where
 
   pub kept_lines : (xs : List X) → flat_map kept xs ≡ flat_map line (filter keeps xs)
   kept_lines [] = refl
-  kept_lines (x ∷ others) = by (keeps x)
+  kept_lines (x ∷ others) = by (keeps x) (kept_lines others)
     where
-      by : (b : Bool) → cond b (line x) [] ++ flat_map kept others ≡ flat_map line (cond b (x ∷ filter keeps others) (filter keeps others))
-      by true = ap (λ (l : List ℕ). line x ++ l) (kept_lines others)
-      by false = kept_lines others
+      by : (b : Bool) → flat_map kept others ≡ flat_map line (filter keeps others) → cond b (line x) [] ++ flat_map kept others ≡ flat_map line (cond b (x ∷ filter keeps others) (filter keeps others))
+      by true same = ap (λ (l : List ℕ). line x ++ l) same
+      by false same = same
 
   -- all are written
   pub kept_over : {S T E : Type 0} {f : E → Bool} {done : T} {a b : Outgoing S} (xs : List X) (i : ℕ) → length xs ≤ i → Puts f (Ok done) a b (flat_map kept (take i xs)) → Puts f (Ok done) a b (flat_map line (filter keeps xs))

@@ -1,5 +1,5 @@
 -- Runs that are over, and bundles that nobody ended in them.
-use Rattle.std.specs.Prelude.{ℕ, ◌+◌, ◌/◌, ◌%◌, Bool, List, [], ◌∷◌, ◌++◌, map, max, codes, Option, Some, None, is_some, length, nat_le, slice_get, zero, suc, if◌then◌else◌}
+use Rattle.std.specs.Prelude.{ℕ, ◌+◌, ◌/◌, ◌%◌, Bool, List, [], ◌∷◌, ◌++◌, map, max, codes, Option, Some, None, is_some, length, nat_le, slice_get, suc, if◌then◌else◌}
 use Rattle.std.specs.List.{flat_map, fold, range_with_len}
 use Rattle.std.specs.Option.{option_to_list}
 use Rattle.std.specs.Fmt.{decimal}

@@ -19,7 +19,7 @@ pub(crate) fn put_bundle_notes<S: Sink>(
     end: &RunEnd<'_>,
     selection: Selection<'_>,
 ) -> Result<(), Failed>
-    ensures { Writes result out.old out.new (selected_bundle_notes end.now.at.netlist.now (selected selection)) }
+    ensures { Writes result out.old out.new (selected_bundle_notes end.now.at.netlist.now (selected selection.entry)) }
 {
     if !is_over(end) {
         return Ok(());
@@ -32,7 +32,7 @@ fn put_bundles<S: Sink>(
     end: &RunEnd<'_>,
     selection: Selection<'_>,
 ) -> Result<(), Failed>
-    ensures { Writes result out.old out.new (flat_map (busy_note end.now.at.netlist.now) (filter (keeps_bundle end.now.at.netlist.now (selected selection)) (range_with_len 0 (length end.now.at.netlist.now.bundles)))) }
+    ensures { Writes result out.old out.new (flat_map (busy_note end.now.at.netlist.now) (filter (keeps_bundle end.now.at.netlist.now (selected selection.entry)) (range_with_len 0 (length end.now.at.netlist.now.bundles)))) }
 {
     for number in 0..end.at.netlist.bundle_slots() {
         put_bundle(out, end, BundleId(number), selection)?;
@@ -47,7 +47,7 @@ fn put_bundle<S: Sink>(
     id: BundleId,
     selection: Selection<'_>,
 ) -> Result<(), Failed>
-    ensures { Writes result out.old out.new (if keeps_bundle end.now.at.netlist.now (selected selection) id.0 then busy_note end.now.at.netlist.now id.0 else []) }
+    ensures { Writes result out.old out.new (if keeps_bundle end.now.at.netlist.now (selected selection.entry) id.0 then busy_note end.now.at.netlist.now id.0 else []) }
 {
     if !selection.keeps_bundle(end.at.netlist, id) {
         return Ok(());

@@ -48,7 +48,7 @@ pub fn put_check<S: Sink>(
 ) -> Result<(), WriteError>
     requires waves { AreWavesOf netlist.now waves.now }
     requires check { IsCheckOf netlist.now check.now }
-    ensures { Writes result out.old out.new (check_text netlist.now (selected asked.selection) asked.is_brief) }
+    ensures { Writes result out.old out.new (check_text netlist.now (selected asked.entry.selection) asked.entry.is_brief) }
 {
     let end = RunEnd::new(netlist, waves, check.drivers.as_slice());
     put_problems(alloc, out, netlist, check, asked)?;
@@ -65,7 +65,7 @@ fn put_problems<S: Sink>(
     asked: CheckAsked<'_>,
 ) -> Result<(), WriteError>
     requires { IsCheckOf netlist.now check.now }
-    ensures { Writes result out.old out.new (problem_lines netlist.now (selected asked.selection) asked.is_brief) }
+    ensures { Writes result out.old out.new (problem_lines netlist.now (selected asked.entry.selection) asked.entry.is_brief) }
 {
     let selection = asked.selection;
     if asked.is_brief {
@@ -85,7 +85,7 @@ fn put_each<S: Sink>(
     selection: Selection<'_>,
 ) -> Result<(), Failed>
     requires { IsCheckOf netlist.now check.now }
-    ensures { WritesTo result out.old out.new (selected_report netlist.now (selected selection) ++ selected_late netlist.now (selected selection)) }
+    ensures { WritesTo result out.old out.new (selected_report netlist.now (selected selection.entry) ++ selected_late netlist.now (selected selection.entry)) }
 {
     put_selected_report(out, netlist, check.findings.as_slice(), selection)?;
     put_all_late(out, netlist, check.late.as_slice(), selection)
@@ -99,7 +99,7 @@ fn put_rest<S: Sink>(
     selection: Selection<'_>,
 ) -> Result<(), Failed>
     requires { IsCheckOf end.now.at.netlist.now check.now }
-    ensures { WritesTo result out.old out.new (selected_deadlocks end.now.at.netlist.now (selected selection) ++ selected_notes end.now.at.netlist.now (selected selection)) }
+    ensures { WritesTo result out.old out.new (selected_deadlocks end.now.at.netlist.now (selected selection.entry) ++ selected_notes end.now.at.netlist.now (selected selection.entry)) }
 {
     put_deadlocks(out, end, check.deadlocks.as_slice(), selection)?;
     put_notes(out, end, check.read.as_slice(), selection)

@@ -37,7 +37,7 @@ impl Checked {
 
     /// Whether anything that is selected is wrong: something is found, data are late, or there is a deadlock.
     pub fn is_wrong(&self, netlist: &Netlist, selection: Selection<'_>) -> bool
-        ensures { IsCheckOf netlist.now self.now → result ≡ is_wrong netlist.now (selected selection) }
+        ensures { IsCheckOf netlist.now self.now → result ≡ is_wrong netlist.now (selected selection.entry) }
     {
         has_finding(self.findings.as_slice(), netlist, selection)
             || has_late(self.late.as_slice(), netlist, selection)
@@ -47,7 +47,7 @@ impl Checked {
 
 /// Whether one of the findings is selected.
 fn has_finding(findings: &[Finding], netlist: &Netlist, selection: Selection<'_>) -> bool
-    ensures { result ≡ list_any (keeps_finding netlist.now (selected selection)) findings.now }
+    ensures { result ≡ list_any (keeps_finding netlist.now (selected selection.entry)) findings.now }
 {
     findings
         .iter()
@@ -56,14 +56,14 @@ fn has_finding(findings: &[Finding], netlist: &Netlist, selection: Selection<'_>
 
 /// Whether some of the late data are selected.
 fn has_late(late: &[Late], netlist: &Netlist, selection: Selection<'_>) -> bool
-    ensures { result ≡ list_any (keeps_late netlist.now (selected selection)) late.now }
+    ensures { result ≡ list_any (keeps_late netlist.now (selected selection.entry)) late.now }
 {
     late.iter().any(|one| selection.keeps_late(netlist, *one))
 }
 
 /// Whether one of the deadlocks is selected.
 fn has_deadlock(deadlocks: &[Deadlock], netlist: &Netlist, selection: Selection<'_>) -> bool
-    ensures { result ≡ list_any (keeps_deadlock netlist.now (selected selection)) deadlocks.now }
+    ensures { result ≡ list_any (keeps_deadlock netlist.now (selected selection.entry)) deadlocks.now }
 {
     deadlocks.iter().any(|deadlock| selection.keeps_deadlock(netlist, deadlock.waits()))
 }

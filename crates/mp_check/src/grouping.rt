@@ -1,6 +1,6 @@
 //! The groups of what is found and what is late.
 ghost use Rattle.std.specs.Prelude.{◌≡◌, ◌+◌, ◌<◌, ◌^◌, ◌++◌, IfOk, IfSome, OnOk, filter, map, nat_eq};
-ghost use Rattle.indexmap.specs.IndexMap.{get, insert_entry};
+ghost use Rattle.indexmap.specs.IndexMap.{get, insert_entry, values};
 ghost use Rattle.mp_check.specs.Checks.{IsCheckOf};
 ghost use Rattle.mp_check.specs.Grouping.{joined_to, keyed_groups};
 ghost use Rattle.mp_check.specs.Keys.{key_of};
@@ -27,7 +27,7 @@ pub(crate) fn groups_of(
     selection: Selection<'_>,
 ) -> Result<Vec<Group>, AllocError>
     requires { IsCheckOf netlist.now check.now }
-    ensures { IfOk result (λ found. found.items ≡ by_first netlist.now.horizon (groups (problems netlist.now (selected selection)))) }
+    ensures { IfOk result (λ found. found.items ≡ by_first netlist.now.horizon (groups (problems netlist.now (selected selection.entry)))) }
 {
     let problems = problems_of(alloc, netlist, check, selection)?;
     let mut groups = grouped(alloc, problems.as_slice())?;
@@ -48,7 +48,7 @@ fn problems_of(
     selection: Selection<'_>,
 ) -> Result<Vec<Problem>, AllocError>
     requires { IsCheckOf netlist.now check.now }
-    ensures { IfOk result (λ found. found.items ≡ problems netlist.now (selected selection)) }
+    ensures { IfOk result (λ found. found.items ≡ problems netlist.now (selected selection.entry)) }
 {
     let mut problems = Vec::new(alloc);
     push_found(&mut problems, netlist, check.findings.as_slice(), selection)?;
@@ -63,7 +63,7 @@ fn push_found(
     findings: &[Finding],
     selection: Selection<'_>,
 ) -> Result<(), AllocError>
-    ensures { OnOk result (problems.new.items ≡ problems.old.items ++ map Found (filter (keeps_finding netlist.now (selected selection)) findings.now)) }
+    ensures { OnOk result (problems.new.items ≡ problems.old.items ++ map Found (filter (keeps_finding netlist.now (selected selection.entry)) findings.now)) }
 {
     for &finding in findings {
         if selection.keeps_finding(netlist, finding) {
@@ -80,7 +80,7 @@ fn push_late(
     late: &[Late],
     selection: Selection<'_>,
 ) -> Result<(), AllocError>
-    ensures { OnOk result (problems.new.items ≡ problems.old.items ++ map IsLate (filter (keeps_late netlist.now (selected selection)) late.now)) }
+    ensures { OnOk result (problems.new.items ≡ problems.old.items ++ map IsLate (filter (keeps_late netlist.now (selected selection.entry)) late.now)) }
 {
     for &one in late {
         if selection.keeps_late(netlist, one) {
@@ -95,6 +95,13 @@ fn grouped(alloc: Global, problems: &[Problem]) -> Result<Vec<Group>, AllocError
     ensures { IfOk result (λ found. found.items ≡ groups problems.now) }
 {
     let keyed = keyed_groups(alloc, problems)?;
+    values_of(alloc, &keyed)
+}
+
+/// The groups without their keys.
+fn values_of(alloc: Global, keyed: &IndexMap<u64, Group>) -> Result<Vec<Group>, AllocError>
+    ensures { IfOk result (λ found. found.items ≡ values keyed.now) }
+{
     keyed.values().copied().collect(alloc)
 }
 

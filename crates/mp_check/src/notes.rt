@@ -25,7 +25,7 @@ pub(crate) fn put_notes<S: Sink>(
     selection: Selection<'_>,
 ) -> Result<(), Failed>
     requires { AreRead end.now.at.netlist.now read.now }
-    ensures { Writes result out.old out.new (selected_notes end.now.at.netlist.now (selected selection)) }
+    ensures { Writes result out.old out.new (selected_notes end.now.at.netlist.now (selected selection.entry)) }
 {
     put_all_wires(out, end, read, selection)?;
     put_bundle_notes(out, end, selection)
@@ -39,7 +39,7 @@ fn put_all_wires<S: Sink>(
     selection: Selection<'_>,
 ) -> Result<(), Failed>
     requires { AreRead end.now.at.netlist.now read.now }
-    ensures { Writes result out.old out.new (if has_none selection.names.now then wire_notes end.now.at.netlist.now else []) }
+    ensures { Writes result out.old out.new (if has_none selection.entry.names.now then wire_notes end.now.at.netlist.now else []) }
 {
     if !selection.has_all() {
         return Ok(());

@@ -25,7 +25,7 @@ pub fn put_selected_report<S: Sink>(
     findings: &[Finding],
     selection: Selection<'_>,
 ) -> Result<(), Failed>
-    ensures { Writes result out.old out.new (selected_findings netlist.now (selected selection) findings.now) }
+    ensures { Writes result out.old out.new (selected_findings netlist.now (selected selection.entry) findings.now) }
 {
     for &finding in findings {
         put_finding(out, netlist, finding, selection)?;
@@ -40,7 +40,7 @@ fn put_finding<S: Sink>(
     finding: Finding,
     selection: Selection<'_>,
 ) -> Result<(), Failed>
-    ensures { Writes result out.old out.new (if keeps_finding netlist.now (selected selection) finding then finding_line netlist.now finding else []) }
+    ensures { Writes result out.old out.new (if keeps_finding netlist.now (selected selection.entry) finding then finding_line netlist.now finding else []) }
 {
     if !selection.keeps_finding(netlist, finding) {
         return Ok(());
@@ -61,7 +61,7 @@ pub(crate) fn put_all_late<S: Sink>(
     late: &[Late],
     selection: Selection<'_>,
 ) -> Result<(), Failed>
-    ensures { Writes result out.old out.new (flat_map (late_line netlist.now) (filter (keeps_late netlist.now (selected selection)) late.now)) }
+    ensures { Writes result out.old out.new (flat_map (late_line netlist.now) (filter (keeps_late netlist.now (selected selection.entry)) late.now)) }
 {
     for &one in late {
         put_selected_late(out, netlist, one, selection)?;
@@ -76,7 +76,7 @@ fn put_selected_late<S: Sink>(
     late: Late,
     selection: Selection<'_>,
 ) -> Result<(), Failed>
-    ensures { Writes result out.old out.new (if keeps_late netlist.now (selected selection) late then late_line netlist.now late else []) }
+    ensures { Writes result out.old out.new (if keeps_late netlist.now (selected selection.entry) late then late_line netlist.now late else []) }
 {
     if !selection.keeps_late(netlist, late) {
         return Ok(());
@@ -91,7 +91,7 @@ pub(crate) fn put_deadlocks<S: Sink>(
     deadlocks: &[Deadlock],
     selection: Selection<'_>,
 ) -> Result<(), Failed>
-    ensures { Writes result out.old out.new (flat_map (deadlock_line end.now.at.netlist.now) (filter (keeps_deadlock end.now.at.netlist.now (selected selection)) deadlocks.now)) }
+    ensures { Writes result out.old out.new (flat_map (deadlock_line end.now.at.netlist.now) (filter (keeps_deadlock end.now.at.netlist.now (selected selection.entry)) deadlocks.now)) }
 {
     for deadlock in deadlocks {
         put_selected_deadlock(out, end, deadlock, selection)?;
@@ -106,7 +106,7 @@ fn put_selected_deadlock<S: Sink>(
     deadlock: &Deadlock,
     selection: Selection<'_>,
 ) -> Result<(), Failed>
-    ensures { Writes result out.old out.new (if keeps_deadlock end.now.at.netlist.now (selected selection) deadlock.now then deadlock_line end.now.at.netlist.now deadlock.now else []) }
+    ensures { Writes result out.old out.new (if keeps_deadlock end.now.at.netlist.now (selected selection.entry) deadlock.now then deadlock_line end.now.at.netlist.now deadlock.now else []) }
 {
     let waits = deadlock.waits();
     if !selection.keeps_deadlock(end.at.netlist, waits) {

@@ -21,53 +21,60 @@ pub struct Selection<'a> {
 
 impl<'a> Selection<'a> {
     ghost use Rattle.std.specs.Prelude.{◌≡◌};
-    ghost use Rattle.mp_check.specs.Selections.{has_none, keeps_bundle, keeps_deadlock, keeps_finding, keeps_late, keeps_name, keeps_time, selected};
+    ghost use Rattle.std.specs.List.{list_any};
+    ghost use Rattle.mp_check.specs.Selections.{module_name, has_none, keeps_bundle, keeps_deadlock, keeps_finding, keeps_late, keeps_name, keeps_time, selected};
 
     /// Whether there are no names, so that all modules and bundles are selected.
     pub(crate) fn has_all(self) -> bool
-        ensures { result ≡ has_none self.names.now }
+        ensures { result ≡ has_none self.entry.names.now }
     {
         self.names.is_empty()
     }
 
     pub(crate) fn keeps_finding(self, netlist: &Netlist, finding: Finding) -> bool
-        ensures { result ≡ keeps_finding netlist.now (selected self) finding }
+        ensures { result ≡ keeps_finding netlist.now (selected self.entry) finding }
     {
         self.keeps_time(netlist, finding.time)
             && self.keeps_name(place_name(netlist, finding.place))
     }
 
     pub(crate) fn keeps_late(self, netlist: &Netlist, late: Late) -> bool
-        ensures { result ≡ keeps_late netlist.now (selected self) late }
+        ensures { result ≡ keeps_late netlist.now (selected self.entry) late }
     {
         self.keeps_time(netlist, late.time) && self.keeps_name(bundle_name(netlist, late.bundle))
     }
 
     /// Whether a deadlock of ports that wait for these wires is selected: one with a module of the names.
     pub(crate) fn keeps_deadlock(self, netlist: &Netlist, waits: &[Wait]) -> bool
-        ensures { result ≡ keeps_deadlock netlist.now (selected self) waits.now }
+        ensures { result ≡ keeps_deadlock netlist.now (selected self.entry) waits.now }
     {
-        self.has_all()
-            || waits
-                .iter()
-                .any(|wait| self.keeps_name(module_name(netlist, wait.waiter)))
+        self.has_all() || self.keeps_waiter(netlist, waits)
+    }
+
+    /// Whether the name of one of the modules that wait is asked for.
+    fn keeps_waiter(self, netlist: &Netlist, waits: &[Wait]) -> bool
+        ensures { result ≡ list_any (λ wait. keeps_name (selected self.entry) (module_name netlist.now wait.waiter.0)) waits.now }
+    {
+        waits
+            .iter()
+            .any(|wait| self.keeps_name(module_name(netlist, wait.waiter)))
     }
 
     /// Whether the note on a bundle is selected.
     pub(crate) fn keeps_bundle(self, netlist: &Netlist, id: BundleId) -> bool
-        ensures { result ≡ keeps_bundle netlist.now (selected self) id.0 }
+        ensures { result ≡ keeps_bundle netlist.now (selected self.entry) id.0 }
     {
         self.keeps_name(bundle_name(netlist, id))
     }
 
     fn keeps_time(self, netlist: &Netlist, time: u32) -> bool
-        ensures { result ≡ keeps_time netlist.now (selected self) time }
+        ensures { result ≡ keeps_time netlist.now (selected self.entry) time }
     {
         self.range.contains(netlist.horizon(), time)
     }
 
     fn keeps_name(self, name: &str) -> bool
-        ensures { result ≡ keeps_name (selected self) name.now }
+        ensures { result ≡ keeps_name (selected self.entry) name.now }
     {
         self.has_all() || has_name(self.names, name)
     }

@@ -1,8 +1,7 @@
 -- What the ports of a deadlock wait for.
 use Rattle.std.proofs.Common.{◌≡◌, ℕ, ◌/◌, ◌%◌, ◌==◌, ◌⊎◌, inl, inr, Bool, true, false, cond, List, [], ◌∷◌, Option, Some, None, zero, suc, refl, ap, sym, subst, ◌∙◌, arith, Contains, filter}
-use Rattle.std.specs.Prelude.{◌&&◌, slice_get, option_map, option_and_then}
+use Rattle.std.specs.Prelude.{slice_get, option_map, option_and_then}
 use Rattle.std.specs.List.{range_with_len}
-use Rattle.std.proofs.lemmas.Bool.{and_parts}
 use Rattle.std.proofs.lemmas.Option.{none-some, same_Some}
 use Rattle.mp_records.specs.declared.ids.WireId.{WireId}
 use Rattle.mp_records.specs.declared.ids.ModuleId.{ModuleId}
@@ -17,7 +16,7 @@ use Rattle.mp_model.proofs.MemberLemmas.{contains_cases, map_contains}
 use Rattle.mp_sets.proofs.ClosedLemmas.{true_false}
 use Rattle.mp_check.specs.Dead.{dead, last_unit, port_numbers, port_number, port_slots}
 use Rattle.mp_check.specs.Ways.{begins_round}
-use Rattle.mp_check.specs.Waiting.{awaited, first_wait, has_driver, is_port_in, may_wait, port_by, wait_for, wait_in, wait_of, waiting}
+use Rattle.mp_check.specs.Waiting.{awaited, first_wait, has_driver, is_port_in, port_by, wait_for, wait_in, wait_of, waiting}
 use Rattle.mp_check.specs.Deadlocks.{next_port, waits_to, deadlock_from, deadlocks}
 use Rattle.mp_check.specs.declared.wait.Wait.{Wait}
 use Rattle.mp_check.proofs.AwaitedLemmas.{waiting_is_dead}

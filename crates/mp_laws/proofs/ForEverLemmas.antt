@@ -1,45 +1,43 @@
 -- Dead ports keep their wires for ever.
-use Rattle.std.proofs.Common.{◌≡◌, ℕ, ◌+◌, ◌-◌, ◌/◌, ◌%◌, ◌*◌, ◌<◌, ◌≤◌, ◌&&◌, ◌⊎◌, inl, inr, Bool, true, false, List, [], ◌∷◌, length, slice_index, Option, Some, None, zero, suc, refl, ap, sym, subst, ◌∙◌, arith}
+use Rattle.std.proofs.Common.{◌≡◌, ℕ, ◌+◌, ◌-◌, ◌/◌, ◌%◌, ◌<◌, ◌≤◌, ◌⊎◌, inl, inr, Bool, true, false, List, [], ◌∷◌, length, slice_index, Option, Some, None, zero, suc, refl, ap, sym, subst, ◌∙◌, arith}
 use Rattle.std.specs.Prelude.{slice_get, nat_le}
-use Rattle.std.specs.List.{list_any, Contains}
+use Rattle.std.specs.List.{list_any}
 use Rattle.std.proofs.lemmas.Bool.{cases_lt, leb-true, and_parts}
 use Rattle.std.proofs.lemmas.Option.{same_Some}
 use Rattle.mp_modules.specs.declared.memory.Memory.{Memory}
 use Rattle.mp_modules.specs.Kinds.{output_count}
 use Rattle.mp_modules.specs.Memories.{output_of}
 use Rattle.mp_modules.specs.storage.AnyModules.{step}
-use Rattle.mp_records.specs.declared.ids.WireId.{WireId}
 use Rattle.mp_records.specs.declared.module_record.ModuleRecord.{ModuleRecord}
 use Rattle.mp_records.specs.declared.ports.Input.{Input}
-use Rattle.mp_records.specs.Outputs.{output_at, delay_of}
+use Rattle.mp_records.specs.Outputs.{delay_of}
 use Rattle.mp_netlist.specs.declared.driver.Driver.{Driver}
 use Rattle.mp_netlist.specs.declared.driver.Driver.TheVariants.{Nothing, Stimulus, Port}
-use Rattle.mp_netlist.specs.Circuit.{Circuit, IsCircuit, Drives, module_at, module_width}
+use Rattle.mp_netlist.specs.Circuit.{Circuit, IsCircuit, module_at, module_width}
 use Rattle.mp_netlist.specs.Drivers.{driver}
 use Rattle.mp_netlist.proofs.DriverLemmas.{finds_ports, finds_only_ports}
 use Rattle.mp_netlist.proofs.UseLemmas.{output_within}
-use Rattle.mp_model.specs.Levels.{built, initial_of, driven_level, inputs_by}
+use Rattle.mp_model.specs.Levels.{built, driven_level, inputs_by}
 use Rattle.mp_model.specs.Waves.{level, state}
 use Rattle.mp_model.proofs.BehaviourLemmas.{satisfies}
 use Rattle.mp_model.proofs.EvaluationLemmas.{port_level_is}
 use Rattle.mp_model.proofs.HistoryLemmas.{late}
 use Rattle.mp_holding.specs.Holding.{holding_sets}
-use Rattle.mp_holding.specs.Laws.{HasSet, AreSame, StaysHeld}
+use Rattle.mp_holding.specs.Laws.{HasSet, AreSame}
 use Rattle.mp_holding.proofs.HoldingLemmas.{keeps_held_outputs}
 use Rattle.mp_sets.proofs.ClosedLemmas.{true_false, or_cases}
 use Rattle.mp_questions.specs.timing.Events.{since}
 use Rattle.mp_questions.specs.timing.Waits.{given}
-use Rattle.mp_check.specs.Dead.{dead, port_numbers, port_number, is_kept, is_quiet, is_still, is_still_in, is_driven_within, are_still, last_unit}
-use Rattle.mp_check.specs.declared.wait.Wait.{Wait}
+use Rattle.mp_check.specs.Dead.{dead, port_numbers, port_number, is_still, is_still_in, is_driven_within, are_still, last_unit}
 use Rattle.mp_check.proofs.DeadLemmas.{IsKept, kept_of, dead_is_kept, kept_are_dead}
 use Rattle.mp_check.proofs.PortLemmas.{few_outputs}
 use Rattle.mp_check.proofs.QuietLemmas.{from_on}
 use Rattle.mp_check.proofs.StateLemmas.{next_state, after_step}
 use Rattle.mp_check.proofs.StillLemmas.{since_still}
-use Rattle.mp_laws.proofs.AlikeLemmas.{same_driver, same_module, same_initial, inputs_same, AreSame as AreAlike, same_upto}
+use Rattle.mp_laws.proofs.AlikeLemmas.{same_driver, same_module, same_initial, AreSame as AreAlike, same_upto}
 use Rattle.mp_laws.proofs.CycleLemmas.{waits_of_deadlock, wire_of_wait}
 use Rattle.mp_laws.proofs.ReadLemmas.{reads_wire}
-use Rattle.mp_laws.specs.ForEver.{GoesOn, AreGreatest, DeadAreGreatest, DeadStandForEver, StandsForEver}
+use Rattle.mp_laws.specs.ForEver.{GoesOn, DeadAreGreatest, DeadStandForEver, StandsForEver}
 
 pub dead_are_greatest : DeadAreGreatest
 dead_are_greatest n = record { closed = dead_is_kept n; greatest = kept_are_dead n }

@@ -49,7 +49,7 @@ module _ {X : Type 0} (same : X → X → Bool) where
     piece true y = refl
     piece false y = append-nil (t y)
 
-    line : List ℕ
+    abbrev line : List ℕ
     line = cond (is_known (take i xs) (get_or xs i d)) [] (t (get_or xs i d))
 
     -- the text of one more

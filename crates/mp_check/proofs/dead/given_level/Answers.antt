@@ -1,4 +1,4 @@
-use Rattle.std.proofs.Common.{◌≡◌, Option, ap, subst, ◌∙◌, IfSome}
+use Rattle.std.proofs.Common.{Option, ap, subst, ◌∙◌, IfSome}
 use Rattle.mp_modules.specs.Kinds.{output_width}
 use Rattle.mp_records.specs.declared.ids.WireId.{WireId}
 use Rattle.mp_netlist.specs.Circuit.{HasWidth, module_width}

@@ -1,4 +1,4 @@
-use Rattle.std.proofs.Common.{◌≡◌, ◌+◌, ◌<◌, ◌^◌, ◌×◌, ℕ, List, IfSome, get_or, length, length-take, nat_eq, take, ap, subst, sym, ◌∙◌, arith}
+use Rattle.std.proofs.Common.{◌≡◌, ◌+◌, ◌<◌, ◌^◌, ℕ, List, IfSome, get_or, length, length-take, nat_eq, take, ap, subst, sym, ◌∙◌, arith}
 use Rattle.std.specs.Map.{lookup}
 use Rattle.std.proofs.lemmas.List.{take_more}
 use Rattle.indexmap.specs.IndexMap.{insert_entry}
@@ -20,8 +20,11 @@ join-requires c =
     let all = c.args.problems.now in
     let i = c.loop-problem.problem-index in
     let q : Problem = get_or all i none in
-    subst (λ (es : List (ℕ × Group)). IfSome (lookup (nat_eq (key_of q)) es) (λ (group : Group). group.count + 1 < 2 ^ 64)) (sym c.loop-problem.invariant)
-    (room_left (take i all) q (omega (arith, length-take i all)))
+    record {
+      room =
+          subst (λ (es : List (ℕ × Group)). IfSome (lookup (nat_eq (key_of q)) es) (λ (group : Group). group.count + 1 < 2 ^ 64)) (sym c.loop-problem.invariant)
+          (room_left (take i all) q (omega (arith, length-take i all)));
+    }
 
 pub loop-problem-preserved : goal.loop-problem-preserved
 loop-problem-preserved c =

@@ -10,8 +10,8 @@ use Rattle.mp_check.proofs.quiet.is_passed_still.Goals as goal
 below : (a b : ℕ) → true ≡ nat_lt a b → a < b
 below a b test = let is : nat_lt a b ≡ true = sym test in grind (arith, nat_tests)
 
-pub returns-in-Some : goal.returns-in-Some
-returns-in-Some c =
+pub returns : goal.returns
+returns c =
     let of = c.args.of.now in
     let n = of.end.at.netlist.now in
     let r = of.part.now in

@@ -1,4 +1,4 @@
-use Rattle.std.proofs.Common.{◌≡◌, ◌≤◌, ◌<◌, ◌-◌, Option, ap, subst, sym, ◌∙◌, arith, IfSome}
+use Rattle.std.proofs.Common.{◌≡◌, ◌-◌, Option, ap, subst, ◌∙◌, arith, IfSome}
 use Rattle.mp_modules.specs.Kinds.{output_width}
 use Rattle.mp_records.specs.declared.ids.WireId.{WireId}
 use Rattle.mp_records.specs.declared.ports.Output.{Output}
@@ -6,7 +6,7 @@ use Rattle.mp_records.specs.Outputs.{delay_of}
 use Rattle.mp_netlist.specs.Circuit.{HasWidth, module_width}
 use Rattle.mp_model.specs.Waves.{level}
 use Rattle.mp_questions.specs.timing.Waits.{given}
-use Rattle.mp_check.specs.Dead.{is_quiet, is_still, last_unit}
+use Rattle.mp_check.specs.Dead.{is_still, last_unit}
 use Rattle.mp_check.proofs.PortLemmas.{wired_low}
 use Rattle.mp_check.proofs.QuietLemmas.{not_quiet, quiet_by_still}
 use Rattle.mp_check.proofs.StateLemmas.{wire_tells}
@@ -33,18 +33,18 @@ is_still_after-requires-clause-level c =
     let p = c.args.port in
     let w = c.args.wire in
     let last : of.end.at.time ≡ last_unit n = of.end.last in
-    let delay : c.output_at.result.delay ≡ delay_of r p = ap (λ (o : Output). o.delay) c.output_at.ensures in
+    let delay : c.output_at-delay.result.delay ≡ delay_of r p = ap (λ (o : Output). o.delay) c.output_at-delay.ensures in
     let upto = c.if-delay-last.false in
-    let back : last_unit n - delay_of r p ≡ of.end.at.time - c.output_at.result.delay = omega (arith, last, delay) in
+    let back : last_unit n - delay_of r p ≡ of.end.at.time - c.output_at-delay.result.delay = omega (arith, last, delay) in
     c.level_at-level.ensures (level n w.0) n.horizon c.prompt.ensures of.end.at.within ∙ ap (level n w.0) last
     ∙ wire_tells n c.horizon-horizon.ensures.form of.id.0 r of.stands p w c.requires (omega (arith, last, delay, upto)) ∙ ap (given n of.id.0 p) back
 
-pub returns-then : goal.returns-then
-returns-then c =
+pub returns-then-delay-last : goal.returns-then-delay-last
+returns-then-delay-last c =
     let of = c.args.of.now in
     let n = of.end.at.netlist.now in
     let last : of.end.at.time ≡ last_unit n = of.end.last in
-    let delay : c.output_at.result.delay ≡ delay_of of.part.now c.args.port = ap (λ (o : Output). o.delay) c.output_at.ensures in
+    let delay : c.output_at-delay.result.delay ≡ delay_of of.part.now c.args.port = ap (λ (o : Output). o.delay) c.output_at-delay.ensures in
     let long = c.if-delay-last.true in
     not_quiet n of.id.0 c.args.port (delay_of of.part.now c.args.port) (omega (arith, last, delay, long))
 
@@ -55,7 +55,7 @@ returns c =
     let r = of.part.now in
     let p = c.args.port in
     let last : of.end.at.time ≡ last_unit n = of.end.last in
-    let delay : c.output_at.result.delay ≡ delay_of r p = ap (λ (o : Output). o.delay) c.output_at.ensures in
+    let delay : c.output_at-delay.result.delay ≡ delay_of r p = ap (λ (o : Output). o.delay) c.output_at-delay.ensures in
     let upto = c.if-delay-last.false in
-    let back : of.end.at.time - c.output_at.result.delay ≡ last_unit n - delay_of r p = omega (arith, last, delay) in
+    let back : of.end.at.time - c.output_at-delay.result.delay ≡ last_unit n - delay_of r p = omega (arith, last, delay) in
     c.is_still_after.ensures ∙ ap (is_still n (given n of.id.0 p)) back ∙ quiet_by_still n of.id.0 p (delay_of r p) (omega (arith, last, delay, upto))

@@ -1,7 +1,7 @@
-use Rattle.std.proofs.Common.{◌≡◌, ℕ, ◌+◌, ◌-◌, ◌<◌, ◌≤◌, List, suc, refl, ap, sym, subst, ◌∙◌, arith}
+use Rattle.std.proofs.Common.{◌≡◌, ℕ, ◌+◌, ◌-◌, ◌<◌, List, suc, refl, ap, sym, subst, ◌∙◌, arith}
 use Rattle.mp_modules.specs.declared.memory.Memory.{Memory}
 use Rattle.mp_modules.specs.declared.storage.any_module.AnyModule.{AnyModule}
-use Rattle.mp_modules.specs.Memories.{input_levels, output_of, with_one_output}
+use Rattle.mp_modules.specs.Memories.{input_levels, output_of}
 use Rattle.mp_modules.specs.storage.AnyModules.{step}
 use Rattle.mp_model.specs.Levels.{built, inputs_by}
 use Rattle.mp_model.specs.Waves.{level}
@@ -82,8 +82,8 @@ loop-now-preserved c =
           (λ u low high. next.quiet x n.horizon u c.of-ears.ensures (omega (arith, below)) low (omega (arith, high, later))));
     }
 
-pub returns-then : goal.returns-then
-returns-then c =
+pub returns-then-output-level : goal.returns-then-output-level
+returns-then-output-level c =
     let of = c.args.of.now in
     let n = of.end.at.netlist.now in
     let m = of.id.0 in

@@ -6,9 +6,9 @@ use Rattle.mp_check.proofs.quiet.keeps_level.Given as goal
 abbrev pub invariant-loop-now : goal.invariant-loop-now
 invariant-loop-now l = record {
   end : l.end ≡ l.of.end.at.time + 1;
-  some : l.fn.after < l.now;
+  some : l.after < l.now;
   within : l.now ≤ l.end;
-  keeps : Keeps l.of.end.at.netlist.now l.of.id.0 l.fn.level l.fn.after (l.now - 1);
+  keeps : Keeps l.of.end.at.netlist.now l.of.id.0 l.level l.after (l.now - 1);
 }
 
 abbrev pub decreases-loop-now : goal.decreases-loop-now

@@ -1,4 +1,4 @@
-use Rattle.std.proofs.Common.{◌≡◌, ℕ, ◌+◌, Bool, List, length, sym, ap, subst, ◌∙◌, arith}
+use Rattle.std.proofs.Common.{◌≡◌, ℕ, ◌+◌, List, sym, subst, ◌∙◌, arith}
 use Rattle.mp_sets.specs.declared.needs.Needs.{Needs}
 use Rattle.mp_sets.specs.declared.needs.Shape.TheVariants.{Any}
 use Rattle.mp_check.specs.Dead.{port_slots}

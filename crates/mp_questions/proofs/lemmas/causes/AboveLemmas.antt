@@ -30,12 +30,12 @@ less n from c = omega arith
 
 units_few : (n : Circuit) (from m : ℕ) (changes : List WireChange) → sum_by (units_above n from) (steps_above n from m changes) ≤ sum_by (units_of n) changes
 units_few n from m [] = omega arith
-units_few n from m (c ∷ changes) = by (is_counted n from m c)
+units_few n from m (c ∷ changes) = by (is_counted n from m c) (units_few n from m changes)
   where
-    by : (b : Bool) → sum_by (units_above n from) (cond b (c ∷ steps_above n from m changes) (steps_above n from m changes)) ≤ sum_by (units_of n) (c ∷ changes)
-    by true =
-        omega (arith, sum_by-cons (units_above n from) c (steps_above n from m changes), sum_by-cons (units_of n) c changes, less n from c, units_few n from m changes)
-    by false = omega (arith, sum_by-cons (units_of n) c changes, units_few n from m changes)
+    by : (b : Bool) → sum_by (units_above n from) (steps_above n from m changes) ≤ sum_by (units_of n) changes
+        → sum_by (units_above n from) (cond b (c ∷ steps_above n from m changes) (steps_above n from m changes)) ≤ sum_by (units_of n) (c ∷ changes)
+    by true few = omega (arith, sum_by-cons (units_above n from) c (steps_above n from m changes), sum_by-cons (units_of n) c changes, less n from c, few)
+    by false few = omega (arith, sum_by-cons (units_of n) c changes, few)
 
 steps_few : (n : Circuit) (from m : ℕ) (changes : List WireChange) → length (steps_above n from m changes) ≤ length changes
 steps_few n from m changes = omega (arith, length-filter_both (is_counted n from m) (λ c. not (is_counted n from m c)) (λ c. refl) changes)

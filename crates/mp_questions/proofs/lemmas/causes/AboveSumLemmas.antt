@@ -1,5 +1,5 @@
 -- What the shares of a chain above a time add up to.
-use Rattle.std.proofs.Common.{◌≡◌, ℕ, ◌+◌, ◌-◌, ◌<◌, ◌≤◌, ◌&&◌, Bool, true, false, cond, List, [], ◌∷◌, length, map, max, nat_lt, Option, Some, None, zero, suc, refl, ap, sym, subst, ◌∙◌, arith}
+use Rattle.std.proofs.Common.{◌≡◌, ℕ, ◌+◌, ◌<◌, ◌≤◌, ◌&&◌, Bool, true, false, cond, List, [], ◌∷◌, length, map, max, nat_lt, Option, Some, None, zero, suc, refl, ap, sym, subst, ◌∙◌, arith}
 use Rattle.std.specs.List.{sum_by, range_with_len}
 use Rattle.std.proofs.lemmas.Bool.{ltb-false}
 use Rattle.std.proofs.lemmas.List.Sums.{sum_by-cons}
@@ -24,19 +24,14 @@ module _ (n : Circuit) (from : ℕ) where
 
   steps_same : (changes : List WireChange) (m : ℕ) → sum_by u (steps_above n from m changes) ≡ units_at u n changes m
   steps_same [] m = refl
-  steps_same (c ∷ changes) m = by (nat_lt from c.time) refl (is_step_in n m c)
+  steps_same (c ∷ changes) m = by (steps_above n from m changes) (steps_in n m changes) (nat_lt from c.time) refl (is_step_in n m c) (steps_same changes m)
     where
-      above : List WireChange
-      above = steps_above n from m changes
-
-      later : List WireChange
-      later = steps_in n m changes
-
-      by : (a : Bool) → nat_lt from c.time ≡ a → (b : Bool) → sum_by u (cond (a && b) (c ∷ above) above) ≡ sum_by u (cond b (c ∷ later) later)
-      by true is true = omega (arith, sum_by-cons u c above, sum_by-cons u c later, steps_same changes m)
-      by true is false = steps_same changes m
-      by false is true = omega (arith, sum_by-cons u c later, none_below c is, steps_same changes m)
-      by false is false = steps_same changes m
+      by : (above later : List WireChange) (a : Bool) → nat_lt from c.time ≡ a → (b : Bool) → sum_by u above ≡ sum_by u later
+          → sum_by u (cond (a && b) (c ∷ above) above) ≡ sum_by u (cond b (c ∷ later) later)
+      by above later true is true same = omega (arith, sum_by-cons u c above, sum_by-cons u c later, same)
+      by above later true is false same = same
+      by above later false is true same = omega (arith, sum_by-cons u c later, none_below c is, same)
+      by above later false is false same = same
 
   shares_sum : (changes : List WireChange) (a k : ℕ) → sum_by (λ (s : ModuleShare). s.units) (map (share_above n from changes) (range_with_len a k)) ≡ sum_by (λ m. sum_by u (steps_above n from m changes)) (range_with_len a k)
   shares_sum changes a zero = refl

@@ -11,16 +11,14 @@ use Rattle.mp_netlist.specs.Circuit.{Circuit, IsCircuit}
 use Rattle.mp_model.proofs.SlotLemmas.{slot_within}
 use Rattle.mp_questions.specs.declared.causes.wire_change.WireChange.{WireChange}
 use Rattle.mp_questions.specs.declared.causes.module_share.ModuleShare.{ModuleShare}
-use Rattle.mp_questions.specs.declared.causes.moment.Moment.{Moment}
-use Rattle.mp_questions.specs.causes.Changes.{last_change}
 use Rattle.mp_questions.specs.timing.Ranges.{read_time}
 use Rattle.mp_questions.specs.causes.Causes.{DrivingPort, Cause, Outside, Start, Events, driving_port, events_at, cause_by, cause_of, followed, port_of}
 use Rattle.mp_questions.specs.causes.Chains.{chain_from, chain, begin_by, begin_of}
 use Rattle.mp_questions.specs.causes.Shares.{time_of, units_of, is_port_of, is_step_in, steps_in, share, shares, has_steps, by_units}
-use Rattle.mp_questions.specs.causes.Noting.{HasRoom, noted, with_step}
+use Rattle.mp_questions.specs.causes.Noting.{HasRoom, noted}
 use Rattle.mp_questions.specs.causes.Paths.{path}
 use Rattle.mp_questions.specs.causes.Laws.{AddsUp}
-use Rattle.mp_questions.proofs.lemmas.causes.ChainLemmas.{HasTime, followed_time, rest, rest_step, last_change_is, chain_is, IsPortOf, port_is}
+use Rattle.mp_questions.proofs.lemmas.causes.ChainLemmas.{HasTime, followed_time, last_change_is, chain_is, IsPortOf, port_is}
 use Rattle.mp_questions.proofs.lemmas.causes.OrderLemmas.{sum_by_units}
 
 -- ---- how long and how many steps there are

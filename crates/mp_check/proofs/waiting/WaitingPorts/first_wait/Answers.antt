@@ -1,4 +1,4 @@
-use Rattle.std.proofs.Common.{◌≡◌, Option, ap, ◌∙◌}
+use Rattle.std.proofs.Common.{Option, ap, ◌∙◌}
 use Rattle.std.specs.Option.{option_or, option_to_list}
 use Rattle.mp_check.specs.declared.wait.Wait.{Wait}
 use Rattle.mp_check.proofs.AwaitedLemmas.{first_four}

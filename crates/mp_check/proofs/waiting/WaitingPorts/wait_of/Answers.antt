@@ -1,8 +1,7 @@
-use Rattle.std.proofs.Common.{◌≡◌, ℕ, ◌/◌, ◌%◌, Bool, true, false, cond, List, Option, None, sym, ap, subst, ◌∙◌, arith}
+use Rattle.std.proofs.Common.{◌≡◌, ℕ, ◌/◌, ◌%◌, Bool, true, false, cond, List, None, sym, ap, subst, ◌∙◌, arith}
 use Rattle.mp_netlist.specs.Circuit.{module_at}
 use Rattle.mp_check.specs.Dead.{dead, port_number, port_numbers}
 use Rattle.mp_check.specs.Waiting.{first_wait, wait_in, wait_of, waiting}
-use Rattle.mp_check.specs.declared.wait.Wait.{Wait}
 use Rattle.mp_check.proofs.AwaitedLemmas.{waiting_is_dead}
 use Rattle.mp_check.proofs.waiting.WaitingPorts.wait_of.Goals as goal
 

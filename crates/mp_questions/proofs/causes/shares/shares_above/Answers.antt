@@ -1,9 +1,9 @@
-use Rattle.std.proofs.Common.{◌≡◌, ◌-◌, ◌<◌, ℕ, max, Some, None, List, Option, cond, nat_lt, option_map, length, slice_index_or, sym, ap, ◌∙◌, subst, arith}
+use Rattle.std.proofs.Common.{◌≡◌, ◌-◌, ◌<◌, max, Some, None, List, Option, cond, nat_lt, option_map, length, slice_index_or, sym, ap, ◌∙◌, subst, arith}
 use Rattle.mp_netlist.proofs.LimitLemmas.{horizon_within}
 use Rattle.mp_questions.specs.declared.causes.levels.Levels.{Levels}
 use Rattle.mp_questions.specs.declared.causes.wire_change.WireChange.{WireChange}
-use Rattle.mp_questions.specs.causes.Causes.{Cause, DrivingPort, cause_of, cause_seen, followed, port_of, port_seen}
-use Rattle.mp_questions.specs.causes.Chains.{begin_by, begin_of}
+use Rattle.mp_questions.specs.causes.Causes.{Cause, cause_of, cause_seen, followed, port_of, port_seen}
+use Rattle.mp_questions.specs.causes.Chains.{begin_by}
 use Rattle.mp_questions.specs.causes.Noting.{AreByNumber}
 use Rattle.mp_questions.specs.causes.Shares.{time_of}
 use Rattle.mp_questions.proofs.lemmas.causes.ChainLemmas.{HasTime, followed_time, rest}
