@@ -1,11 +1,10 @@
 -- The lines of what is kept, and what is kept of all.
-use Rattle.std.proofs.Common.{◌≡◌, ℕ, ◌+◌, ◌-◌, ◌<◌, ◌≤◌, ◌&&◌, Bool, true, false, cond, nat_le, nat_lt, List, [], ◌∷◌, ◌++◌, append_assoc, All, Ok, length, take, filter, flat_map, refl, ap, ap₂, sym, subst, ◌∙◌, arith}
+use Rattle.std.proofs.Common.{◌≡◌, ℕ, ◌-◌, ◌≤◌, ◌&&◌, Bool, true, false, cond, nat_le, nat_lt, List, [], ◌∷◌, ◌++◌, append_assoc, All, Ok, length, take, filter, flat_map, refl, ap, ap₂, subst, ◌∙◌, arith}
 use Rattle.std.specs.List.{range_with_len}
 use Rattle.std.proofs.lemmas.Bool.Decides.{nat_tests}
 use Rattle.std.proofs.lemmas.List.{take_all}
 use Rattle.std.proofs.lemmas.List.Elements.{All-head, All-tail, All-weaker}
 use Rattle.mp_streams.specs.Outgoing.{Outgoing, Puts}
-use Rattle.mp_netlist.specs.Circuit.{Circuit}
 use Rattle.mp_model.specs.Findings.{findings}
 use Rattle.mp_model.specs.declared.finding.Finding.{Finding}
 use Rattle.mp_report.specs.Lines.{finding_lines}

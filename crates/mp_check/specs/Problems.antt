@@ -1,5 +1,5 @@
 -- Findings and late data, and what is alike of them.
-use Rattle.std.specs.Prelude.{ℕ, ◌-◌, Bool, false, ◌==◌, ◌&&◌, List, [], ◌∷◌, ◌++◌, codes, filter, length, map, max}
+use Rattle.std.specs.Prelude.{ℕ, ◌-◌, Bool, false, ◌==◌, ◌&&◌, List, ◌++◌, codes, filter, length, map, max}
 use Rattle.std.specs.List.{flat_map, fold, range_with_len}
 use Rattle.mp_modules.specs.Findings.{code_number, code_word}
 use Rattle.mp_netlist.specs.Circuit.{Circuit}

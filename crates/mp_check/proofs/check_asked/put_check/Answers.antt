@@ -5,7 +5,7 @@ use Rattle.mp_netlist.specs.declared.driver.Driver.{Driver}
 use Rattle.mp_netlist.specs.Circuit.{Circuit}
 use Rattle.mp_depend.specs.Drivers.{AreDrivers}
 use Rattle.mp_questions.proofs.lemmas.causes.WhyLemmas.{puts_text}
-use Rattle.mp_check.specs.CheckTexts.{check_text, selected_deadlocks, selected_notes}
+use Rattle.mp_check.specs.CheckTexts.{check_text}
 use Rattle.mp_check.specs.Checks.{IsCheckOf}
 use Rattle.mp_check.specs.Selections.{selected}
 use Rattle.mp_check.proofs.CheckLemmas.{rest_at}

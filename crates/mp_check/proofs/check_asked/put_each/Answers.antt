@@ -1,7 +1,7 @@
-use Rattle.std.proofs.Common.{ap, ◌∙◌}
+use Rattle.std.proofs.Common.{◌∙◌}
 use Rattle.mp_streams.proofs.OutLemmas.{puts_then, puts_sooner, writes_failed}
 use Rattle.mp_questions.proofs.lemmas.causes.WhyLemmas.{puts_text}
-use Rattle.mp_check.specs.CheckTexts.{selected_findings, selected_late, selected_report}
+use Rattle.mp_check.specs.CheckTexts.{selected_late}
 use Rattle.mp_check.specs.Selections.{selected}
 use Rattle.mp_check.proofs.CheckLemmas.{late_are, report_are}
 use Rattle.mp_check.proofs.check_asked.put_each.Goals as goal
