@@ -5,8 +5,11 @@ import re
 import checks
 import formats
 import pictures
+import questions
 import reader
 import reference
+import steadiness
+import timing
 import verilog as verilog_texts
 from circuit import Refused
 from reader import Fault
@@ -102,15 +105,15 @@ class Keeper:
 
     def __init__(self, circuit):
         self.circuit, self.accepted, self.work = circuit, 0, []
-        self.levels, self.states, self.found = reference.evaluated(circuit)
+        self.levels, self.states, _ = reference.evaluated(circuit)
 
     def change(self, edit):
         new = reader.edited(self.circuit, edit)
         if self.accepted == MOST_EDITS:
             raise Refused(18)
-        levels, states, found = reference.evaluated(new)
+        levels, states, _ = reference.evaluated(new)
         self.work = reference.work(self.circuit, self.states, new, states)
-        self.circuit, self.levels, self.states, self.found, self.accepted = new, levels, states, found, self.accepted + 1
+        self.circuit, self.levels, self.states, self.accepted = new, levels, states, self.accepted + 1
 
     def answer(self, question):
         if question[0] == "wave":
@@ -127,10 +130,23 @@ class Keeper:
         if question[0] == "text":
             return formats.text(self.circuit)
         if question[0] == "report":
-            return formats.report(self.circuit, self.levels, self.found)
+            return checks.report(self.circuit, *question[1:])
         if question[0] == "check":
-            return checks.check(self.circuit)[0]
+            brief = question[1:2] == ["brief"]
+            return checks.check(self.circuit, *question[2 if brief else 1 :], is_brief=brief)[0]
+        if question[0] == "steady":
+            return steadiness.steady(self.circuit)
+        if question[0] == "waits":
+            return timing.waits(self.circuit, question[1])
+        if question[0] in ("why", "path"):
+            return self.of_wires(question[1:2], lambda: getattr(questions, question[0])(self.circuit, self.circuit.wire(question[1]), *question[2:]))
+        if question[0] == "measure":
+            return self.of_wires(question[3:], lambda: timing.measure(self.circuit, *question[1:3], question[3:]))
         return {"waves": formats.waves, "dump": formats.dump}[question[0]](self.circuit, self.levels)
+
+    def of_wires(self, names, answer):
+        """An answer about the wires of these names, if all stand."""
+        return "refused 3 NoSuchWire\n" if None in map(self.circuit.wire, names) else answer()
 
     def shown(self, begin, end, names):
         if names and None in map(self.circuit.wire, names):

@@ -16,11 +16,11 @@ FORMATS = {
     "Script lines": [None, "mpwb play <"],
     "Blocks of designers": ["grep -v '^#' examples/two-designers.desk", "mpwb desk --viewers 1 <"],
     "Reports": [None, "cat rows/reports/report_bundle_busy.in", "mpwb report <"],
-    "Checks": ["mpwb check examples/stopped-pipeline.net"],
+    "Checks": ["mpwb check --brief rows/checks/check_brief.in", "mpwb check examples/stopped-pipeline.net"],
     "Value change dumps": ["cat rows/dumps/dump.in", "mpwb dump <"],
     "Timing diagrams": ["mpwb show examples/late-data.net"],
     "Measures": [f"mpwb measure {MARGINS}", f"mpwb measure {LUCK} | grep bundle"],
-    "Causes": [f"mpwb why q1 110 {SLOW} --steps 3", f"mpwb path q1 119 {SLOW}"],
+    "Causes": [f"mpwb why q1 110 {SLOW} --steps 3", f"mpwb path q1 119 {SLOW}", f"mpwb path q1 119 --from 110 {SLOW}"],
     "Explanations": ["mpwb explain BadPort"],
     "Graphs": ["mpwb graph examples/register-pipeline.net"],
     "Verilog": ["mpwb verilog examples/two-stage-control.net | sed -n '/^module netlist /,$p'"],
@@ -121,7 +121,7 @@ def compare_commands(run, wrong):
         wrong("docs/COMMANDS.md, Commands", sorted(documented), sorted(told))
     for name in sorted(told & {line.split()[0] for line in run("mpwb --help") if re.match(r"  [a-z]+  +[A-Z]", line)}):
         options = {match[1] for line in run(f"mpwb {name} --help") if (match := re.match(r"\s+(?:-\w, )?(--[a-z]+)", line))}
-        options -= {"--workers", "--least", "--help", "--at"}  # (what all have is said once, and `--at` beside its command)
+        options -= {"--workers", "--least", "--help", *(["--at"] if name == "desk" else [])}  # (what all have is said once, and `--at` beside `desk`)
         if options != documented[name]:
             wrong(f"docs/COMMANDS.md, {name}", sorted(documented[name]), sorted(options))
 

@@ -74,7 +74,7 @@ def texts_of(page):
 
 
 def texts_wanted(path):
-    return [written([PROGRAM, "play", path], "text\n"), written([PROGRAM, "waves", path]), written([PROGRAM, "check", path])]
+    return [written([PROGRAM, "play", path], "text\n"), written([PROGRAM, "waves", path]), written([PROGRAM, "check", path]), written([PROGRAM, "steady", path])]
 
 
 def waves(text):

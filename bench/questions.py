@@ -3,7 +3,7 @@
 names are `module_names`.
 
     bench/questions.py why WIRE TIME [STEPS] < NETLIST
-    bench/questions.py path WIRE TIME < NETLIST
+    bench/questions.py path WIRE TIME [FROM] < NETLIST
 """
 import sys
 from collections import Counter
@@ -73,15 +73,20 @@ def why(netlist, wire, time, steps=20):
     return "".join(lines[:steps]) or f"{netlist.wires[wire][0]} 0={netlist.wires[wire][2]} declared\n"
 
 
-def path(netlist, wire, time):
-    """What `path` writes for a wire by number."""
+def path(netlist, wire, time, since=0):
+    """What `path` writes for a wire by number, above a time."""
+    since = min(since, netlist.horizon - 1)
     units, steps = Counter(), Counter()
+    begin = since
     for (_, at), driver, events in Causes(netlist).chain(wire, time):
-        if driver:
-            units[driver[0]] += at - (events[0][0][1] if events else 0)
+        before = events[0][0][1] if events else 0
+        begin = before if driver else at
+        if driver and at > since:
+            units[driver[0]] += at - max(before, since)
             steps[driver[0]] += 1
-    order = sorted(units, key=lambda number: (-units[number], number))
-    return "".join(f"{netlist.module_names[number]} {units[number]} {steps[number]}\n" for number in order)
+    order = sorted(steps, key=lambda number: (-units[number], number))
+    lines = [f"{netlist.module_names[number]} {units[number]} {steps[number]}\n" for number in order]
+    return "".join(lines + [f"- {since} {since - begin}\n"] * (begin < since))
 
 
 def main():

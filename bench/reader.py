@@ -10,9 +10,10 @@ CODES[10] = "BadFormat"
 
 # the words of the questions of a script, with how many words their lines have
 # of each question, how many words may stand behind its first one, and which of these are numbers
-QUESTIONS = {word: (range(1), []) for word in ["waves", "text", "report", "check", "dump", "work", "graph", "verilog"]}
-QUESTIONS |= {"wave": (range(1, 2), []), "waits": (range(1, 2), [1]), "path": (range(2, 3), [2]), "measure": (range(2, 3), [1, 2])}
-QUESTIONS |= {"why": (range(2, 4), [2, 3]), "show": (range(2, 1 << 22), [1, 2])}
+QUESTIONS = {word: (range(1), []) for word in ["waves", "text", "steady", "dump", "work", "graph", "verilog"]}
+QUESTIONS |= {"wave": (range(1, 2), []), "waits": (range(1, 2), [1]), "path": (range(2, 4), [2, 3]), "why": (range(2, 4), [2, 3])}
+QUESTIONS |= {word: (range(0, 3, 2), [1, 2]) for word in ["report", "check"]}
+QUESTIONS |= {word: (range(2, 1 << 22), [1, 2]) for word in ["measure", "show"]}
 MOST_STEPS = 1048576
 # the edits that stand in netlist texts, too
 STATEMENTS = ["wire", "module", "stim", "bundle"]
@@ -127,10 +128,15 @@ def is_allowed(line):
 def question(words):
     """A question's words, with those that are numbers as such."""
     counts, numbers = QUESTIONS[words[0]]
-    want(3, len(words) - 1 in counts)
-    said = [number(word) if place in numbers else word for place, word in enumerate(words)]
-    want(4, len(said) < 4 or said[0] != "why" or 1 <= said[3] <= MOST_STEPS)
-    return said
+    front = words[: 2 if words[:2] == ["check", "brief"] else 1]
+    rest = words[len(front) :]
+    want(3, len(rest) in counts)
+    said = [number(word) if place in numbers else word for place, word in enumerate(rest, 1)]
+    if front[0] == "why" and len(said) == 3:
+        want(4, 1 <= said[2] <= MOST_STEPS)
+    if front[0] == "path" and len(said) == 3:
+        want(4, said[2] < said[1])
+    return front + said
 
 
 def line_of(line):

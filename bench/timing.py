@@ -37,14 +37,17 @@ def measured_bundle(name, requests, acknowledges, changes, late):
     return ["bundle", name, len(requests), *setup, *response, *(["late", max(late)] if late else [])]
 
 
-def measure(netlist, begin=0, end=None):
-    """What `measure` writes."""
+def measure(netlist, begin=0, end=None, names=()):
+    """What `measure` writes: with names of wires the lines of these wires alone, each once."""
     levels, _, _ = reference.evaluated(netlist)
     begin = min(begin, netlist.horizon - 1)
     end = netlist.horizon if end is None else min(end, netlist.horizon)
     all_events = [line and events(line) for line in levels]
     within = lambda wire: [time for time in all_events[wire] if begin <= time < end]
-    found = [measured_wire(wire[0], within(number)) for number, wire in enumerate(netlist.wires) if wire]
+    numbers = {wire[0]: number for number, wire in enumerate(netlist.wires) if wire}
+    found = [measured_wire(name, within(numbers[name])) for name in dict.fromkeys(names or numbers)]
+    if names:
+        return lines_of(" ".join(map(str, figures)) for figures in found)
     all_late = list(checks.Check(netlist).late()) if any(netlist.bundles) else []
     for number, (name, request, acknowledge, data, _) in ((number, bundle) for number, bundle in enumerate(netlist.bundles) if bundle):
         late = [units for time, at, units in all_late if at == number and begin <= time < end]

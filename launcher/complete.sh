@@ -39,6 +39,16 @@ options_with() {
     done <"$1/commands" | sort -u | sed -n "s/^$2 //p" | paste -s -d '|'
 }
 
+# the options whose value is a folder, each behind its command: the same option may take something else with another one
+folders_with() {
+    local command option values
+    while read -r command _; do
+        while read -r option values _; do
+            if value_is_folder "$values"; then echo "'$command $option'"; fi
+        done < <(options_in "$1/$command")
+    done <"$1/commands" | paste -s -d '|'
+}
+
 complete_in_bash() {
     local command _
     cat <<'EOF'
@@ -69,8 +79,10 @@ EOF
         done
         kind=\${operands[place < \${#operands[@]} ? place : -1]}
         case \${COMP_WORDS[COMP_CWORD - 1]} in
-        $(options_with "$1" folder)) words="" kind=folders ;;
-        $(options_with "$1" other)) words="" kind=none ;;
+        $(options_with "$1" folder) | $(options_with "$1" other)) words="" kind=none ;;
+        esac
+        case "\${COMP_WORDS[1]} \${COMP_WORDS[COMP_CWORD - 1]}" in
+        $(folders_with "$1")) kind=folders ;;
         esac
         case \${COMP_WORDS[COMP_CWORD - 2]} in
         $(options_with "$1" second)) words="" kind=none ;;

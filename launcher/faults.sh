@@ -7,7 +7,7 @@ is_showing="" # whether a command runs for which it will be shown
 shows_fault() {
     local file
     if [ -n "$is_showing" ] || [ ! -t 2 ]; then return 1; fi
-    case ${1-} in waves | report | dump | show | why | path | waits | measure | graph | verilog | play | desk) ;; *) return 1 ;; esac
+    case ${1-} in waves | report | dump | show | why | path | waits | measure | steady | graph | verilog | play | desk) ;; *) return 1 ;; esac
     file=$(file_of "$@")
     [ "$file" != - ] && [ -f "$file" ]
 }

@@ -2,8 +2,8 @@
 # ./mpwb page. The page is the viewer, and in it what the program writes of a netlist, just as it was written.
 
 viewer=$top/viewer
-scripts=(waves causes compare view painter marks page input) # those of the viewer, each behind those that it uses
-texts=(netlist waves places)                                 # what a page draws from
+scripts=(waves causes period compare view painter marks page input) # those of the viewer, each behind those that it uses
+texts=(netlist waves places period)                                 # what a page draws from
 
 # between two answers stands that to a line which isn't read: no line of an answer is the same
 divider=---
@@ -26,7 +26,7 @@ start_page() {
 }
 
 # has the program write the texts of a netlist
-answer_texts() { (printf '%s\n' text "$divider" waves "$divider" check | run play -- "$1") >"$room/answers" || exit; }
+answer_texts() { (printf '%s\n' text "$divider" waves "$divider" check "$divider" steady | run play -- "$1") >"$room/answers" || exit; }
 
 # a page with a title and the texts of a file, by these scripts of the viewer
 write_page() {
@@ -42,8 +42,8 @@ write_page() {
 # the texts, each in an element of its own
 write_texts() {
     awk -v divided="$divided" -v texts="${texts[*]}" '
-        function begin(id) { printf "<script type=\"text/plain\" id=\"%s-text\" title=\"%s\">", id, id == "places" ? "check" : id }
-        BEGIN { split(texts, ids); begin(ids[++part]) }
+        function begin(id) { printf "<script type=\"text/plain\" id=\"%s-text\" title=\"%s\">", id, id in titles ? titles[id] : id }
+        BEGIN { titles["places"] = "check"; titles["period"] = "steady"; split(texts, ids); begin(ids[++part]) }
         $0 == divided { print "</script>"; begin(ids[++part]); next }
         { print }
         END { print "</script>" }' "$1"

@@ -9,7 +9,7 @@ teller="" # the process that says it
 # whether a run with these words says it: somebody looks on, and doesn't type the netlist
 is_told() {
     if ! has_screen 2; then return 1; fi
-    case ${1-} in waves | report | dump | show | why | path | waits | measure | check | graph | verilog) ;; *) return 1 ;; esac
+    case ${1-} in waves | report | dump | show | why | path | waits | measure | check | steady | graph | verilog) ;; *) return 1 ;; esac
     [ ! -t 0 ] || [ -n "$(file_of "$@")" ]
 }
 
@@ -29,7 +29,7 @@ run_told() {
 }
 
 run_below() {
-    if [ ! -t "$answer" ]; then exec "$@" >&"$answer" {answer}>&- {terminal}>&-; fi
+    if [ ! -t "$answer" ] && [ -z "$is_counted" ]; then exec "$@" >&"$answer" {answer}>&- {terminal}>&-; fi
     set +e
     "$@" {answer}>&- {terminal}>&- | pass_answer >&"$answer"
     exit "${PIPESTATUS[0]}"

@@ -84,6 +84,17 @@ Object.assign(Painter.prototype, {
     for (const effect of view.effects) this.arrow(last, effect, colour.effect);
   },
 
+  /** The last period, shaded, and its critical cycle. */
+  period() {
+    const { ink, view, colour } = this;
+    if (!view.isPeriodShown) return;
+    const { units, to, steps } = view.period;
+    ink.globalAlpha = 0.1;
+    this.box(view.x(to - units), HEAD, units * view.scale, view.height, colour.cause);
+    ink.globalAlpha = 1;
+    for (const step of steps) this.arrow(step.events[0], step, colour.cause);
+  },
+
   /** Where a line from one change to another begins and ends, if the rows of both are there and some of it may be seen. */
   ends(from, to) {
     const { view, causes } = this;

@@ -32,7 +32,7 @@ class Page {
     this.painter = new Painter(element("picture"), this.view);
     this.found = 0; // the place of the row that the search found last
     document.querySelector("h1").textContent = document.title;
-    this.take({ netlist: written("netlist-text"), waves: written("waves-text"), places: written("places-text") });
+    this.take({ netlist: written("netlist-text"), waves: written("waves-text"), places: written("places-text"), period: written("period-text") });
   }
 
   /** Takes what the program wrote of a netlist. The cursor stays, and so does the wire that is chosen. */
@@ -48,6 +48,10 @@ class Page {
     if (isAsked) this.choose(view.row, view.cursor);
     element("places").querySelector("h2").textContent = `${places.length ? "Found" : "Nothing found"} by ${element("places-text").title}`;
     fill(element("places").querySelector("ul"), places, (place) => this.goTo(place));
+    const said = texts.period.split("\n").filter(Boolean);
+    view.period = readPeriod(said, this.causes);
+    if (!view.period) view.isPeriodShown = false;
+    fill(element("period").querySelector("ul"), said.map((text) => readPeriodLine(text, netlist)), (place) => this.goToPeriod(place));
   }
 
   /** Draws the picture before the screen is next shown. */
@@ -128,6 +132,15 @@ class Page {
     for (const other of [...rows].reverse()) this.lead(other, time);
     this.choose(rows.find((other) => other.wave.changeAt(time) >= 0) ?? rows[0], time);
     view.pointed = new Set(wires);
+  }
+
+  /** Shows the last period and its critical cycle, or hides them again after the line that says it; other lines lead to their wires. */
+  goToPeriod(place) {
+    const { view } = this;
+    if (view.period) view.isPeriodShown = place.wires.length > 0 || !view.isPeriodShown;
+    if (place.wires.length) this.goTo(place);
+    else if (view.isPeriodShown) view.look(view.period.to - view.period.units, (view.width - view.labels) / view.period.units);
+    this.show();
   }
 
   /** The time that a click at a place means: that of a change which is near, or the unit there. */

@@ -55,6 +55,7 @@ class Painter {
       this.eachRow((row, y) => this.row(row, y));
       this.cursors();
       this.arrows();
+      this.period();
     });
     this.clipped(0, HEAD, () => this.eachRow((row, y) => this.label(row, y)));
     this.clipped(view.labels, 0, () => this.head());

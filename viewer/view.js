@@ -50,6 +50,8 @@ class View {
     this.pointed = new Set(); // the wires of the place that the list leads to
     this.chain = null;
     this.effects = [];
+    this.period = null;
+    this.isPeriodShown = false;
     this.isHex = false;
   }
 

@@ -193,6 +193,7 @@ class Netlist {
 function readPlace(line, netlist) {
   const words = line.split(" ");
   const time = Number(/ at (\d+)$/.exec(line)?.[1] ?? (isDigit(line.charCodeAt(0)) ? words[0] : 0));
+  if (words[0] === "note" && words[1] === "bundle") return { line, time: Number(words.at(-1)), wires: netlist.bundles.get(words[2]) };
   if (words[0] === "note") return { line, time, wires: [netlist.wireNumbers.get(words[2])] };
   if (words[1] === "bundle") return { line, time, wires: netlist.bundles.get(words[2]) };
   if (words[1] === "module") {

@@ -16,7 +16,8 @@ from .answers.causes import Event, PathPart, Step, Wait
 from .answers.latency import Latency
 from .answers.measure import BundleMeasure, Measure, WireMeasure
 from .answers.picture import Page, Picture
-from .answers.report import Check, Deadlock, Finding, Late, Note, Report
+from .answers.report import BriefCheck, BusyNote, Check, Deadlock, Finding, Group, Late, Note, Report
+from .answers.steady import Cycle, Steady
 from .answers.waves import Wave, Waves
 from .answers.work import MadeEdit, Outcome, Work
 from .builder import Part
@@ -52,9 +53,10 @@ from .wires import Bundle, Port, Stimulus, Wire
 __version__ = "0.1.0"
 
 __all__ = [
-    "END", "AnswerError", "BrokenPipe", "Bundle", "BundleMeasure", "BundleStress", "Check", "Closed", "Deadlock", "Desk", "Differs", "Event",
-    "Fault", "FifoStage", "Finding", "Fit", "Late", "Latency", "Limit", "MadeEdit", "Measure", "Module", "Moved", "NesthrimError", "Netlist", "NoEdit",
-    "NoSeat", "Note", "OpenOrder", "OutOfMemory", "Outcome", "PackageMissing", "Page", "Part", "PathPart", "Picture", "Pin", "Port", "Program",
-    "ProgramFailed", "ProgramMissing", "Race", "Races", "Refused", "Report", "Seat", "Session", "Step", "Stimulus", "Stress", "SystemFailed",
-    "UnknownName", "Unread", "Variant", "Wait", "Wave", "Waves", "Wire", "WireMeasure", "Work", "Worst", "find_program", "sweep",
+    "END", "AnswerError", "BriefCheck", "BrokenPipe", "Bundle", "BundleMeasure", "BundleStress", "BusyNote", "Check", "Closed", "Cycle", "Deadlock",
+    "Desk", "Differs", "Event", "Fault", "FifoStage", "Finding", "Fit", "Group", "Late", "Latency", "Limit", "MadeEdit", "Measure", "Module", "Moved",
+    "NesthrimError", "Netlist", "NoEdit", "NoSeat", "Note", "OpenOrder", "OutOfMemory", "Outcome", "PackageMissing", "Page", "Part", "PathPart",
+    "Picture", "Pin", "Port", "Program", "ProgramFailed", "ProgramMissing", "Race", "Races", "Refused", "Report", "Seat", "Session", "Steady", "Step",
+    "Stimulus", "Stress", "SystemFailed", "UnknownName", "Unread", "Variant", "Wait", "Wave", "Waves", "Wire", "WireMeasure", "Work", "Worst",
+    "find_program", "sweep",
 ]  # fmt: skip

@@ -10,7 +10,7 @@ from typing import TYPE_CHECKING, Any, Iterable, Iterator, List, Optional, Seque
 from .answers.table import Row, module_row
 from .contents import Contents
 from .difference import edits_between
-from .faults import fault_of
+from .faults import written_by
 from .graphs import digraph
 from .modules import Module
 from .program import Program, find_program
@@ -26,9 +26,6 @@ if TYPE_CHECKING:
 
 # of its text a notebook shows so many lines
 _MOST_SHOWN = 60
-
-# the status of `check` if it finds more than notes
-_FOUND = 5
 
 
 class Netlist(Contents, Questions, Stressed):
@@ -87,11 +84,7 @@ class Netlist(Contents, Questions, Stressed):
         return self.program or find_program()
 
     def _run(self, words: Sequence[str]) -> str:
-        program, text = self._program(), str(self)
-        output = program.run(words, text)
-        if output.status != 0 and not (words[0] == "check" and output.status == _FOUND):
-            raise fault_of(output, program, text, self.origin)
-        return output.written
+        return written_by(self._program(), words, str(self), self.origin)
 
     def _ask(self, words: Sequence[str]) -> str:
         command = _command(words)
@@ -165,9 +158,11 @@ class Netlist(Contents, Questions, Stressed):
 
 
 # questions that a command answers as they are, with their numbers
-_SAME = re.compile(r"waves|report|check|dump|graph|verilog|waits \d+|path \w+ \d+", re.ASCII)
-_MEASURE = re.compile(r"measure (\d+) (\d+)", re.ASCII)
+_SAME = re.compile(r"waves|report|check|steady|dump|graph|verilog|waits \d+|path \w+ \d+", re.ASCII)
+_FOUND = re.compile(r"(report|check(?: brief)?)(?: (\d+) (\d+))?", re.ASCII)
+_MEASURE = re.compile(r"measure (\d+) (\d+)((?: \w+)*)", re.ASCII)
 _WHY = re.compile(r"why (\w+) (\d+) (\d+)", re.ASCII)
+_PATH = re.compile(r"path (\w+) (\d+) (\d+)", re.ASCII)
 
 
 def _command(words: Sequence[str]) -> Optional[List[str]]:
@@ -175,8 +170,13 @@ def _command(words: Sequence[str]) -> Optional[List[str]]:
     question = " ".join(words)
     if _SAME.fullmatch(question):
         return list(words)
+    if found := _FOUND.fullmatch(question):
+        times = [] if found[2] is None else [f"--from={found[2]}", f"--to={found[3]}"]
+        return [*found[1].replace(" ", " --").split(), *times]
     if found := _MEASURE.fullmatch(question):
-        return ["measure", f"--from={found[1]}", f"--to={found[2]}"]
+        return ["measure", f"--from={found[1]}", f"--to={found[2]}", *(f"--wire={wire}" for wire in found[3].split())]
     if found := _WHY.fullmatch(question):
         return ["why", found[1], found[2], f"--steps={found[3]}"]
+    if found := _PATH.fullmatch(question):
+        return ["path", found[1], found[2], f"--from={found[3]}"]
     return None

@@ -4,24 +4,28 @@ from __future__ import annotations
 
 import os
 from abc import ABC, abstractmethod
-from typing import Any, Callable, Dict, Iterable, Optional, Sequence, Tuple, Union
+from typing import Any, Callable, Dict, Iterable, Literal, Optional, Sequence, Tuple, Union, overload
 
 from .answers.causes import PathPart, Step, Wait, read_path, read_waits, read_why
 from .answers.latency import Latency, latency_between
 from .answers.measure import Measure, read_measure
 from .answers.picture import Page, Picture
-from .answers.report import Check, Report, read_check, read_report
+from .answers.report import BriefCheck, Check, Report, read_brief_check, read_check, read_report
+from .answers.steady import Steady, read_steady
 from .answers.table import Items
 from .answers.waves import Wave, Waves, read_wave, read_waves
 from .answers.work import MadeEdit, Work, read_edits, read_version, read_work
 from .errors import ProgramFailed
+from .modules import Module
+from .names import plain_name
 from .system import asking_the_system
-from .wires import AnyWire, name_of
+from .wires import AnyWire, Bundle, name_of
 
 # a time above all horizons: the program reads it as the last time, and at the end of a range as the horizon
 END = 2**64 - 1
 
 Path = Union[str, "os.PathLike[str]"]
+AnyPlace = Union[str, Module, Bundle]
 
 # the status of a program that doesn't have the command
 _NO_COMMAND = 2
@@ -42,6 +46,10 @@ def _text(text: str, question: str) -> str:
     return text
 
 
+def _any_check(text: str, question: str) -> Union[Check, BriefCheck]:
+    return read_brief_check(text, question) if question.split()[1:2] == ["brief"] else read_check(text, question)
+
+
 def _one_wave(text: str, question: str) -> Wave:
     return read_wave(text.rstrip("\n"), question)
 
@@ -51,8 +59,9 @@ READERS: Dict[str, Callable[[str, str], Any]] = {
     "wave": _one_wave,
     "waves": read_waves,
     "report": read_report,
-    "check": read_check,
+    "check": _any_check,
     "measure": read_measure,
+    "steady": read_steady,
     "why": read_why,
     "path": read_path,
     "waits": read_waits,
@@ -60,6 +69,11 @@ READERS: Dict[str, Callable[[str, str], Any]] = {
     "edits": read_edits,
     "version": read_version,
 }
+
+
+def _place_name(place: AnyPlace) -> str:
+    """The name of a module or a bundle that is given by its name or as an object."""
+    return plain_name(place) if isinstance(place, str) else place.name
 
 
 def write_file(path: Optional[Path], text: str) -> None:
@@ -108,29 +122,57 @@ class Questions(ABC):
         wave: Wave = self._answer(["wave", name_of(wire)])
         return wave
 
-    def report(self) -> Report:
-        """What breaks a rule of a module or a bundle."""
-        report: Report = self._answer(["report"])
-        return report
+    def _found(self, words: Sequence[str], start: int, end: int, at: Iterable[AnyPlace]) -> str:
+        """The answer to `report` or `check`. A question names no modules and bundles, but a command does."""
+        names = [f"--at={_place_name(place)}" for place in at]
+        if names:
+            return self._run([words[0], *(f"--{word}" for word in words[1:]), f"--from={start}", f"--to={end}", *names])
+        return self._ask([*words, *([] if (start, end) == (0, END) else [str(start), str(end)])])
 
-    def check(self) -> Check:
-        """Whether it works: the report, data that are late, modules that wait for each other for ever, and notes."""
-        check: Check = self._answer(["check"])
-        return check
+    def report(self, start: int = 0, end: int = END, at: Iterable[AnyPlace] = ()) -> Report:
+        """What breaks a rule of a module or a bundle at the times from `start` to before `end`: of all, or of the modules and bundles of some names.
 
-    def measure(self, start: int = 0, end: int = END) -> Measure:
-        """Events of wires, the gaps between them and margins of bundles, at the times from `start` to before `end`."""
-        measure: Measure = self._answer(["measure", str(start), str(end)])
+        `UnknownName` (4 NoSuchModule) for a name that neither a module nor a bundle has.
+        """
+        return read_report(self._found(["report"], start, end, at), "report")
+
+    @overload
+    def check(self, start: int = 0, end: int = END, at: Iterable[AnyPlace] = (), *, brief: Literal[False] = False) -> Check: ...
+
+    @overload
+    def check(self, start: int = 0, end: int = END, at: Iterable[AnyPlace] = (), *, brief: Literal[True]) -> BriefCheck: ...
+
+    def check(self, start: int = 0, end: int = END, at: Iterable[AnyPlace] = (), *, brief: bool = False) -> Union[Check, BriefCheck]:
+        """Whether it works: the report, data that are late, modules that wait for each other for ever, and notes.
+
+        The report and the late data are those of the times from `start` to before `end`; all else is of the whole run. `at` is as that of `report`:
+        it leaves the deadlocks with such a module, and the notes about such a bundle. `brief` has findings and late data in groups.
+        """
+        if brief:
+            return read_brief_check(self._found(["check", "brief"], start, end, at), "check brief")
+        return read_check(self._found(["check"], start, end, at), "check")
+
+    def measure(self, start: int = 0, end: int = END, wires: Iterable[AnyWire] = ()) -> Measure:
+        """Events of wires, the gaps between them and margins of bundles, at the times from `start` to before `end`: of all, or of these wires alone."""
+        measure: Measure = self._answer(["measure", str(start), str(end), *map(name_of, wires)])
         return measure
+
+    def steady(self) -> Steady:
+        """Whether the netlist repeats for ever, how fast, and which modules set the pace."""
+        steady: Steady = self._answer(["steady"])
+        return steady
 
     def why(self, wire: AnyWire, time: int = END, steps: int = 20) -> Items[Step]:
         """The chain of causes of the wire's level at a time, the last change first, of at most `steps` steps."""
         why: Items[Step] = self._answer(["why", name_of(wire), str(time), str(steps)])
         return why
 
-    def path(self, wire: AnyWire, time: int = END) -> Items[PathPart]:
-        """Where the time of this chain went: the modules that set the pace, the slowest first."""
-        path: Items[PathPart] = self._answer(["path", name_of(wire), str(time)])
+    def path(self, wire: AnyWire, time: int = END, since: Optional[int] = None) -> Items[PathPart]:
+        """Where the time of this chain went: the modules that set the pace, the slowest first.
+
+        With `since`, which has to be below `time`, only the time from it on counts. If the chain begins before, the last part is what lies before.
+        """
+        path: Items[PathPart] = self._answer(["path", name_of(wire), str(time), *([] if since is None else [str(since)])])
         return path
 
     def waits(self, time: int = END) -> Items[Wait]:

@@ -11,7 +11,7 @@ from typing import TYPE_CHECKING, Dict, List, Optional, Sequence, Tuple, Union
 
 from .channel import Channel, Ended, Silent
 from .errors import AnswerError, BrokenPipe, NesthrimError, NoSeat
-from .faults import fault_of
+from .faults import fault_of, no_origin, written_by
 from .program import Complaints, Output, Program, find_program
 from .questions import Path
 from .system import asking_the_system
@@ -62,7 +62,7 @@ class Seat(Talk):
         return BrokenPipe(f"the desk has left the seat {self.name} before it answered: it has ended, or had no memory for the answer; take the seat again")
 
     def _run(self, words: Sequence[str]) -> str:
-        return _run_on(self.program or find_program(), words, self.text())
+        return written_by(self.program or find_program(), words, self.text(), no_origin)
 
     def close(self) -> None:
         """Leaves the seat: it is free once the desk has seen that, which is waited for."""
@@ -77,13 +77,6 @@ class Seat(Talk):
 
     def __repr__(self) -> str:
         return f"<seat {self.name}, {'taken' if self._channel.is_open else 'left'}>"
-
-
-def _run_on(program: Program, words: Sequence[str], text: str) -> str:
-    output = program.run(words, text)
-    if output.status != 0:
-        raise fault_of(output, program, text, lambda line: None)
-    return output.written
 
 
 def _need_desk(path: str) -> None:
@@ -195,7 +188,7 @@ class Desk(Talk):
         self.folder = os.fspath(folder)
         self.names = [f"designer-{number + 1}" for number in range(designers)] + [f"viewer-{number + 1}" for number in range(viewers)]
         self._text = str(netlist)
-        self._origin = (lambda line: None) if isinstance(netlist, str) else netlist.origin
+        self._origin = no_origin if isinstance(netlist, str) else netlist.origin
         words = ["desk", f"--at={self.folder}", f"--designers={designers}", f"--viewers={viewers}"]
         with asking_the_system():
             os.makedirs(self.folder, exist_ok=True)
@@ -273,7 +266,7 @@ class Desk(Talk):
         return fault_of(Output(status, "", said), self.program, self._text, self._origin)
 
     def _run(self, words: Sequence[str]) -> str:
-        return _run_on(self.program, words, self.text())
+        return written_by(self.program, words, self.text(), no_origin)
 
     def end(self) -> str:
         """Ends the desk once all seats are left, and gives what it writes then: what came of each seat, and the waves."""

@@ -8,7 +8,7 @@ from typing import TYPE_CHECKING, Optional, Sequence, Union
 
 from .channel import Channel
 from .errors import BrokenPipe, NesthrimError, NoEdit
-from .faults import Origin, fault_of
+from .faults import Origin, fault_of, no_origin, written_by
 from .lines import LONGEST_LINE, MOST_EDITS, batch_of, has_room
 from .program import Complaints, Output, Program, find_program
 from .talk import Talk
@@ -49,11 +49,7 @@ class Session(Talk):
         return fault_of(Output(status, "", said), self.program, self._text, self._origin)
 
     def _run(self, words: Sequence[str]) -> str:
-        text = self.text()
-        output = self.program.run(words, text)
-        if output.status != 0:
-            raise fault_of(output, self.program, text, lambda line: None)
-        return output.written
+        return written_by(self.program, words, self.text(), no_origin)
 
     def to(self, netlist: Netlist) -> int:
         """Makes the edits by which the session's netlist becomes this one, as one batch; nothing if it is this one. How many edits were accepted.

@@ -6,16 +6,31 @@ import os
 import tempfile
 import unittest
 import xml.etree.ElementTree
+from fractions import Fraction
 from typing import Any, Callable, List, Tuple
 
 from nesthrim import END, AnswerError, BundleMeasure, Event, Finding, Netlist, PathPart, ProgramFailed, Session, Step, Unread, Wait, WireMeasure
 from nesthrim.answers.causes import read_path, read_waits, read_why
 from nesthrim.answers.measure import read_measure
-from nesthrim.answers.report import Check, Deadlock, Late, Note, Report, read_check, read_report
+from nesthrim.answers.report import BusyNote, Check, Deadlock, Late, Note, Report, read_check, read_report
+from nesthrim.answers.steady import Cycle
 from nesthrim.answers.waves import read_waves
 from nesthrim.answers.work import read_edits, read_version, read_work
 from tests.support import TOP, Case, example, examples, needs, raw
 from tests.test_netlist import ALL_KINDS
+
+
+# a FIFO that the slow side sets the pace of: 5 units in c2 and 4 in sink for each event
+FIFO = """horizon 200
+wire r 1 0
+wire q1 1 0
+wire q2 1 0
+wire ack 1 0
+module src NOT : q1 > r/2
+module c1 C 0 0 1 : r q2 > q1/2
+module c2 C 0 0 1 : q1 ack > q2/5
+module sink BUF : q2 > ack/4
+"""
 
 
 def lines(answers: object) -> str:
@@ -188,6 +203,11 @@ class Checks(Case):
         self.assertEqual(text, str(check))
         self.assertFalse(check.ok)
         self.assertTrue(read_check("note wire x is unused\n", "check").ok)
+        busy = read_check("note bundle t is busy since 30\n", "check")
+        self.assertEqual((BusyNote("t", 30),), busy.notes)
+        self.assertEqual("note bundle t is busy since 30\n", str(busy))
+        with self.assertRaises(AnswerError):
+            read_check("note bundle t is idle\n", "check")
         self.assertEqual(4, read_measure("bundle b 2 setup 1 response 3 3 late 4\n", "measure").bundles["b"].late)
         self.assertEqual("bundle b 2 late 4", str(read_measure("bundle b 2 late 4\n", "measure").bundles["b"]))
 
@@ -226,6 +246,36 @@ class Checks(Case):
             fault = self.fault(Exception, call)
             self.assertEqual((3, "NoSuchWire", 4, "reqest"), (fault.code, fault.name, fault.line, fault.word))
             self.assertIn("request", fault.meaning)
+
+    @needs("steady")
+    def test_a_pace_is_exact(self) -> None:
+        steady = Netlist.read(FIFO).steady()
+        self.assertTrue(steady.repeats)
+        self.assertEqual((False, 18, 6, None), (steady.control, steady.period, steady.start, steady.reason))
+        self.assertEqual({"r": 2, "q1": 2, "q2": 2, "ack": 2}, steady.events)
+        self.assertEqual(Fraction(1, 9), steady.pace("q1"))
+        self.assertEqual(Cycle(18, "q2", 189, (PathPart("c2", 10, 2), PathPart("sink", 8, 2))), steady.cycle)
+
+    @needs("steady")
+    def test_what_doesnt_repeat_says_why(self) -> None:
+        over = Netlist.read(FIFO.replace("module src NOT : q1 > r/2\n", "stim r 3=1\n")).steady()
+        self.assertEqual((False, None, None, "nothing changes after 14"), (over.repeats, over.period, over.pace("q1"), over.reason))
+        short = Netlist.read(FIFO.replace("horizon 200", "horizon 20")).steady()
+        self.assertEqual((False, None, None), (short.repeats, short.cycle, short.events))
+        self.assertEqual("doesn't repeat before 20: no period of up to 14", short.reason)
+
+    @needs("steady")
+    def test_a_session_tells_its_pace(self) -> None:
+        n = Netlist.read(FIFO)
+        with Session(n) as session:
+            self.assertEqual(n.steady(), session.steady())
+            session.edit("delay c2 0 2")
+            self.assertEqual(Fraction(1, 6), session.steady().pace("q1"))
+
+    @needs("steady")
+    def test_what_the_program_says_of_periods_is_read_whole(self) -> None:
+        for text in [FIFO, LATE, ALL_KINDS, *map(example, examples())]:
+            self.assertEqual(raw(text, "steady"), str(Netlist.read(text).steady()))
 
     def test_the_program_writes_verilog(self) -> None:
         n = Netlist.read(example("register-pipeline.net"))

@@ -1,16 +1,17 @@
 -- Ports that wait for each other, one after the other.
-use Rattle.std.proofs.Common.{◌≡◌, ◌≢◌, ℕ, ◌+◌, ◌^◌, ◌/◌, ◌%◌, ◌<◌, ◌≤◌, ◌==◌, true, false, cond, List, [], ◌∷◌, ◌++◌, All, length, get_or, map, filter, Option, Some, None, zero, suc, refl, ap, sym, subst, ◌∙◌, append_assoc, inl, inr, arith}
+use Rattle.std.proofs.Common.{Bool, ◌≡◌, ◌≢◌, ℕ, ◌+◌, ◌^◌, ◌/◌, ◌%◌, ◌<◌, ◌≤◌, ◌==◌, true, false, cond, List, [], ◌∷◌, ◌++◌, All, length, get_or, map, filter, Option, Some, None, zero, suc, refl, ap, sym, subst, ◌∙◌, append_assoc, inl, inr, arith}
 use Rattle.std.specs.List.{range_with_len}
 use Rattle.std.proofs.lemmas.Bool.{cases_lt, eq-eqb, ne_eqb}
 use Rattle.std.proofs.lemmas.List.{get_or_past, length-map}
 use Rattle.std.proofs.lemmas.List.FromFn.{get_or-range_with_len, length-range_with_len}
-use Rattle.mp_netlist.specs.Circuit.{Circuit, IsCircuit}
-use Rattle.mp_check.specs.Waiting.{port_numbers, port_slots, wait_of, wait_in}
+use Rattle.mp_netlist.specs.Circuit.{Circuit, IsCircuit, module_at}
+use Rattle.mp_check.specs.Dead.{port_numbers, port_slots}
+use Rattle.mp_check.specs.Waiting.{wait_of, wait_in, waiting}
 use Rattle.mp_check.specs.Ways.{begins_round}
 use Rattle.mp_check.specs.Doubling.{next_in}
 use Rattle.mp_check.specs.Deadlocks.{port_after, next_port, waits_to, deadlock_from, deadlocks}
 use Rattle.mp_check.specs.declared.wait.Wait.{Wait}
-use Rattle.mp_check.proofs.WaitingLemmas.{slots_few}
+use Rattle.mp_check.proofs.PortLemmas.{slots_few}
 
 -- ---- what they wait for, so far
 
@@ -34,7 +35,12 @@ no_wait : (n : Circuit) (k : ℕ) → port_slots n ≤ k → wait_of n k ≡ Non
 unfolding wait_of
 no_wait n k past =
     let out : length n.modules ≤ k / port_numbers = omega (arith, past) in
-    ap (wait_in n (k / port_numbers) (k % port_numbers)) (get_or_past n.modules (k / port_numbers) None out)
+    let none : wait_in n (k / port_numbers) (k % port_numbers) (module_at n (k / port_numbers)) ≡ None = ap (wait_in n (k / port_numbers) (k % port_numbers)) (get_or_past n.modules (k / port_numbers) None out) in
+    ap (λ (o : Option Wait). cond (waiting n k) o None) none ∙ either (waiting n k)
+  where
+    either : (b : Bool) → cond b (let o : Option Wait = None in o) None ≡ None
+    either true = refl
+    either false = refl
 
 map_at : {A B : Type 0} (f : A → B) (xs : List A) (k : ℕ) (d : A) (e : B) → k < length xs → get_or (map f xs) k e ≡ f (get_or xs k d)
 map_at f [] k d e within = absurd (omega (arith, within))

@@ -11,7 +11,7 @@ use Rattle.mp_model.specs.Waves.{level, state}
 use Rattle.mp_model.proofs.BehaviourLemmas.{satisfies}
 use Rattle.mp_questions.specs.timing.Events.{since}
 use Rattle.mp_questions.proofs.lemmas.causes.EventLemmas.{no_last, steady_level}
-use Rattle.mp_check.specs.Waiting.{last_unit}
+use Rattle.mp_check.specs.Dead.{last_unit}
 use Rattle.mp_check.specs.CheckLines.{stands_since}
 use Rattle.mp_check.specs.declared.wait.Wait.{Wait}
 

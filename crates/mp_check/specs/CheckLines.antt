@@ -1,19 +1,18 @@
 -- What `check` writes.
-use Rattle.std.specs.Prelude.{ℕ, Bool, true, false, not, ◌&&◌, List, [], ◌∷◌, ◌++◌, map, max, codes, Option, Some, None}
+use Rattle.std.specs.Prelude.{ℕ, List, [], ◌∷◌, ◌++◌, map, max, codes, Option, Some, None}
 use Rattle.std.specs.List.{flat_map, fold}
 use Rattle.std.specs.Fmt.{decimal}
-use Rattle.mp_records.specs.declared.module_record.ModuleRecord.{ModuleRecord}
 use Rattle.mp_records.specs.declared.bundle_record.BundleRecord.{BundleRecord}
-use Rattle.mp_netlist.specs.Circuit.{Circuit, module_at, bundle_at}
+use Rattle.mp_netlist.specs.Circuit.{Circuit, bundle_at}
 use Rattle.mp_model.specs.Waves.{level}
-use Rattle.mp_model.specs.Findings.{findings}
 use Rattle.mp_text.specs.Written.{wire_name}
 use Rattle.mp_questions.specs.timing.Events.{since}
 use Rattle.mp_report.specs.Lines.{report_text}
 use Rattle.mp_questions.specs.late.Lateness.{all_late}
-use Rattle.mp_check.specs.Waiting.{last_unit}
+use Rattle.mp_check.specs.Dead.{last_unit}
 use Rattle.mp_check.specs.Deadlocks.{deadlocks}
 use Rattle.mp_check.specs.Notes.{notes}
+use Rattle.mp_check.specs.Selections.{module_name}
 use Rattle.mp_questions.specs.declared.late.late.Late.{Late}
 use Rattle.mp_check.specs.declared.wait.Wait.{Wait}
 
@@ -25,14 +24,9 @@ late_text (Some b) l = decimal l.time ++ (codes " bundle " ++ (b.name ++ (codes 
 abbrev pub late_line : Circuit → Late → List ℕ
 late_line n l = late_text (bundle_at n l.bundle.0) l
 
--- the name of a module, none where none stands
-abbrev pub name_in : Option ModuleRecord → List ℕ
-name_in None = []
-name_in (Some r) = r.name
-
 -- a module and the wire that it waits for, as `c3 waits for q4`
 abbrev pub wait_text : Circuit → Wait → List ℕ
-wait_text n w = name_in (module_at n w.waiter.0) ++ (codes " waits for " ++ wire_name n w.wire)
+wait_text n w = module_name n w.waiter.0 ++ (codes " waits for " ++ wire_name n w.wire)
 
 -- the same behind a comma
 abbrev pub next_text : Circuit → Wait → List ℕ
@@ -51,14 +45,6 @@ stands_since n waits = fold max 0 (map (λ w. since (level n w.wire.0) (last_uni
 abbrev pub deadlock_line : Circuit → List Wait → List ℕ
 deadlock_line n waits = decimal (stands_since n waits) ++ (codes " deadlock " ++ (waits_text n waits ++ (10 ∷ [])))
 
--- the report, then what is late, the deadlocks and the notes
-unfoldable pub check_text : Circuit → List ℕ
-check_text n = report_text n ++ (flat_map (late_line n) (all_late n) ++ (flat_map (deadlock_line n) (deadlocks n) ++ notes n))
-
-abbrev pub has_none : {A : Type 0} → List A → Bool
-has_none [] = true
-has_none (x ∷ xs) = false
-
--- more than notes is written
-abbrev pub is_wrong : Circuit → Bool
-is_wrong n = not (has_none (findings n) && has_none (all_late n) && has_none (deadlocks n))
+-- all of it: the report, then what is late, the deadlocks, and the notes on wires and on bundles
+unfoldable pub whole_check : Circuit → List ℕ
+whole_check n = report_text n ++ (flat_map (late_line n) (all_late n) ++ (flat_map (deadlock_line n) (deadlocks n) ++ notes n))

@@ -2,7 +2,8 @@
 use Rattle.std.specs.Prelude.{ℕ, ◌==◌, List, [], ◌∷◌, map, filter, Option, Some, None, zero, suc, if◌then◌else◌}
 use Rattle.std.specs.List.{range_with_len}
 use Rattle.mp_netlist.specs.Circuit.{Circuit}
-use Rattle.mp_check.specs.Waiting.{port_slots, wait_of}
+use Rattle.mp_check.specs.Dead.{port_slots}
+use Rattle.mp_check.specs.Waiting.{wait_of}
 use Rattle.mp_check.specs.Ways.{begins_round}
 use Rattle.mp_check.specs.declared.wait.Wait.{Wait}
 

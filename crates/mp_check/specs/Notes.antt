@@ -1,4 +1,4 @@
--- What is to be noted of a wire.
+-- What is to be noted of wires and of bundles.
 use Rattle.std.specs.Prelude.{ℕ, Bool, ◌==◌, ◌||◌, List, [], ◌∷◌, ◌++◌, length, codes, Option, Some, None, nat_lt, if◌then◌else◌}
 use Rattle.std.specs.List.{flat_map, list_any, range_with_len}
 use Rattle.std.specs.Fmt.{decimal}
@@ -13,6 +13,7 @@ use Rattle.mp_netlist.specs.Circuit.{Circuit, wire_at, module_at}
 use Rattle.mp_netlist.specs.Drivers.{driver}
 use Rattle.mp_netlist.specs.Slots.{stands_and}
 use Rattle.mp_questions.specs.timing.Waits.{given}
+use Rattle.mp_check.specs.Over.{bundle_notes}
 
 -- an input of the module reads the wire
 abbrev pub module_reads : ℕ → ModuleRecord → Bool
@@ -54,5 +55,9 @@ abbrev pub wire_note : Circuit → ℕ → List ℕ
 wire_note n w = slot_note n w (wire_at n w)
 
 -- the notes on all wires by number
+abbrev pub wire_notes : Circuit → List ℕ
+wire_notes n = flat_map (wire_note n) (range_with_len 0 (length n.wires))
+
+-- the notes on wires, and then those on bundles
 abbrev pub notes : Circuit → List ℕ
-notes n = flat_map (wire_note n) (range_with_len 0 (length n.wires))
+notes n = wire_notes n ++ bundle_notes n

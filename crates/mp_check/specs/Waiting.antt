@@ -1,63 +1,76 @@
--- Which port of a module can't change its wire before another wire changes.
-use Rattle.std.specs.Prelude.{ℕ, ◌+◌, ◌*◌, ◌-◌, ◌/◌, ◌%◌, Bool, ◌==◌, ◌&&◌, Option, Some, None, is_some, option_map, option_and_then, length, nat_le, slice_get, if◌then◌else◌}
-use Rattle.std.specs.List.{list_all}
+-- Which dead ports wait for the wires of others, and for which.
+use Rattle.std.specs.Prelude.{◌≡◌, ℕ, ◌/◌, ◌%◌, ◌==◌, Bool, false, ◌&&◌, List, [], ◌∷◌, Option, Some, None, option_map, option_and_then, slice_get, slice_index, zero, if◌then◌else◌}
+use Rattle.std.specs.List.{list_any, filter, flat_map}
 use Rattle.mp_modules.specs.declared.kind.Kind.{Kind}
 use Rattle.mp_modules.specs.declared.kind.Kind.TheVariants as kinds
+use Rattle.mp_modules.specs.declared.memory.Memory.{Memory}
+use Rattle.mp_modules.specs.Memories.{output_of}
+use Rattle.mp_modules.specs.storage.Reg.{is_open}
 use Rattle.mp_records.specs.declared.ids.WireId.{WireId}
 use Rattle.mp_records.specs.declared.module_record.ModuleRecord.{ModuleRecord}
 use Rattle.mp_records.specs.declared.ports.Input.{Input}
-use Rattle.mp_records.specs.declared.ports.Output.{Output}
-use Rattle.mp_records.specs.Outputs.{output_at}
 use Rattle.mp_netlist.specs.declared.driver.Driver.{Driver}
 use Rattle.mp_netlist.specs.declared.driver.Driver.TheVariants.{Nothing, Stimulus, Port}
 use Rattle.mp_netlist.specs.Circuit.{Circuit, module_at}
 use Rattle.mp_netlist.specs.Drivers.{driver}
-use Rattle.mp_model.specs.Levels.{input_by}
-use Rattle.mp_model.specs.Waves.{level}
-use Rattle.mp_questions.specs.timing.Events.{since}
-use Rattle.mp_questions.specs.timing.Waits.{missing_input}
+use Rattle.mp_model.specs.Waves.{state}
+use Rattle.mp_sets.specs.Marks.{is_marked}
+use Rattle.mp_sets.specs.ClosedSets.{in_closed_set}
+use Rattle.mp_check.specs.Dead.{dead, are_still, last_unit, port_numbers, port_number, port_slots}
+use Rattle.mp_holding.specs.Holding.{holding_sets}
 use Rattle.mp_check.specs.declared.wait.Wait.{Wait}
 
--- the last unit
-abbrev pub last_unit : Circuit → ℕ
-last_unit n = n.horizon - 1
+-- ---- what a dead port may wait for
 
--- the input without an event of which an output stays: of a REG that of the port itself, of a C that which hasn't come
-abbrev pub needed_input : Circuit → ℕ → ModuleRecord → ℕ → Kind → Option ℕ
-needed_input n m r p kinds.Buf = Some 0
-needed_input n m r p kinds.Not = Some 0
-needed_input n m r p kinds.AddC = Some 0
-needed_input n m r p kinds.XorC = Some 0
-needed_input n m r p kinds.Bit = Some 0
-needed_input n m r p kinds.Toggle = Some 0
-needed_input n m r p kinds.Select = Some 0
-needed_input n m r p kinds.Reg = if p == 0 then None else Some p
-needed_input n m r p kinds.C = missing_input n m r (last_unit n)
-needed_input n m r p _ = None
+-- the inputs of those sets that hold it
+abbrev pub held_by : Circuit → ModuleRecord → List (List ℕ) → List ℕ
+held_by n r sets = flat_map (λ set. set) (filter (are_still n (dead n) r) sets)
 
--- a level has no event later than a time, up to the last unit
-abbrev pub is_still : Circuit → (ℕ → ℕ) → ℕ → Bool
-is_still n f t = nat_le (since f (last_unit n)) t
+-- the data of a REG: while it is open the data only where nobody opens or closes it; data that stay while the control goes on keep nobody waiting
+abbrev pub open_sets : Circuit → ModuleRecord → Memory → List (List ℕ)
+open_sets n r s = if are_still n (dead n) r (1 ∷ 2 ∷ []) && slice_index s.inputs 0 == output_of s 0 then (0 ∷ []) ∷ [] else []
 
--- what an output gives is out: no input of the module has had an event in the last units, of which there are as many as its delay
-abbrev pub is_given_out : Circuit → ModuleRecord → ℕ → Bool
-is_given_out n r delay = nat_le delay (last_unit n) && list_all (λ i. is_still n (input_by n (level n) i) (last_unit n - delay)) r.inputs
+abbrev pub storing_waits : Circuit → ModuleRecord → Memory → List (List ℕ)
+storing_waits n r s = if is_open s.inputs then open_sets n r s else (1 ∷ 2 ∷ []) ∷ []
 
--- the wire at an input, where no change of it is on its way there
-abbrev pub arrived_wire : Circuit → Input → Option WireId
-arrived_wire n i = if is_still n (level n i.wire.0) (last_unit n - i.delay) then Some i.wire else None
+abbrev pub waiting_sets : Circuit → ModuleRecord → Memory → Kind → ℕ → List (List ℕ)
+waiting_sets n r s kinds.Reg zero = storing_waits n r s
+waiting_sets n r s kind p = holding_sets kind r.params s p
 
--- how many numbers of ports there are for each module
-abbrev pub port_numbers : ℕ
-port_numbers = 3
+-- the inputs that it may wait for, in their order
+abbrev pub awaited : Circuit → ModuleRecord → Memory → ℕ → List ℕ
+awaited n r s p = held_by n r (waiting_sets n r s r.kind p)
 
--- ports are numbered by module, then port
-abbrev pub port_number : ℕ → ℕ → ℕ
-port_number m p = port_numbers * m + p
+-- ---- who waits
 
--- how many numbers there are; this one itself stands for no port
-abbrev pub port_slots : Circuit → ℕ
-port_slots n = port_numbers * length n.modules
+abbrev pub has_driver : (ℕ → Bool) → Driver → Bool
+has_driver set Nothing = false
+has_driver set Stimulus = false
+has_driver set (Port m p) = set (port_number m.0 p)
+
+-- a port of a set drives an input's wire
+abbrev pub is_port_in : Circuit → (ℕ → Bool) → Option Input → Bool
+is_port_in n set None = false
+is_port_in n set (Some i) = has_driver set (driver n i.wire.0)
+
+abbrev pub may_wait_at : Circuit → (ℕ → Bool) → ℕ → ℕ → Option ModuleRecord → Bool
+may_wait_at n set m p None = false
+may_wait_at n set m p (Some r) =
+    dead n (port_number m p) && list_any (λ q. is_port_in n set (slice_get r.inputs q)) (awaited n r (state n m (last_unit n)) p)
+
+-- a dead port may wait for a wire that a port of a set drives
+unfoldable pub may_wait : Circuit → (ℕ → Bool) → ℕ → Bool
+may_wait n set k = may_wait_at n set (k / port_numbers) (k % port_numbers) (module_at n (k / port_numbers))
+
+-- the greatest set of dead ports that may wait for each other
+abbrev pub waiting : Circuit → ℕ → Bool
+waiting n k = in_closed_set (may_wait n) (port_slots n) k
+
+-- marks of the ports that wait
+abbrev pub AreWaiting : Circuit → List Bool → Type 0
+AreWaiting n marks = (k : ℕ) → is_marked marks k ≡ waiting n k
+
+-- ---- for what
 
 abbrev pub port_by : Driver → Option ℕ
 port_by Nothing = None
@@ -68,18 +81,16 @@ port_by (Port m p) = Some (port_number m.0 p)
 abbrev pub wait_for : Circuit → ℕ → WireId → Option Wait
 wait_for n m v = option_map (λ k. record { waiter = record { 0 = m }; wire = v; next = k }) (port_by (driver n v.0))
 
--- the wire that an output stays for, by the input that it needs
-abbrev pub needed_wire : Circuit → ℕ → ModuleRecord → ℕ → Option WireId
-needed_wire n m r p = option_and_then (arrived_wire n) (option_and_then (slice_get r.inputs) (needed_input n m r p r.kind))
-
--- what the port p of a module waits for, where it stands on a wire
-abbrev pub wait_by : Circuit → ℕ → ModuleRecord → ℕ → Output → Option Wait
-wait_by n m r p o = if is_some o.wire && is_given_out n r o.delay then option_and_then (wait_for n m) (needed_wire n m r p) else None
+-- the first input whose wire a waiting port drives
+abbrev pub first_wait : Circuit → ℕ → ModuleRecord → List ℕ → Option Wait
+first_wait n m r [] = None
+first_wait n m r (q ∷ qs) =
+    if is_port_in n (waiting n) (slice_get r.inputs q) then option_and_then (λ (i : Input). wait_for n m i.wire) (slice_get r.inputs q) else first_wait n m r qs
 
 abbrev pub wait_in : Circuit → ℕ → ℕ → Option ModuleRecord → Option Wait
 wait_in n m p None = None
-wait_in n m p (Some r) = wait_by n m r p (output_at r p)
+wait_in n m p (Some r) = first_wait n m r (awaited n r (state n m (last_unit n)) p)
 
 -- what the port of a number waits for
 unfoldable pub wait_of : Circuit → ℕ → Option Wait
-wait_of n k = wait_in n (k / port_numbers) (k % port_numbers) (module_at n (k / port_numbers))
+wait_of n k = if waiting n k then wait_in n (k / port_numbers) (k % port_numbers) (module_at n (k / port_numbers)) else None

@@ -1,11 +1,14 @@
 //! What is found if a netlist is checked.
-ghost use Rattle.std.specs.Prelude.{IfOk};
+ghost use Rattle.std.specs.Prelude.{◌≡◌, IfOk};
+ghost use Rattle.std.specs.List.{list_any};
 ghost use Rattle.mp_model.specs.Waves.{AreWavesOf};
 ghost use Rattle.mp_check.specs.Checks.{IsCheckOf};
+ghost use Rattle.mp_check.specs.Selections.{keeps_deadlock, keeps_finding, keeps_late, selected};
 
 use crate::deadlocks::{Deadlock, deadlocks};
 use crate::read_wires::read_wires;
 use crate::run_end::RunEnd;
+use crate::selection::Selection;
 use mp_depend::drivers_of;
 use mp_model::{Finding, Waves};
 use mp_netlist::{Driver, Netlist};
@@ -28,16 +31,41 @@ pub struct Checked {
 
 impl Checked {
     ghost use Rattle.std.specs.Prelude.{◌≡◌};
-    ghost use Rattle.mp_netlist.specs.Circuit.{Circuit};
-    ghost use Rattle.mp_check.specs.CheckLines.{is_wrong};
+    ghost use Rattle.mp_check.specs.CheckTexts.{is_wrong};
     ghost use Rattle.mp_check.specs.Checks.{IsCheckOf};
+    ghost use Rattle.mp_check.specs.Selections.{selected};
 
-    /// Whether anything is wrong: something is found, data are late, or there is a deadlock.
-    pub fn is_wrong(&self) -> bool
-        ensures { (n : Circuit) → IsCheckOf n self.now → result ≡ is_wrong n }
+    /// Whether anything that is selected is wrong: something is found, data are late, or there is a deadlock.
+    pub fn is_wrong(&self, netlist: &Netlist, selection: Selection<'_>) -> bool
+        ensures { IsCheckOf netlist.now self.now → result ≡ is_wrong netlist.now (selected selection.entry) }
     {
-        !(self.findings.is_empty() && self.late.is_empty() && self.deadlocks.is_empty())
+        has_finding(self.findings.as_slice(), netlist, selection)
+            || has_late(self.late.as_slice(), netlist, selection)
+            || has_deadlock(self.deadlocks.as_slice(), netlist, selection)
     }
+}
+
+/// Whether one of the findings is selected.
+fn has_finding(findings: &[Finding], netlist: &Netlist, selection: Selection<'_>) -> bool
+    ensures { result ≡ list_any (keeps_finding netlist.now (selected selection.entry)) findings.now }
+{
+    findings
+        .iter()
+        .any(|finding| selection.keeps_finding(netlist, *finding))
+}
+
+/// Whether some of the late data are selected.
+fn has_late(late: &[Late], netlist: &Netlist, selection: Selection<'_>) -> bool
+    ensures { result ≡ list_any (keeps_late netlist.now (selected selection.entry)) late.now }
+{
+    late.iter().any(|one| selection.keeps_late(netlist, *one))
+}
+
+/// Whether one of the deadlocks is selected.
+fn has_deadlock(deadlocks: &[Deadlock], netlist: &Netlist, selection: Selection<'_>) -> bool
+    ensures { result ≡ list_any (keeps_deadlock netlist.now (selected selection.entry)) deadlocks.now }
+{
+    deadlocks.iter().any(|deadlock| selection.keeps_deadlock(netlist, deadlock.waits()))
 }
 
 /// Checks a netlist, given its waves up to the horizon. At most `workers` threads do it, the calling one included; with 1 none is started. The error

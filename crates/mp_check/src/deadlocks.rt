@@ -1,13 +1,15 @@
 //! Ports that wait for each other for ever.
 ghost use Rattle.std.specs.Prelude.{◌≡◌, ◌≤◌, IfOk, All, map};
 ghost use Rattle.std.specs.List.{range_with_len};
-ghost use Rattle.mp_check.specs.Waiting.{port_slots};
+ghost use Rattle.mp_check.specs.Dead.{port_slots};
 ghost use Rattle.mp_check.specs.Deadlocks.{deadlock_from, deadlocks, next_port};
 
+use crate::dead::dead_ports;
+use crate::module_end::port_slots;
 use crate::rounds::round_beginnings;
 use crate::run_end::RunEnd;
 use crate::wait::Wait;
-use crate::waiting::{port_slots, wait_of};
+use crate::waiting::{WaitingPorts, waiting_ports};
 use std::alloc::{AllocError, Global};
 use std::marker::Model;
 
@@ -41,49 +43,66 @@ impl Deadlock {
 pub(crate) fn deadlocks(alloc: Global, end: &RunEnd<'_>) -> Result<Vec<Deadlock>, AllocError>
     ensures { IfOk result (λ found. found.items ≡ deadlocks end.now.at.netlist.now) }
 {
+    let dead = dead_ports(alloc, end)?;
+    let waiting = waiting_ports(alloc, end, dead.as_slice())?;
+    let ports = WaitingPorts {
+        end: *end,
+        dead: dead.as_slice(),
+        waiting: waiting.as_slice(),
+    };
+    deadlocks_among(alloc, &ports)
+}
+
+/// The deadlocks among the ports that wait.
+fn deadlocks_among(alloc: Global, ports: &WaitingPorts<'_>) -> Result<Vec<Deadlock>, AllocError>
+    ensures { IfOk result (λ found. found.items ≡ deadlocks ports.now.end.at.netlist.now) }
+{
     // Its contract says that the netlist is well formed.
-    let _horizon = end.at.netlist.horizon();
-    let next = next_ports(alloc, end)?;
+    let _horizon = ports.end.at.netlist.horizon();
+    let next = next_ports(alloc, ports)?;
     let firsts = round_beginnings(alloc, next.as_slice())?;
     let mut found = Vec::new(alloc);
     for &first in &firsts {
-        found.push(deadlock_from(alloc, end, first)?)?;
+        found.push(deadlock_from(alloc, ports, first)?)?;
     }
     Ok(found)
 }
 
 /// For each port by number the next one, whose wire it waits for; how many numbers there are if it waits for none.
-#[tactic(auto, using(crate::proofs::WayLemmas::number_steps))]
-fn next_ports(alloc: Global, end: &RunEnd<'_>) -> Result<Vec<u32>, AllocError>
-    ensures each { IfOk result (λ next. next.items ≡ map (next_port end.now.at.netlist.now) (range_with_len 0 (port_slots end.now.at.netlist.now))) }
-    ensures within { IfOk result (λ next. All (λ k. k ≤ port_slots end.now.at.netlist.now) next.items) }
+fn next_ports(alloc: Global, ports: &WaitingPorts<'_>) -> Result<Vec<u32>, AllocError>
+    ensures each { IfOk result (λ next. next.items ≡ map (next_port ports.now.end.at.netlist.now) (range_with_len 0 (port_slots ports.now.end.at.netlist.now))) }
+    ensures within { IfOk result (λ next. All (λ k. k ≤ port_slots ports.now.end.at.netlist.now) next.items) }
 {
-    let count = port_slots(end);
+    let count = port_slots(&ports.end);
     let mut next = Vec::with_capacity(alloc, count as usize)?;
     for number in 0..count {
-        next.push(next_port(end, number))?;
+        next.push(next_port(ports, number))?;
     }
     Ok(next)
 }
 
 /// The port whose wire a port waits for; how many numbers there are if it waits for none.
-fn next_port(end: &RunEnd<'_>, number: u32) -> u32
-    ensures value { result ≡ next_port end.now.at.netlist.now number }
-    ensures within { result ≤ port_slots end.now.at.netlist.now }
+fn next_port(ports: &WaitingPorts<'_>, number: u32) -> u32
+    ensures value { result ≡ next_port ports.now.end.at.netlist.now number }
+    ensures within { result ≤ port_slots ports.now.end.at.netlist.now }
 {
-    match wait_of(end, number) {
+    match ports.wait_of(number) {
         Some(wait) => wait.next,
-        None => port_slots(end),
+        None => port_slots(&ports.end),
     }
 }
 
 /// What the ports wait for that come round to a first one.
-fn deadlock_from(alloc: Global, end: &RunEnd<'_>, first: u32) -> Result<Deadlock, AllocError>
-    ensures { IfOk result (λ deadlock. deadlock ≡ deadlock_from end.now.at.netlist.now first) }
+fn deadlock_from(
+    alloc: Global,
+    ports: &WaitingPorts<'_>,
+    first: u32,
+) -> Result<Deadlock, AllocError>
+    ensures { IfOk result (λ deadlock. deadlock ≡ deadlock_from ports.now.end.at.netlist.now first) }
 {
     let mut waits = Vec::new(alloc);
-    let mut next = wait_of(end, first);
-    for _ in 0..port_slots(end) {
+    let mut next = ports.wait_of(first);
+    for _ in 0..port_slots(&ports.end) {
         let Some(wait) = next else {
             return Ok(Deadlock { waits });
         };
@@ -91,7 +110,7 @@ fn deadlock_from(alloc: Global, end: &RunEnd<'_>, first: u32) -> Result<Deadlock
         if wait.next == first {
             return Ok(Deadlock { waits });
         }
-        next = wait_of(end, wait.next);
+        next = ports.wait_of(wait.next);
     }
     Ok(Deadlock { waits })
 }

@@ -2,57 +2,25 @@
 ghost use Rattle.std.specs.Prelude.{◌≡◌};
 ghost use Rattle.std.specs.List.{flat_map};
 ghost use Rattle.mp_streams.specs.Outgoing.{Writes};
-ghost use Rattle.mp_netlist.specs.Circuit.{module_at};
-ghost use Rattle.mp_model.specs.Waves.{AreWavesOf, level};
+ghost use Rattle.mp_model.specs.Waves.{level};
 ghost use Rattle.mp_questions.specs.timing.Events.{since};
-ghost use Rattle.mp_check.specs.CheckLines.{check_text, deadlock_line, late_line, name_in, next_text, stands_since, wait_text, waits_text};
-ghost use Rattle.mp_check.specs.Checks.{IsCheckOf};
-ghost use Rattle.mp_check.specs.Waiting.{last_unit};
+ghost use Rattle.mp_check.specs.CheckLines.{deadlock_line, late_line, next_text, stands_since, wait_text, waits_text};
+ghost use Rattle.mp_check.specs.Dead.{last_unit};
 
-use crate::checked::Checked;
-use crate::deadlocks::Deadlock;
-use crate::notes::put_notes;
+use crate::names::module_name;
 use crate::run_end::RunEnd;
 use crate::wait::Wait;
-use mp_model::Waves;
-use mp_netlist::{ModuleId, Netlist, WireId};
+use mp_netlist::{Netlist, WireId};
 use mp_questions::Late;
-use mp_report::put_report;
 use mp_streams::{Failed, Out, Sink, Text};
 use mp_text::wire_name;
 
-/// Writes what a check of a netlist found: the lines of the report, a line `TIME bundle NAME late UNITS` for each change of data that is late, a line
-/// `TIME deadlock MODULE waits for WIRE, ..` for each deadlock, and a line `note wire NAME ..` for each note on a wire. Times are in units from 0.
-///
-/// `Failed` comes if the sink fails; then the sink has a beginning of what was held and of the lines, and nothing is held. It takes no memory.
-pub fn put_check<S: Sink>(
+/// Writes the line of late data.
+pub(crate) fn put_late<S: Sink>(
     out: &mut Out<S>,
     netlist: &Netlist,
-    waves: &Waves,
-    check: &Checked,
+    late: Late,
 ) -> Result<(), Failed>
-    requires waves { AreWavesOf netlist.now waves.now }
-    requires check { IsCheckOf netlist.now check.now }
-    ensures { Writes result out.old out.new (check_text netlist.now) }
-{
-    let end = RunEnd::new(netlist, waves, check.drivers.as_slice());
-    put_report(out, netlist, check.findings.as_slice())?;
-    put_late(out, netlist, check.late.as_slice())?;
-    put_deadlocks(out, &end, check.deadlocks.as_slice())?;
-    put_notes(out, &end, check.read.as_slice())
-}
-
-/// Writes the lines of late data.
-fn put_late<S: Sink>(out: &mut Out<S>, netlist: &Netlist, late: &[Late]) -> Result<(), Failed>
-    ensures { Writes result out.old out.new (flat_map (late_line netlist.now) late.now) }
-{
-    for &one in late {
-        put_one_late(out, netlist, one)?;
-    }
-    Ok(())
-}
-
-fn put_one_late<S: Sink>(out: &mut Out<S>, netlist: &Netlist, late: Late) -> Result<(), Failed>
     ensures { Writes result out.old out.new (late_line netlist.now late) }
 {
     match netlist.bundle(late.bundle) {
@@ -64,21 +32,12 @@ fn put_one_late<S: Sink>(out: &mut Out<S>, netlist: &Netlist, late: Late) -> Res
     }
 }
 
-/// Writes the lines of deadlocks.
-fn put_deadlocks<S: Sink>(
+/// Writes the line of a deadlock.
+pub(crate) fn put_deadlock<S: Sink>(
     out: &mut Out<S>,
     end: &RunEnd<'_>,
-    deadlocks: &[Deadlock],
+    waits: &[Wait],
 ) -> Result<(), Failed>
-    ensures { Writes result out.old out.new (flat_map (deadlock_line end.now.at.netlist.now) deadlocks.now) }
-{
-    for deadlock in deadlocks {
-        put_deadlock(out, end, deadlock.waits())?;
-    }
-    Ok(())
-}
-
-fn put_deadlock<S: Sink>(out: &mut Out<S>, end: &RunEnd<'_>, waits: &[Wait]) -> Result<(), Failed>
     ensures { Writes result out.old out.new (deadlock_line end.now.at.netlist.now waits.now) }
 {
     (stands_since(end, waits), " deadlock ").put_to(out)?;
@@ -98,7 +57,7 @@ fn stands_since(end: &RunEnd<'_>, waits: &[Wait]) -> u32
 }
 
 /// The time of the last change of a wire, 0 if there is none.
-fn since(end: &RunEnd<'_>, wire: WireId) -> u32
+pub(crate) fn since(end: &RunEnd<'_>, wire: WireId) -> u32
     ensures { result ≡ since (level end.now.at.netlist.now wire.0) (last_unit end.now.at.netlist.now) }
 {
     // Its contract says that the netlist is well formed.
@@ -142,14 +101,4 @@ fn put_wait<S: Sink>(out: &mut Out<S>, netlist: &Netlist, wait: Wait) -> Result<
 {
     let name = module_name(netlist, wait.waiter);
     (name, " waits for ", wire_name(netlist, wait.wire)).put_to(out)
-}
-
-/// The name of a module; empty if there is none.
-fn module_name(netlist: &Netlist, id: ModuleId) -> &str
-    ensures { result.now ≡ name_in (module_at netlist.now id.0) }
-{
-    match netlist.module(id) {
-        Some(found) => found.name.as_str(),
-        None => "",
-    }
 }

@@ -1,26 +1,56 @@
 //! What is to be noted of wires.
-ghost use Rattle.std.specs.Prelude.{◌≡◌, ◌<◌, Some, length};
+ghost use Rattle.std.specs.Prelude.{◌≡◌, ◌<◌, [], Some, if◌then◌else◌, length};
 ghost use Rattle.mp_streams.specs.Outgoing.{Writes};
 ghost use Rattle.mp_netlist.specs.declared.driver.Driver.TheVariants.{Port};
 ghost use Rattle.mp_netlist.specs.Circuit.{module_at, wire_at};
 ghost use Rattle.mp_netlist.specs.Drivers.{driver};
-ghost use Rattle.mp_check.specs.Notes.{becomes_note, driver_note, is_read, note_line, nothing_note, notes, port_note, stimulus_note, wire_note};
+ghost use Rattle.mp_check.specs.Notes.{becomes_note, driver_note, is_read, note_line, nothing_note, port_note, stimulus_note, wire_note, wire_notes};
+ghost use Rattle.mp_check.specs.CheckTexts.{selected_notes};
 ghost use Rattle.mp_check.specs.ReadWires.{AreRead};
+ghost use Rattle.mp_check.specs.Selections.{has_none, selected};
 
+use crate::busy::put_bundle_notes;
+use crate::module_end::output_at;
 use crate::read_wires::is_marked;
 use crate::run_end::RunEnd;
-use crate::waiting::output_at;
+use crate::selection::Selection;
 use mp_netlist::{Driver, ModuleId, WireId, WireRecord};
 use mp_streams::{Failed, Out, Sink, Text};
 
-/// Writes the note on each wire by number, if the marks say which wires are read.
+/// Writes the notes on wires, if no names are selected, and then those on the bundles that are. The marks say which wires are read.
 pub(crate) fn put_notes<S: Sink>(
     out: &mut Out<S>,
     end: &RunEnd<'_>,
     read: &[bool],
+    selection: Selection<'_>,
 ) -> Result<(), Failed>
     requires { AreRead end.now.at.netlist.now read.now }
-    ensures { Writes result out.old out.new (notes end.now.at.netlist.now) }
+    ensures { Writes result out.old out.new (selected_notes end.now.at.netlist.now (selected selection.entry)) }
+{
+    put_all_wires(out, end, read, selection)?;
+    put_bundle_notes(out, end, selection)
+}
+
+/// Writes the notes on wires, if no names are selected.
+fn put_all_wires<S: Sink>(
+    out: &mut Out<S>,
+    end: &RunEnd<'_>,
+    read: &[bool],
+    selection: Selection<'_>,
+) -> Result<(), Failed>
+    requires { AreRead end.now.at.netlist.now read.now }
+    ensures { Writes result out.old out.new (if has_none selection.entry.names.now then wire_notes end.now.at.netlist.now else []) }
+{
+    if !selection.has_all() {
+        return Ok(());
+    }
+    put_wire_notes(out, end, read)
+}
+
+/// Writes the note on each wire by number.
+fn put_wire_notes<S: Sink>(out: &mut Out<S>, end: &RunEnd<'_>, read: &[bool]) -> Result<(), Failed>
+    requires { AreRead end.now.at.netlist.now read.now }
+    ensures { Writes result out.old out.new (wire_notes end.now.at.netlist.now) }
 {
     for number in 0..end.at.netlist.wire_slots() {
         put_wire(out, end, read, WireId(number))?;

@@ -1,158 +1,164 @@
-//! What ports wait for.
-ghost use Rattle.std.specs.Prelude.{◌≡◌, ◌==◌, ◌<◌, IfSome, IsSome, None, Some, if◌then◌else◌};
-ghost use Rattle.mp_records.specs.Outputs.{output_at};
-ghost use Rattle.mp_netlist.specs.Circuit.{IsCircuit, IsModule, module_at, wire_at};
-ghost use Rattle.mp_model.specs.Levels.{input_by};
-ghost use Rattle.mp_model.specs.Waves.{level};
-ghost use Rattle.mp_check.specs.Waiting.{arrived_wire, is_given_out, is_still, needed_input, needed_wire, port_slots, wait_by, wait_for, wait_of};
+//! What dead ports wait for.
+ghost use Rattle.std.specs.Prelude.{◌≡◌, ℕ, Bool, IfOk, slice_get};
+ghost use Rattle.std.specs.List.{list_any};
+ghost use Rattle.std.specs.Option.{option_to_list};
+ghost use Rattle.mp_sets.specs.declared.needs.Shape.TheVariants.{Any};
+ghost use Rattle.mp_sets.specs.Needs.{are_met, is_met};
+ghost use Rattle.mp_check.specs.Awaited.{inputs_list};
+ghost use Rattle.mp_check.specs.Dead.{AreDead};
+ghost use Rattle.mp_check.specs.Waiting.{AreWaiting, is_port_in, may_wait};
 
+use crate::awaited::{AwaitedInputs, awaited};
+use crate::dead::NEVER;
+use crate::module_end::{ModuleEnd, PORTS, port_number, port_slots};
 use crate::run_end::RunEnd;
 use crate::wait::Wait;
-use mp_modules::{Kind, MOST_OUTPUTS};
-use mp_netlist::{Driver, Input, ModuleId, ModuleRecord, Output, WireId};
-use mp_questions::timing::missing_input;
+use mp_netlist::{Driver, ModuleId, WireId};
+use mp_sets::{Need, Needs, Shape, greatest_closed_set, is_marked};
+use std::alloc::{AllocError, Global};
 
-/// How many numbers of ports there are for each module.
-const PORTS: u32 = MOST_OUTPUTS as u32;
-
-/// How many numbers of ports there are.
-pub(crate) fn port_slots(end: &RunEnd<'_>) -> u32
-    ensures { result ≡ port_slots end.now.at.netlist.now }
-{
-    PORTS * end.at.netlist.module_slots()
+/// The ports that are dead and those that wait, as marks by number.
+#[derive(Clone, Copy)]
+pub(crate) struct WaitingPorts<'a> {
+    pub(crate) end: RunEnd<'a>,
+    pub(crate) dead: &'a [bool],
+    pub(crate) waiting: &'a [bool],
+    ghost are_dead: { AreDead end.at.netlist.now dead.now },
+    ghost are_waiting: { AreWaiting end.at.netlist.now waiting.now },
 }
 
-/// What the port of a number waits for, if anything.
-pub(crate) fn wait_of(end: &RunEnd<'_>, number: u32) -> Option<Wait>
-    ensures value { result ≡ wait_of end.now.at.netlist.now number }
-    ensures within { IfSome result (λ wait. wait.next < port_slots end.now.at.netlist.now) }
-{
-    let id = ModuleId(number / PORTS);
-    match end.at.netlist.module(id) {
-        Some(part) => wait_at(end, id, part, number % PORTS),
-        None => None,
-    }
-}
-
-/// What a port of a module waits for.
-fn wait_at(end: &RunEnd<'_>, id: ModuleId, part: &ModuleRecord, port: u32) -> Option<Wait>
-    requires stands { module_at end.now.at.netlist.now id.0 ≡ Some part.now }
-    requires form { IsModule end.now.at.netlist.now part.now }
-    ensures value { result ≡ wait_by end.now.at.netlist.now id.0 part.now port (output_at part.now port) }
-    ensures within { IfSome result (λ wait. wait.next < port_slots end.now.at.netlist.now) }
-{
-    let output = output_at(part, port);
-    if output.wire.is_none() || !is_given_out(end, part, output.delay) {
-        return None;
-    }
-    match needed_wire(end, id, part, port) {
-        Some(wire) => wait_for(end, id, wire),
-        None => None,
-    }
-}
-
-/// An output of a module, one without a wire if there is no such port.
-pub(crate) fn output_at(part: &ModuleRecord, port: u32) -> Output
-    ensures { result ≡ output_at part.now port }
-{
-    match part.outputs.as_slice().get(port as usize) {
-        Some(output) => *output,
-        None => Output {
-            wire: None,
-            delay: 1,
-        },
-    }
-}
-
-/// That a module waits for a wire, if a port drives that.
-fn wait_for(end: &RunEnd<'_>, waiter: ModuleId, wire: WireId) -> Option<Wait>
-    ensures value { result ≡ wait_for end.now.at.netlist.now waiter.0 wire }
-    ensures within { IfSome result (λ wait. wait.next < port_slots end.now.at.netlist.now) }
+/// A mark for each port by number: whether it waits, given marks of those that are dead.
+pub(crate) fn waiting_ports(
+    alloc: Global,
+    end: &RunEnd<'_>,
+    dead: &[bool],
+) -> Result<Vec<bool>, AllocError>
+    requires { AreDead end.now.at.netlist.now dead.now }
+    ensures { IfOk result (λ marks. AreWaiting end.now.at.netlist.now marks.items) }
 {
     // Its contract says that the netlist is well formed.
     let _horizon = end.at.netlist.horizon();
-    match end.driver_of(wire) {
-        Driver::Port(driver, output) => Some(Wait {
-            waiter,
-            wire,
-            next: PORTS * driver.0 + output,
-        }),
-        Driver::Nothing | Driver::Stimulus => None,
+    let count = port_slots(end);
+    let mut needs = Vec::with_capacity(alloc, count as usize)?;
+    for number in 0..count {
+        needs.push(needs_of(end, dead, number))?;
     }
+    greatest_closed_set(alloc, Shape::Any, needs.as_slice())
 }
 
-/// Whether the changes of a port have all reached its wire: no input of its module has had an event within the port's delay before the end.
-fn is_given_out(end: &RunEnd<'_>, part: &ModuleRecord, delay: u32) -> bool
-    requires { IsModule end.now.at.netlist.now part.now }
-    ensures { result ≡ is_given_out end.now.at.netlist.now part.now delay }
+/// What a port needs to wait: a port that drives a wire that it may wait for.
+fn needs_of(end: &RunEnd<'_>, dead: &[bool], number: u32) -> Needs
+    requires { AreDead end.now.at.netlist.now dead.now }
+    ensures { (set : ℕ → Bool) → are_met Any set result ≡ may_wait end.now.at.netlist.now set number }
 {
-    if delay > end.at.time {
-        return false;
+    if !is_marked(dead, number) {
+        return NEVER;
     }
-    for &input in part.inputs.as_slice() {
-        if !is_input_still(end, input, end.at.time - delay) {
-            return false;
+    let id = ModuleId(number / PORTS);
+    match end.at.netlist.module(id) {
+        Some(part) => {
+            let of = ModuleEnd {
+                end: *end,
+                id,
+                part,
+            };
+            port_needs(&of, awaited(&of, dead, number % PORTS))
         }
-    }
-    true
-}
-
-/// Whether an input has no event later than a time.
-fn is_input_still(end: &RunEnd<'_>, input: Input, after: u32) -> bool
-    requires { IsSome (wire_at end.now.at.netlist.now input.wire.0) }
-    ensures { result ≡ is_still end.now.at.netlist.now (input_by end.now.at.netlist.now (level end.now.at.netlist.now) input) after }
-{
-    end.at.heard(input).since(end.at.time) <= after
-}
-
-/// The wire whose change an output needs, if no change of it is on its way.
-fn needed_wire(end: &RunEnd<'_>, id: ModuleId, part: &ModuleRecord, port: u32) -> Option<WireId>
-    requires stands { module_at end.now.at.netlist.now id.0 ≡ Some part.now }
-    requires form { IsModule end.now.at.netlist.now part.now }
-    ensures { result ≡ needed_wire end.now.at.netlist.now id.0 part.now port }
-{
-    match needed_input(end, id, part, port) {
-        Some(needed) => match part.inputs.as_slice().get(needed) {
-            Some(input) => arrived_wire(end, *input),
-            None => None,
-        },
-        None => None,
+        None => NEVER,
     }
 }
 
-/// The wire at an input, if no change of it is on its way to the input.
-fn arrived_wire(end: &RunEnd<'_>, input: Input) -> Option<WireId>
-    requires { IsSome (wire_at end.now.at.netlist.now input.wire.0) }
-    ensures { result ≡ arrived_wire end.now.at.netlist.now input }
+/// The ports that drive the wires of some inputs.
+fn port_needs(of: &ModuleEnd<'_>, found: AwaitedInputs) -> Needs
+    ensures { (set : ℕ → Bool) → are_met Any set result ≡ list_any (λ q. is_port_in of.now.end.at.netlist.now set (slice_get of.now.part.now.inputs q)) (inputs_list found) }
 {
-    let last = end.at.time;
-    if end.at.prompt(input.wire).since(last) <= last.saturating_sub(input.delay) {
-        return Some(input.wire);
-    }
-    None
-}
-
-/// The input without whose event an output keeps its level.
-fn needed_input(end: &RunEnd<'_>, id: ModuleId, part: &ModuleRecord, port: u32) -> Option<usize>
-    requires stands { module_at end.now.at.netlist.now id.0 ≡ Some part.now }
-    requires form { IsModule end.now.at.netlist.now part.now }
-    ensures { result ≡ needed_input end.now.at.netlist.now id.0 part.now port part.now.kind }
-{
-    match part.kind {
-        Kind::Buf | Kind::Not | Kind::AddC | Kind::XorC | Kind::Bit => Some(0),
-        Kind::Toggle | Kind::Select => Some(0),
-        Kind::Reg => register_input(port),
-        Kind::C => missing_input(&end.at, part),
-        Kind::Xor | Kind::Sum | Kind::Call | Kind::Arbiter => None,
+    Needs {
+        first: port_need(of, found.first),
+        second: port_need(of, found.second),
+        third: port_need(of, found.third),
+        fourth: port_need(of, found.fourth),
     }
 }
 
-/// The input of a REG that an output other than the data passes on.
-fn register_input(port: u32) -> Option<usize>
-    ensures { result ≡ (if port == 0 then None else Some port) }
+/// The port that drives the wire of an input, if there is an input.
+fn port_need(of: &ModuleEnd<'_>, port: Option<usize>) -> Need
+    ensures { (set : ℕ → Bool) → is_met set result ≡ list_any (λ q. is_port_in of.now.end.at.netlist.now set (slice_get of.now.part.now.inputs q)) (option_to_list port) }
 {
     match port {
-        0 => None,
-        _ => Some(port as usize),
+        Some(port) => of.port_need(port),
+        None => Need::Never,
+    }
+}
+
+impl<'a> WaitingPorts<'a> {
+    ghost use Rattle.std.specs.Prelude.{◌≡◌, ◌<◌, IfSome, Some};
+    ghost use Rattle.std.specs.Option.{option_to_list};
+    ghost use Rattle.mp_check.specs.Awaited.{inputs_list, waiting_for};
+    ghost use Rattle.mp_check.specs.Dead.{AreDead, port_slots};
+    ghost use Rattle.mp_check.specs.Waiting.{AreWaiting, first_wait, wait_of};
+
+    /// What the port of a number waits for, if anything.
+    pub(crate) fn wait_of(&self, number: u32) -> Option<Wait>
+        ensures value { result ≡ wait_of self.now.end.at.netlist.now number }
+        ensures within { IfSome result (λ wait. wait.next < port_slots self.now.end.at.netlist.now) }
+    {
+        if !is_marked(self.waiting, number) {
+            return None;
+        }
+        let id = ModuleId(number / PORTS);
+        match self.end.at.netlist.module(id) {
+            Some(part) => {
+                let of = ModuleEnd {
+                    end: self.end,
+                    id,
+                    part,
+                };
+                self.first_wait(&of, awaited(&of, self.dead, number % PORTS))
+            }
+            None => None,
+        }
+    }
+
+    /// The first of some inputs whose wire a port drives that waits.
+    fn first_wait(&self, of: &ModuleEnd<'_>, found: AwaitedInputs) -> Option<Wait>
+        requires { of.now.end.at.netlist.now ≡ self.now.end.at.netlist.now }
+        ensures value { result ≡ first_wait self.now.end.at.netlist.now of.now.id.0 of.now.part.now (inputs_list found) }
+        ensures within { IfSome result (λ wait. wait.next < port_slots self.now.end.at.netlist.now) }
+    {
+        let first = self.wait_at(of, found.first);
+        let second = first.or(self.wait_at(of, found.second));
+        let third = second.or(self.wait_at(of, found.third));
+        third.or(self.wait_at(of, found.fourth))
+    }
+
+    /// That a module waits for the wire at an input, if a port drives it that waits.
+    fn wait_at(&self, of: &ModuleEnd<'_>, port: Option<usize>) -> Option<Wait>
+        ensures value { result ≡ first_wait self.now.end.at.netlist.now of.now.id.0 of.now.part.now (option_to_list port) }
+        ensures within { IfSome result (λ wait. wait.next < port_slots self.now.end.at.netlist.now) }
+    {
+        let Some(port) = port else {
+            return None;
+        };
+        match of.part.inputs.as_slice().get(port) {
+            Some(input) => self.wait_for(of.id, input.wire),
+            None => None,
+        }
+    }
+
+    /// That a module waits for a wire, if a port drives it that waits.
+    fn wait_for(&self, waiter: ModuleId, wire: WireId) -> Option<Wait>
+        ensures value { result ≡ waiting_for self.now.end.at.netlist.now waiter.0 wire }
+        ensures within { IfSome result (λ wait. wait.next < port_slots self.now.end.at.netlist.now) }
+    {
+        match self.end.driver_of(wire) {
+            Driver::Port(driver, output) => {
+                let next = port_number(&self.end, wire, driver, output);
+                if is_marked(self.waiting, next) {
+                    return Some(Wait { waiter, wire, next });
+                }
+                None
+            }
+            Driver::Nothing | Driver::Stimulus => None,
+        }
     }
 }

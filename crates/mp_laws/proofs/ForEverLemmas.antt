@@ -1,51 +1,82 @@
--- A deadlock stands for ever.
-use Rattle.std.proofs.Common.{◌≡◌, ℕ, ◌+◌, ◌-◌, ◌<◌, ◌≤◌, ◌⊎◌, inl, inr, List, length, slice_index, Some, zero, suc, refl, ap, sym, subst, ◌∙◌, arith}
-use Rattle.std.proofs.lemmas.Bool.{cases_lt, leb-true}
-use Rattle.std.proofs.lemmas.Option.{same_Some, slice_get_within}
-use Rattle.mp_modules.specs.declared.kind.Kind.{Kind}
-use Rattle.mp_modules.specs.declared.kind.Kind.TheVariants as kinds
+-- Dead ports keep their wires for ever.
+use Rattle.std.proofs.Common.{◌≡◌, ℕ, ◌+◌, ◌-◌, ◌/◌, ◌%◌, ◌<◌, ◌≤◌, ◌⊎◌, inl, inr, Bool, true, false, List, [], ◌∷◌, length, slice_index, Option, Some, None, zero, suc, refl, ap, sym, subst, ◌∙◌, arith}
+use Rattle.std.specs.Prelude.{slice_get, nat_le}
+use Rattle.std.specs.List.{list_any}
+use Rattle.std.proofs.lemmas.Bool.{cases_lt, leb-true, and_parts}
+use Rattle.std.proofs.lemmas.Option.{same_Some}
 use Rattle.mp_modules.specs.declared.memory.Memory.{Memory}
-use Rattle.mp_modules.specs.Kinds.{input_count, output_count}
+use Rattle.mp_modules.specs.Kinds.{output_count}
 use Rattle.mp_modules.specs.Memories.{output_of}
-use Rattle.mp_modules.specs.Tables.{rendezvous}
-use Rattle.mp_records.specs.declared.ids.WireId.{WireId}
+use Rattle.mp_modules.specs.storage.AnyModules.{step}
 use Rattle.mp_records.specs.declared.module_record.ModuleRecord.{ModuleRecord}
+use Rattle.mp_records.specs.declared.ports.Input.{Input}
 use Rattle.mp_records.specs.Outputs.{delay_of}
-use Rattle.mp_netlist.specs.declared.driver.Driver.TheVariants.{Port}
-use Rattle.mp_netlist.specs.Circuit.{Circuit, IsCircuit, module_at}
+use Rattle.mp_netlist.specs.declared.driver.Driver.{Driver}
+use Rattle.mp_netlist.specs.declared.driver.Driver.TheVariants.{Nothing, Stimulus, Port}
+use Rattle.mp_netlist.specs.Circuit.{Circuit, IsCircuit, module_at, module_width}
 use Rattle.mp_netlist.specs.Drivers.{driver}
-use Rattle.mp_netlist.proofs.DriverLemmas.{finds_only_ports}
+use Rattle.mp_netlist.proofs.DriverLemmas.{finds_ports, finds_only_ports}
 use Rattle.mp_netlist.proofs.UseLemmas.{output_within}
+use Rattle.mp_model.specs.Levels.{built, driven_level, inputs_by}
 use Rattle.mp_model.specs.Waves.{level, state}
+use Rattle.mp_model.proofs.BehaviourLemmas.{satisfies}
 use Rattle.mp_model.proofs.EvaluationLemmas.{port_level_is}
 use Rattle.mp_model.proofs.HistoryLemmas.{late}
-use Rattle.mp_laws.proofs.AlikeLemmas.{same_driver, same_module, inputs_same, AreSame, same_upto}
-use Rattle.mp_laws.proofs.CycleLemmas.{ComesTo, next_comes, IsWaiting, waiting_of, waiting_at, it_waits, deadlock_round}
-use Rattle.mp_laws.proofs.StillModuleLemmas.{from_on, since_still, heard_at, plain_stays, missing_agrees, c_stays, short, state_still, reads_wire}
-use Rattle.mp_laws.proofs.StillOutputLemmas.{plain_input, behind}
-use Rattle.mp_laws.specs.ForEver.{GoesOn, StandsForEver}
+use Rattle.mp_holding.specs.Holding.{holding_sets}
+use Rattle.mp_holding.specs.Laws.{HasSet, AreSame}
+use Rattle.mp_holding.proofs.HoldingLemmas.{keeps_held_outputs}
+use Rattle.mp_sets.proofs.ClosedLemmas.{true_false, or_cases}
 use Rattle.mp_questions.specs.timing.Events.{since}
-use Rattle.mp_questions.specs.timing.Waits.{missing_input}
-use Rattle.mp_check.proofs.WaitingLemmas.{few_outputs}
-use Rattle.mp_check.specs.Waiting.{last_unit, needed_input, port_slots, port_number, wait_of}
-use Rattle.mp_check.specs.Deadlocks.{port_after, next_port}
-use Rattle.mp_check.specs.declared.wait.Wait.{Wait}
+use Rattle.mp_questions.specs.timing.Waits.{given}
+use Rattle.mp_check.specs.Dead.{dead, port_numbers, port_number, is_still, is_still_in, is_driven_within, are_still, last_unit}
+use Rattle.mp_check.proofs.DeadLemmas.{IsKept, kept_of, dead_is_kept, kept_are_dead}
+use Rattle.mp_check.proofs.PortLemmas.{few_outputs}
+use Rattle.mp_check.proofs.QuietLemmas.{from_on}
+use Rattle.mp_check.proofs.StateLemmas.{next_state, after_step}
+use Rattle.mp_check.proofs.StillLemmas.{since_still}
+use Rattle.mp_laws.proofs.AlikeLemmas.{same_driver, same_module, same_initial, AreSame as AreAlike, same_upto}
+use Rattle.mp_laws.proofs.CycleLemmas.{waits_of_deadlock, wire_of_wait}
+use Rattle.mp_laws.proofs.ReadLemmas.{reads_wire}
+use Rattle.mp_laws.specs.ForEver.{GoesOn, DeadAreGreatest, DeadStandForEver, StandsForEver}
 
--- a C, or a kind whose output needs one input alone
-kind_cases : (n : Circuit) (m : ℕ) (r : ModuleRecord) (p : ℕ) (kind : Kind) → (kind ≡ kinds.C) ⊎ (needed_input n m r p kind ≡ plain_input kind p)
-kind_cases n m r p kinds.C = inl refl
-kind_cases n m r p kinds.Buf = inr refl
-kind_cases n m r p kinds.Not = inr refl
-kind_cases n m r p kinds.AddC = inr refl
-kind_cases n m r p kinds.XorC = inr refl
-kind_cases n m r p kinds.Bit = inr refl
-kind_cases n m r p kinds.Toggle = inr refl
-kind_cases n m r p kinds.Select = inr refl
-kind_cases n m r p kinds.Reg = inr refl
-kind_cases n m r p kinds.Xor = inr refl
-kind_cases n m r p kinds.Call = inr refl
-kind_cases n m r p kinds.Arbiter = inr refl
-kind_cases n m r p kinds.Sum = inr refl
+pub dead_are_greatest : DeadAreGreatest
+dead_are_greatest n = record { closed = dead_is_kept n; greatest = kept_are_dead n }
+
+-- a set of a list that passes a test
+found_set : (test : List ℕ → Bool) (sets : List (List ℕ)) → list_any test sets ≡ true → (set : List ℕ) × HasSet sets set × (test set ≡ true)
+found_set test [] is = absurd (true_false false is refl)
+found_set test (s ∷ sets) is = by (or_cases (test s) (list_any test sets) is) (found_set test sets)
+  where
+    by : (test s ≡ true) ⊎ (list_any test sets ≡ true) → (list_any test sets ≡ true → (set : List ℕ) × HasSet sets set × (test set ≡ true)) → (set : List ℕ) × HasSet (s ∷ sets) set × (test set ≡ true)
+    by (inl here) later = (s, inl refl, here)
+    by (inr rest) later = let one = later rest in (one.0, inr one.1, one.2)
+
+-- the state that an output of a module is in is kept while the inputs of a set that holds it keep their levels
+module _ (n : Circuit) (ok : IsCircuit n) (m : ℕ) (r : ModuleRecord) (at : module_at n m ≡ Some r) (p : ℕ) (low : p < output_count r.kind) (set : List ℕ) where
+  abbrev heard_at : ℕ → List ℕ
+  heard_at t = inputs_by n (level n) r t
+
+  abbrev Held : ℕ → Type 0
+  Held t = HasSet (holding_sets r.kind r.params (state n m t) p) set
+
+  held_step : (t : ℕ) → Held t → AreSame set (heard_at t) (heard_at (suc t)) → (output_of (state n m (suc t)) p ≡ output_of (state n m t) p) × Held (suc t)
+  held_step t held same =
+      let one = after_step n ok m r at t in
+      let s = one.0 in
+      let x = heard_at t in
+      let y = heard_at (suc t) in
+      let next : state n m (suc t) ≡ step (built n r) (step (built n r) s x) y = next_state n ok m r at t ∙ ap (λ (k : Memory). step (built n r) k y) one.1 in
+      let stays = keeps_held_outputs r.kind r.params (module_width n r) s x y p set low (subst (λ (k : Memory). HasSet (holding_sets r.kind r.params k p) set) one.1 held) same in (
+        ap (λ (k : Memory). output_of k p) next ∙ stays.output ∙ sym (ap (λ (k : Memory). output_of k p) one.1),
+        subst (λ (k : Memory). HasSet (holding_sets r.kind r.params k p) set) (sym next) stays.holds,
+      )
+
+  pub held_on : (first last : ℕ) → Held first → ((u : ℕ) → first ≤ u → u < last → AreSame set (heard_at u) (heard_at (suc u))) → (u : ℕ) → first ≤ u → u ≤ last
+      → output_of (state n m u) p ≡ output_of (state n m first) p
+  held_on first last held calm u from upto =
+      (from_on (λ u. (output_of (state n m u) p ≡ output_of (state n m first) p) × Held u) first last (refl, held)
+      (λ u from below known. let next = held_step u known.1 (calm u from below) in (next.0 ∙ known.0, next.1))
+      u from upto).0
 
 -- ---- two netlists on which the same is set up to the last unit of the first
 
@@ -53,132 +84,129 @@ module _ (n later : Circuit) (ok : IsCircuit n) (later_ok : IsCircuit later) (go
   abbrev end : ℕ
   end = last_unit n
 
-  upto_end : AreSame n later ok later_ok end goes.alike end
+  upto_end : AreAlike n later ok later_ok end goes.alike end
   upto_end = same_upto n later ok later_ok end goes.alike end (omega arith)
 
   state_same : (m t : ℕ) (r : ModuleRecord) → module_at n m ≡ Some r → t ≤ end → state later m t ≡ state n m t
   state_same m t r at low = upto_end.states m t r (omega (arith, low)) at
 
-  abbrev out_later : ℕ → ℕ → ℕ → ℕ
-  out_later m p t = output_of (state later m t) p
+  -- the wires of all dead ports at a time
+  abbrev Stand : ℕ → Type 0
+  Stand t = (m p w : ℕ) → driver n w ≡ Port (record { 0 = m }) p → dead n (port_number m p) ≡ true → level later w t ≡ level n w end
 
-  -- a port that waits keeps its output while the wire that it waits for stays
-  module _ (m p : ℕ) (w : Wait) (waits : IsWaiting n m p w) (within : p < length waits.part.outputs) (last : ℕ)
-      (calm : (s : ℕ) → end - waits.input.delay ≤ s → s < suc last → level later w.wire.0 s ≡ level n w.wire.0 end) where
-    abbrev r : ModuleRecord
-    r = waits.part
+  -- nothing drives a wire: it keeps its level
+  undriven : (w t : ℕ) → driver n w ≡ Nothing → level later w t ≡ level n w end
+  undriven w t nothing =
+      (satisfies later later_ok).levels w t ∙ ap (λ (d : Driver). driven_level d later (state later) w t) (same_driver n later ok later_ok end goes.alike w ∙ nothing)
+      ∙ same_initial n later ok later_ok end goes.alike w
+      ∙ sym (ap (λ (d : Driver). driven_level d n (state n) w end) nothing) ∙ sym ((satisfies n ok).levels w end)
 
-    at_later : module_at later m ≡ Some r
-    at_later = same_module n later ok later_ok end goes.alike m ∙ waits.stands
-
-    wire_is : waits.input.wire.0 ≡ w.wire.0
-    wire_is = ap (λ (v : WireId). v.0) waits.wire
-
-    needed_stays : (u : ℕ) → end ≤ u → u < last → slice_index (heard_at later later_ok m r at_later (suc u)) waits.port ≡ slice_index (heard_at later later_ok m r at_later u) waits.port
-    needed_stays u from below =
-        let i = waits.input in
-        let before = reads_wire later later_ok r waits.port i waits.reads u ∙ ap (λ v. level later v (u - i.delay)) wire_is ∙ calm (u - i.delay) (omega (arith, from)) (omega (arith, below)) in
-        let now = reads_wire later later_ok r waits.port i waits.reads (suc u) ∙ ap (λ v. level later v (suc u - i.delay)) wire_is ∙ calm (suc u - i.delay) (omega (arith, from)) (omega (arith, below)) in
-        now ∙ sym before
-
-    out_stays : (u : ℕ) → end ≤ u → u ≤ last → out_later m p u ≡ out_later m p end
-    out_stays = by (kind_cases n m r p r.kind)
+  module _ (t : ℕ) (before : (s : ℕ) → end ≤ s → s < t → Stand s) where
+    -- the wire of an input that is still
+    calm : (i : Input) → is_still_in n (dead n) (Some i) ≡ true → (s : ℕ) → end - i.delay ≤ s → s < t → level later i.wire.0 s ≡ level n i.wire.0 end
+    calm i is s from below = by (cases_lt s end)
       where
-        form : length r.outputs ≡ output_count r.kind
-        form = (ok.modules_ok m r waits.stands).outputs
+        w : ℕ
+        w = i.wire.0
 
-        first_agrees : (is_c : r.kind ≡ kinds.C) → behind (rendezvous r.params) (heard_at later later_ok m r at_later end) waits.port ≡ out_later m 0 end
-        first_agrees is_c =
-            let missing : missing_input n m r end ≡ Some waits.port = ap (needed_input n m r p) (sym is_c) ∙ waits.needs in
-            ap (λ (x : List ℕ). behind (rendezvous r.params) x waits.port) (inputs_same n later ok later_ok end goes.alike r end upto_end.levels)
-            ∙ missing_agrees n ok m r waits.stands is_c waits.port end missing ∙ sym (ap (λ (s : Memory). output_of s 0) (state_same m end r waits.stands (omega arith)))
+        parts : (is_still n (level n w) (end - i.delay) ≡ true) × (is_driven_within (dead n) (driver n w) ≡ true)
+        parts = and_parts (is_still n (level n w) (end - i.delay)) (is_driven_within (dead n) (driver n w)) is
 
-        by : (r.kind ≡ kinds.C) ⊎ (needed_input n m r p r.kind ≡ plain_input r.kind p) → (u : ℕ) → end ≤ u → u ≤ last → out_later m p u ≡ out_later m p end
-        by (inl is_c) u from upto =
-            let outputs : length r.outputs ≡ 1 = form ∙ ap output_count is_c in
-            let inputs : length r.inputs ≡ 2 = (ok.modules_ok m r waits.stands).inputs ∙ ap input_count is_c in
-            let only : 0 ≡ p = omega (arith, within, outputs) in
-            let low : waits.port < 2 = let read = slice_get_within r.inputs waits.port waits.input waits.reads in omega (arith, read, inputs) in
-            subst (λ k. out_later m k u ≡ out_later m k end) only
-            (c_stays later later_ok m r at_later is_c waits.port end last low (first_agrees is_c) needed_stays u from upto)
-        by (inr plain) u from upto =
-            from_on (λ u. out_later m p u ≡ out_later m p end) end last refl
-            (λ u from below known. plain_stays later later_ok m r at_later p waits.port u (sym plain ∙ waits.needs) (needed_stays u from below) ∙ known)
-            u from upto
+        later_on : end ≤ s → (d : Driver) → driver n w ≡ d → is_driven_within (dead n) d ≡ true → level later w s ≡ level n w end
+        later_on past Nothing driven within = undriven w s driven
+        later_on past Stimulus driven within = absurd (true_false false within refl)
+        later_on past (Port m p) driven within = before s past below m.0 p w driven within
 
-    -- so from its delay before the end on
-    out_same : (u : ℕ) → end - delay_of r p ≤ u → u ≤ last → out_later m p u ≡ output_of (state n m end) p
-    out_same u from upto = by (cases_lt u end)
-      where
-        by : (u < end) ⊎ (end ≤ u) → out_later m p u ≡ output_of (state n m end) p
+        by : (s < end) ⊎ (end ≤ s) → level later w s ≡ level n w end
         by (inl sooner) =
-            ap (λ (s : Memory). output_of s p) (state_same m u r waits.stands (omega (arith, sooner)))
-            ∙ ap (λ (s : Memory). output_of s p) (state_still n ok m r waits.stands (delay_of r p) waits.out u from (omega (arith, sooner)))
-        by (inr past) = out_stays u past upto ∙ ap (λ (s : Memory). output_of s p) (state_same m end r waits.stands (omega arith))
+            upto_end.levels w s (omega (arith, sooner))
+            ∙ since_still (level n w) end (end - i.delay) s (leb-true (since (level n w) end) (end - i.delay) parts.0) from (omega (arith, sooner))
+        by (inr past) = later_on past (driver n w) refl parts.1
 
-  -- ---- the cycle
+    module _ (m p : ℕ) (kept : IsKept n (dead n) m p) (within : p < length kept.part.outputs) (last : ℕ) (soon : last < t) where
+      abbrev r : ModuleRecord
+      r = kept.part
 
-  module _ (first : ℕ) (low : first < port_slots n) (round : ComesTo (next_port n) first first) where
-    abbrev Stand : ℕ → Type 0
-    Stand t = (j : ℕ) (w : Wait) → ComesTo (next_port n) first j → wait_of n j ≡ Some w → level later w.wire.0 t ≡ level n w.wire.0 end
+      at_later : module_at later m ≡ Some r
+      at_later = same_module n later ok later_ok end goes.alike m ∙ kept.stands
 
-    -- a wire that is waited for, before a time up to which the wires of the cycle stand
-    calm_before : (t : ℕ) → ((s : ℕ) → end ≤ s → s < t → Stand s) → (j m p : ℕ) (w : Wait) → ComesTo (next_port n) first j → wait_of n j ≡ Some w → (waits : IsWaiting n m p w)
-        → (s : ℕ) → end - waits.input.delay ≤ s → s < t → level later w.wire.0 s ≡ level n w.wire.0 end
-    calm_before t before j m p w comes is waits s from below = by (cases_lt s end)
+      one : (q : ℕ) (slot : Option Input) → slice_get r.inputs q ≡ slot → is_still_in n (dead n) slot ≡ true → (u : ℕ) → end ≤ u → u < last
+          → slice_index (inputs_by later (level later) r (suc u)) q ≡ slice_index (inputs_by later (level later) r u) q
+      one q None reads is u from below = absurd (true_false false is refl)
+      one q (Some i) reads is u from below =
+          reads_wire later later_ok r q i reads (suc u) ∙ calm i is (suc u - i.delay) (omega (arith, from)) (omega (arith, below, soon))
+          ∙ sym (calm i is (u - i.delay) (omega (arith, from)) (omega (arith, below, soon))) ∙ sym (reads_wire later later_ok r q i reads u)
+
+      all : (set : List ℕ) → are_still n (dead n) r set ≡ true → (u : ℕ) → end ≤ u → u < last → AreSame set (inputs_by later (level later) r u) (inputs_by later (level later) r (suc u))
+      all [] is u from below = tt
+      all (q ∷ qs) is u from below =
+          let parts = and_parts (is_still_in n (dead n) (slice_get r.inputs q)) (are_still n (dead n) r qs) is in
+          (one q (slice_get r.inputs q) refl parts.0 u from below, all qs parts.1 u from below)
+
+      out_stays : (u : ℕ) → end ≤ u → u ≤ last → output_of (state later m u) p ≡ output_of (state later m end) p
+      out_stays =
+          let found = found_set (are_still n (dead n) r) (holding_sets r.kind r.params (state n m end) p) kept.held in
+          let form = (ok.modules_ok m r kept.stands).outputs in
+          let held = subst (λ (s : Memory). HasSet (holding_sets r.kind r.params s p) found.0) (sym (state_same m end r kept.stands (omega arith))) found.1 in
+          held_on later later_ok m r at_later p (omega (arith, within, form)) found.0 end last held (all found.0 found.2)
+
+      -- so from its delay before the end on
+      out_same : (u : ℕ) → end - delay_of r p ≤ u → u ≤ last → output_of (state later m u) p ≡ given n m p end
+      out_same u from upto = by (cases_lt u end)
+        where
+          parts : (nat_le (delay_of r p) end ≡ true) × (is_still n (given n m p) (end - delay_of r p) ≡ true)
+          parts = and_parts (nat_le (delay_of r p) end) (is_still n (given n m p) (end - delay_of r p)) kept.quiet
+
+          by : (u < end) ⊎ (end ≤ u) → output_of (state later m u) p ≡ given n m p end
+          by (inl sooner) =
+              ap (λ (s : Memory). output_of s p) (state_same m u r kept.stands (omega (arith, sooner)))
+              ∙ since_still (given n m p) end (end - delay_of r p) u (leb-true (since (given n m p) end) (end - delay_of r p) parts.1) from (omega (arith, sooner))
+          by (inr past) = out_stays u past upto ∙ ap (λ (s : Memory). output_of s p) (state_same m end r kept.stands (omega arith))
+
+    stand_next : end ≤ t → Stand t
+    stand_next past m p w drives is_dead =
+        let drives_at = finds_only_ports n w p (record { 0 = m }) drives in
+        let within_part = output_within drives_at.part p (record { 0 = w }) drives_at.output in
+        let few = few_outputs drives_at.part.kind in
+        let form = (ok.modules_ok m drives_at.part drives_at.stands).outputs in
+        let first : port_number m p / port_numbers ≡ m = omega (arith, within_part, few, form) in
+        let second : port_number m p % port_numbers ≡ p = omega (arith, within_part, few, form) in
+        let kept : IsKept n (dead n) m p =
+        subst (λ q. IsKept n (dead n) m q) second (subst (λ k. IsKept n (dead n) k (port_number m p % port_numbers)) first (kept_of n (dead n) (port_number m p) (dead_is_kept n (port_number m p) is_dead))) in
+        let same : drives_at.part ≡ kept.part = same_Some {A = ModuleRecord} drives_at.part kept.part (sym drives_at.stands ∙ kept.stands) in
+        by kept (subst (λ (r : ModuleRecord). p < length r.outputs) same within_part)
       where
-        wire_is : waits.input.wire.0 ≡ w.wire.0
-        wire_is = ap (λ (v : WireId). v.0) waits.wire
+        by : (kept : IsKept n (dead n) m p) → p < length kept.part.outputs → level later w t ≡ level n w end
+        by kept within =
+            let d = delay_of kept.part p in
+            let parts = and_parts (nat_le d end) (is_still n (given n m p) (end - d)) kept.quiet in
+            let short : d ≤ end = leb-true d end parts.0 in
+            let some : 0 < d = late n kept.part p (ok.modules_ok m kept.part kept.stands) in
+            let back : t - d + d ≡ t = omega (arith, short, past) in
+            let end_back : end - d + d ≡ end = omega (arith, short) in
+            let drives_later = same_driver n later ok later_ok end goes.alike w ∙ drives in
+            let at_later = same_module n later ok later_ok end goes.alike m ∙ kept.stands in
+            sym (ap (level later w) back) ∙ port_level_is later later_ok m p w (t - d) kept.part at_later drives_later
+            ∙ out_same m p kept within (t - d) (omega (arith, some, past, short)) (t - d) (omega (arith, past)) (omega arith)
+            ∙ sym (since_still (given n m p) end (end - d) (end - d) (leb-true (since (given n m p) end) (end - d) parts.1) (omega arith) (omega arith))
+            ∙ sym (port_level_is n ok m p w (end - d) kept.part kept.stands drives) ∙ ap (level n w) end_back
 
-        by : (s < end) ⊎ (end ≤ s) → level later w.wire.0 s ≡ level n w.wire.0 end
-        by (inl sooner) =
-            let still = leb-true (since (level n waits.input.wire.0) end) (end - waits.input.delay) waits.still in
-            upto_end.levels w.wire.0 s (omega (arith, sooner))
-            ∙ subst (λ v. level n v s ≡ level n v end) wire_is (since_still (level n waits.input.wire.0) end (end - waits.input.delay) s still from (omega (arith, sooner)))
-        by (inr past) = before s past below j w comes is
+  stand_upto : (t s : ℕ) → end ≤ s → s < t → Stand s
+  stand_upto zero s past below = absurd (omega (arith, below))
+  stand_upto (suc t) s past below = by (cases_lt s t) (stand_upto t)
+    where
+      by : (s < t) ⊎ (t ≤ s) → ((s : ℕ) → end ≤ s → s < t → Stand s) → Stand s
+      by (inl sooner) before = before s past sooner
+      by (inr here) before = let is : t ≡ s = omega (arith, here, below) in subst Stand is (stand_next t before (omega (arith, is, past)))
 
-    stand_next : (t : ℕ) → end ≤ t → ((s : ℕ) → end ≤ s → s < t → Stand s) → Stand t
-    stand_next t past before j w comes is =
-        let next = next_comes (next_port n) first j round comes in
-        let here = waiting_of n j w is in
-        let m = here.other.0 in
-        let p = here.other_port in
-        let drives = finds_only_ports n w.wire.0 p here.other here.drives in
-        let number : next_port n j ≡ port_number m p = ap (port_after (port_slots n)) is ∙ here.next in
-        let found = it_waits n first low (next_port n j) next in
-        let within = output_within drives.part p (record { 0 = w.wire.0 }) drives.output in
-        let few = few_outputs drives.part.kind in
-        let form = (ok.modules_ok m drives.part drives.stands).outputs in
-        let waits = waiting_at n m p found.0 (omega (arith, within, few, form)) (sym (ap (wait_of n) number) ∙ found.1) in
-        let one : drives.part ≡ waits.part = same_Some {A = ModuleRecord} drives.part waits.part (sym drives.stands ∙ waits.stands) in
-        by m p found.0 (next_port n j) next found.1 here.drives waits (subst (λ (r : ModuleRecord). p < length r.outputs) one within)
-      where
-        by : (m p : ℕ) (v : Wait) (k : ℕ) → ComesTo (next_port n) first k → wait_of n k ≡ Some v → driver n w.wire.0 ≡ Port (record { 0 = m }) p → (waits : IsWaiting n m p v)
-            → p < length waits.part.outputs → level later w.wire.0 t ≡ level n w.wire.0 end
-        by m p v k comes_k is_k drives waits within =
-            let d = delay_of waits.part p in
-            let delay : d ≤ end = short n ok m waits.part waits.stands d waits.out in
-            let last : t - d + d ≡ t = omega (arith, delay, past) in
-            let last_end : end - d + d ≡ end = omega (arith, delay) in
-            let drives_later = same_driver n later ok later_ok end goes.alike w.wire.0 ∙ drives in
-            let at_later = same_module n later ok later_ok end goes.alike m ∙ waits.stands in
-            let calm = calm_before t before k m p v comes_k is_k waits in
-            let some : 0 < d = late n waits.part p (ok.modules_ok m waits.part waits.stands) in
-            sym (ap (level later w.wire.0) last) ∙ port_level_is later later_ok m p w.wire.0 (t - d) waits.part at_later drives_later
-            ∙ out_same m p v waits within (t - d) (λ s from below. calm s from (omega (arith, below, some, past, delay))) (t - d) (omega (arith, past)) (omega arith)
-            ∙ sym (ap (λ (s : Memory). output_of s p) (state_still n ok m waits.part waits.stands d waits.out (end - d) (omega arith) (omega arith)))
-            ∙ sym (port_level_is n ok m p w.wire.0 (end - d) waits.part waits.stands drives) ∙ ap (level n w.wire.0) last_end
+  pub stands : (t : ℕ) → end ≤ t → Stand t
+  stands t past = stand_upto (suc t) t past (omega arith)
 
-    stand_upto : (t s : ℕ) → end ≤ s → s < t → Stand s
-    stand_upto zero s past below = absurd (omega (arith, below))
-    stand_upto (suc t) s past below = by (cases_lt s t) (stand_upto t)
-      where
-        by : (s < t) ⊎ (t ≤ s) → ((s : ℕ) → end ≤ s → s < t → Stand s) → Stand s
-        by (inl sooner) before = before s past sooner
-        by (inr here) before = let is : t ≡ s = omega (arith, here, below) in subst Stand is (stand_next t (omega (arith, is, past)) before)
+pub dead_stand_for_ever : DeadStandForEver
+dead_stand_for_ever n later ok later_ok goes m p w drives is_dead t past = stands n later ok later_ok goes t past m p w (finds_ports n ok m p w drives) is_dead
 
 pub stands_for_ever : StandsForEver
 stands_for_ever n later ok later_ok goes waits found w at t past =
-    let round = deadlock_round n waits found in
-    let place = round.each w at in
-    stand_upto n later ok later_ok goes round.first round.low round.round (suc t) t past (omega arith) place.0 w place.1 place.2
+    let wait = waits_of_deadlock n waits found w at in
+    let wire = wire_of_wait n wait.0 w wait.1 in
+    stands n later ok later_ok goes t past wire.other.0 wire.port w.wire.0 wire.drives wire.is_dead

@@ -9,7 +9,10 @@ pub mod DelayedInputLemmas
 pub mod WindowLemmas
 pub mod AlikeLemmas
 pub mod LateDataLemmas
-pub mod StillOutputLemmas
+pub mod ReadLemmas
 pub mod CycleLemmas
-pub mod StillModuleLemmas
 pub mod ForEverLemmas
+pub mod OverRunLemmas
+pub mod RepeatLemmas
+pub mod AgainLemmas
+pub mod RoundLemmas

@@ -9,3 +9,6 @@ pub mod Windows
 pub mod Stimuli
 pub mod LateData
 pub mod ForEver
+pub mod OverRuns
+pub mod Repeating
+pub mod CriticalCycles

@@ -1,5 +1,5 @@
-//! Laws of what the other crates define: of edits, of texts, of findings, of modules, of inputs, of windows, of stimuli, of late data and of
-//! deadlocks. No program calls them.
+//! Laws of what the other crates define: of edits, of texts, of findings, of modules, of inputs, of windows, of stimuli, of late data, of
+//! dead ports and deadlocks, of runs that are over, and of periods. No program calls them.
 #![tactic(auto)]
 
 pub mod deadlocks;
@@ -9,6 +9,8 @@ pub mod findings;
 pub mod inputs;
 pub mod late;
 pub mod modules;
+pub mod over_runs;
+pub mod periods;
 pub mod stimuli;
 pub mod texts;
 pub mod windows;

@@ -1,3 +1,4 @@
+pub mod OnceLemmas
 pub mod timing
 pub mod causes
 pub mod late

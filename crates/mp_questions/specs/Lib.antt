@@ -1,3 +1,4 @@
+pub mod Once
 pub mod timing
 pub mod causes
 pub mod late

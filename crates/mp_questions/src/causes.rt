@@ -15,7 +15,10 @@ mod why;
 mod wire_change;
 
 pub use cause_link::{CauseLink, links};
+pub use module_share::ModuleShare;
 pub use moment::Moment;
-pub use path::put_path;
+pub use path::{put_path, put_path_since, put_share};
+pub use shares::shares_of;
+pub use tracer::Tracer;
 pub use why::put_why;
 pub use wire_change::WireChange;

@@ -8,6 +8,6 @@ pub mod causes;
 mod late;
 pub mod timing;
 
-pub use causes::{CauseLink, Moment, WireChange, links, put_path, put_why};
+pub use causes::{CauseLink, Moment, WireChange, links, put_path, put_path_since, put_why};
 pub use late::{Driven, Late, all_late, late_lists};
-pub use timing::{Extremes, TimeRange, put_measure, put_waits};
+pub use timing::{Extremes, TimeRange, put_measure, put_waits, put_wire_measures};

@@ -18,12 +18,16 @@ mod range;
 mod trail;
 mod wait_moment;
 mod waits;
+mod wire_measures;
 
+pub use client_watch::{ClientWatch, follow};
 pub use delayed_input::DelayedInput;
 pub use extremes::Extremes;
+pub use input_ports::InputPorts;
+pub use marks::Marks;
 pub use measure::put_measure;
-pub use missing::missing_input;
 pub use range::TimeRange;
 pub(crate) use range::read_time;
 pub use wait_moment::WaitMoment;
 pub use waits::put_waits;
+pub use wire_measures::put_wire_measures;

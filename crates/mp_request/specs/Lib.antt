@@ -1,6 +1,6 @@
+pub mod AskedNames
 pub mod Asking
 pub mod Labels
-pub mod Wires
 pub mod WordErrors
 pub mod explain
 pub mod faults

@@ -8,6 +8,12 @@ pub(crate) enum Arguments {
     Input,
     /// A range of times.
     Range,
+    /// Modules and bundles by name.
+    Places,
+    /// Whether findings and late changes are grouped.
+    Groups,
+    /// Wires by name.
+    Wires,
     /// How a picture is drawn.
     Drawing,
     /// A wire.
@@ -16,6 +22,8 @@ pub(crate) enum Arguments {
     Moment,
     /// The number of steps of a chain.
     Chain,
+    /// The time from which on a chain counts.
+    Since,
     /// The seats of a desk. The number of designers has no default, so it is refused without a live desk.
     Desk,
     /// The word to explain.
@@ -28,10 +36,14 @@ impl Arguments {
         match self {
             Arguments::Input => &INPUT,
             Arguments::Range => &RANGE,
+            Arguments::Places => &PLACES,
+            Arguments::Groups => &GROUPS,
+            Arguments::Wires => &WIRES,
             Arguments::Drawing => &DRAWING,
             Arguments::Wire => &WIRE,
             Arguments::Moment => &MOMENT,
             Arguments::Chain => &CHAIN,
+            Arguments::Since => &SINCE,
             Arguments::Desk => &DESK,
             Arguments::Word => &WORD,
         }
@@ -73,6 +85,27 @@ static RANGE: [ArgumentForm; 2] = [
         takes: ArgumentKind::Time,
     },
 ];
+
+static PLACES: [ArgumentForm; 1] = [ArgumentForm {
+    name: "at",
+    value: "NAME",
+    help: "Only lines about modules and bundles of this name; repeat it for others",
+    takes: ArgumentKind::Words,
+}];
+
+static GROUPS: [ArgumentForm; 1] = [ArgumentForm {
+    name: "brief",
+    value: "",
+    help: "Write one line for all findings of a module or bundle that have one code",
+    takes: ArgumentKind::Nothing,
+}];
+
+static WIRES: [ArgumentForm; 1] = [ArgumentForm {
+    name: "wire",
+    value: "NAME",
+    help: "Measure only this wire, and no bundle; repeat it for others",
+    takes: ArgumentKind::Words,
+}];
 
 static DRAWING: [ArgumentForm; 7] = [
     ArgumentForm {
@@ -138,6 +171,13 @@ static CHAIN: [ArgumentForm; 1] = [ArgumentForm {
     value: "N",
     help: "The greatest number of steps, 1 to 1048576",
     takes: ArgumentKind::Number("20"),
+}];
+
+static SINCE: [ArgumentForm; 1] = [ArgumentForm {
+    name: "from",
+    value: "T",
+    help: "Count only from this time on, which has to be below TIME",
+    takes: ArgumentKind::Time,
 }];
 
 static DESK: [ArgumentForm; 4] = [

@@ -9,6 +9,7 @@ mod event_kinds;
 mod explaining;
 mod findings;
 pub mod laws;
+mod periods;
 mod refusals_of_names;
 mod refusals_of_values;
 mod seat_code;

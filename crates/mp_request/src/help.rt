@@ -8,7 +8,7 @@ pub(crate) const ABOUT: &str =
 pub(crate) const STATUS: &str = "\
 Exit status:
   0  success
-  1  the netlist, a number or the name of a wire was refused
+  1  the netlist, a number or a name was refused
   2  the command line was refused
   3  a read or a write failed, or a pipe of a live desk is missing
   4  out of memory, or no place left at a desk
@@ -40,6 +40,7 @@ Exit status, and what standard error says:
   1  mpwb: bad count                       a number is out of range, or a desk
                                            has no block of lines or more than 8
   1  mpwb: no such wire: NAME              the netlist has no wire of this name
+  1  mpwb: no such module or bundle: NAME  the netlist has neither of this name
   2  error: ..                             the command line was refused
   3  mpwb: can't open NAME                 the pipe NAME of a seat is missing
   3  mpwb: can't read NAME: ..             the file is missing, is a directory,
@@ -96,7 +97,10 @@ says what a code means.
 
 The lines are ordered by time. At one time the modules come first and then the
 bundles, each in the order in which they were added. The findings of one module
-or bundle at one time are ordered by the number of their code.";
+or bundle at one time are ordered by the number of their code.
+
+--from and --to leave only the findings in a range of times, and --at those of
+the modules and bundles of a name.";
 
 /// What `check` does.
 pub(crate) const CHECK: &str = "Checks whether a netlist works: broken rules, late data, deadlocks";
@@ -113,6 +117,7 @@ Writes, in this order:
   TIME bundle NAME late UNITS               data that come UNITS after a request
   TIME deadlock MODULE waits for WIRE, ..   modules that wait for ever
   note wire NAME ..                         a wire that may not be as intended
+  note bundle NAME is busy since TIME       a transfer that nobody ended
 
 Data are late if they change after a request, but neither because of that
 request nor because of a stimulus after it. There is a note on each wire that is
@@ -120,24 +125,19 @@ declared with another level than its module settles to at time 0, that nothing
 drives, or whose stimulus nothing reads. The exit status is 5 if any line is not
 a note.
 
+--brief writes one line for all findings of a module or bundle that have one
+code, and one for all late data of a bundle, ordered by their first time:
+
+  module NAME CODE N times, first TIME, last TIME
+  bundle NAME late N times, first TIME, last TIME, worst UNITS
+
+--from and --to leave only the findings and late data in a range of times;
+deadlocks and notes are about the whole run. --at leaves only lines about the
+modules and bundles of a name, and deadlocks with such a module.
+
 If FILE can't be read as a netlist, standard error also shows the faulty line
 with a mark below the word at fault, says what is wrong with it, and suggests a
 similar name if there is one.";
-
-/// What `dump` does.
-pub(crate) const DUMP: &str = "Writes the waveforms as a value change dump";
-
-/// What `dump` reads and writes.
-pub(crate) const DUMP_LONG: &str = "\
-Writes the waveforms as a value change dump.
-
-Reads a netlist, as `waves` does.
-
-Writes a value change dump (IEEE Std 1364), which GTKWave and other viewers
-open. All wires are in the scope `top`, and a unit of time is 1 ns. A wire of
-width 1 is a scalar; a wider one is a vector, written with all its bits. The
-dump has the levels at time 0, then each change at its time, and it ends with
-the horizon.";
 
 /// What `show` does.
 pub(crate) const SHOW: &str = "Draws a timing diagram, as text or as SVG";
@@ -189,7 +189,10 @@ Reads a netlist, as `waves` does.
 
 Writes a line `MODULE UNITS STEPS` for each module of the whole chain: how many
 units of time passed in it, and in how many steps. The modules with the most
-units come first: they set the pace.";
+units come first: they set the pace.
+
+With --from T only the time after T counts. A last line `- T UNITS` then has the
+time from the begin of the chain to T, if it begins before T.";
 
 /// What `waits` does.
 pub(crate) const WAITS: &str =
@@ -228,39 +231,24 @@ to its acknowledge, and the most units by which a change of its data is late, as
 in `check`.
 
 A line leaves out what doesn't exist, such as the gaps of a wire that changes
-once.";
+once. With --wire there are only the lines of these wires.";
 
-/// What `graph` does.
-pub(crate) const GRAPH: &str = "Writes the netlist as a graph for Graphviz";
+/// What `steady` does.
+pub(crate) const STEADY: &str = "Writes whether the netlist repeats for ever, and how fast";
 
-/// What `graph` reads and writes.
-pub(crate) const GRAPH_LONG: &str = "\
-Writes the netlist as a graph for Graphviz.
-
-Reads a netlist, as `waves` does.
-
-Writes a text for `dot`, with a node for each module, each bundle, and each wire
-that no module drives or none reads, and with an edge for each input of a
-module. So this draws the circuit:
-
-  mpwb graph FILE | dot -Tsvg > circuit.svg";
-
-/// What `verilog` does.
-pub(crate) const VERILOG: &str = "Writes the netlist as Verilog, with a test bench";
-
-/// What `verilog` reads and writes.
-pub(crate) const VERILOG_LONG: &str = "\
-Writes the netlist as Verilog, with a test bench.
+/// What `steady` reads and writes.
+pub(crate) const STEADY_LONG: &str = "\
+Writes whether the netlist repeats for ever, and how fast.
 
 Reads a netlist, as `waves` does.
 
-Writes a file of Verilog-2005. It has a module for each kind that is used, the
-netlist as a module `netlist`, and a module `bench`, which applies the stimuli
-and dumps all waveforms up to the horizon into waves.vcd. So another simulator
-makes the same waveforms:
+If all stimuli have ended and the netlist comes to one configuration twice, it
+repeats for ever. Then this writes the period and since when it repeats, for
+each wire how often it changes in a period, the critical cycle (the causes that
+lead from a change to the same change of an earlier period), and the modules of
+that cycle with their units and steps, as `path` has them. The pace of a wire is
+its changes in a period over the period, exactly.
 
-  mpwb verilog FILE > netlist.v
-  iverilog -g2005 -o netlist.vvp netlist.v
-  vvp netlist.vvp
-
-Bundles are written as comments.";
+If the data never repeat, as those of a counter, but the wires of width 1 do,
+with what they depend on, the lines are about these and begin with `control`.
+Other netlists come to an end, or are told not to repeat before the horizon.";

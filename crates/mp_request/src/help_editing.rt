@@ -26,12 +26,15 @@ of the script is an edit:
 
 or a question:
 
-  wave WIRE, waves, text, report, check, dump, work
+  wave WIRE, waves, text, dump, work
+  report [FROM TO]                          findings, in a range of times
+  check [brief] [FROM TO]                   in groups if it is brief
   show FROM TO [WIRE ..]                    the timing diagram of these wires
   why WIRE TIME [STEPS]                     1 to 1048576 steps, by default 20
-  path WIRE TIME
+  path WIRE TIME [FROM]                     only its part after FROM
   waits TIME
-  measure FROM TO
+  measure FROM TO [WIRE ..]                 of these wires alone
+  steady
   graph
   verilog
   version                                   how many edits were accepted

@@ -2,16 +2,16 @@
 use crate::arguments::Arguments;
 use crate::command_form::CommandForm;
 use crate::help::{
-    ABOUT, CHECK, CHECK_LONG, DUMP, DUMP_LONG, GRAPH, GRAPH_LONG, MEASURE, MEASURE_LONG, PATH,
-    PATH_LONG, REPORT, REPORT_LONG, SHOW, SHOW_LONG, STATUS, VERILOG, VERILOG_LONG, WAITS,
-    WAITS_LONG, WAVES, WAVES_LONG, WHY, WHY_LONG,
+    ABOUT, CHECK, CHECK_LONG, MEASURE, MEASURE_LONG, PATH, PATH_LONG, REPORT, REPORT_LONG, SHOW,
+    SHOW_LONG, STATUS, STEADY, STEADY_LONG, WAITS, WAITS_LONG, WAVES, WAVES_LONG, WHY, WHY_LONG,
 };
 use crate::help_editing::{DESK, DESK_LONG, EXPLAIN, EXPLAIN_LONG, PLAY, PLAY_LONG};
+use crate::help_exports::{DUMP, DUMP_LONG, GRAPH, GRAPH_LONG, VERILOG, VERILOG_LONG};
 use clap::Command as Parser;
 use std::alloc::{AllocError, Global};
 
 /// The commands that read a netlist, in the order in which help lists them.
-static COMMANDS: [CommandForm; 13] = [
+static COMMANDS: [CommandForm; 14] = [
     CommandForm {
         name: "waves",
         about: WAVES,
@@ -22,13 +22,18 @@ static COMMANDS: [CommandForm; 13] = [
         name: "report",
         about: REPORT,
         long_about: REPORT_LONG,
-        arguments: &[Arguments::Input],
+        arguments: &[Arguments::Range, Arguments::Places, Arguments::Input],
     },
     CommandForm {
         name: "check",
         about: CHECK,
         long_about: CHECK_LONG,
-        arguments: &[Arguments::Input],
+        arguments: &[
+            Arguments::Range,
+            Arguments::Places,
+            Arguments::Groups,
+            Arguments::Input,
+        ],
     },
     CommandForm {
         name: "dump",
@@ -57,7 +62,12 @@ static COMMANDS: [CommandForm; 13] = [
         name: "path",
         about: PATH,
         long_about: PATH_LONG,
-        arguments: &[Arguments::Wire, Arguments::Moment, Arguments::Input],
+        arguments: &[
+            Arguments::Wire,
+            Arguments::Moment,
+            Arguments::Since,
+            Arguments::Input,
+        ],
     },
     CommandForm {
         name: "waits",
@@ -69,7 +79,13 @@ static COMMANDS: [CommandForm; 13] = [
         name: "measure",
         about: MEASURE,
         long_about: MEASURE_LONG,
-        arguments: &[Arguments::Range, Arguments::Input],
+        arguments: &[Arguments::Range, Arguments::Wires, Arguments::Input],
+    },
+    CommandForm {
+        name: "steady",
+        about: STEADY,
+        long_about: STEADY_LONG,
+        arguments: &[Arguments::Input],
     },
     CommandForm {
         name: "graph",

@@ -6,9 +6,9 @@ ghost use Rattle.mp_request.specs.Asking.{file_of, label_in, label_of};
 ghost use Rattle.mp_request.specs.Labels.{is_label};
 
 use crate::command_line::CommandLine;
-use crate::label::is_label;
 use crate::parser::{explain, parser};
-use crate::picture_words::PictureWords;
+use crate::picture_reading::picture_words;
+use crate::range_words::RangeWords;
 use crate::request::{Command, Request};
 use clap::error::ErrorKind;
 use clap::{ArgMatches, Command as Parser, Error};
@@ -74,7 +74,7 @@ fn no_command(alloc: Global) -> Error {
 }
 
 /// A command's error of this kind, with this message.
-fn told_by(
+pub(crate) fn told_by(
     command: Result<Parser<'_>, AllocError>,
     kind: ErrorKind,
     message: &str,
@@ -96,6 +96,9 @@ fn command_of<'a>(
         let picture = picture_words(alloc, found)?;
         return Ok(Some(Command::Show(picture)));
     }
+    if let Some(command) = command_of_range(alloc, word, found)? {
+        return Ok(Some(command));
+    }
     match plain_command(word) {
         Some(command) => Ok(Some(command)),
         None => Ok(command_with_arguments(word, found)),
@@ -108,8 +111,7 @@ fn plain_command<'a>(word: &str) -> Option<Command<'a>>
 {
     Some(match word {
         "waves" => Command::Waves,
-        "report" => Command::Report,
-        "check" => Command::Check,
+        "steady" => Command::Steady,
         "dump" => Command::Dump,
         "graph" => Command::Graph,
         "verilog" => Command::Verilog,
@@ -118,7 +120,39 @@ fn plain_command<'a>(word: &str) -> Option<Command<'a>>
     })
 }
 
-/// The command other than `show`, with arguments of its own, that a word names; `None` if it names none.
+/// The command about a range of times, other than `show`, that a word names; `None` if it names none.
+fn command_of_range<'a>(
+    alloc: Global,
+    word: &str,
+    found: &ArgMatches<'a>,
+) -> Result<Option<Command<'a>>, AllocError>
+    ensures { IfOk result (λ command. IfSome command (λ c. label_in c ≡ None)) }
+{
+    Ok(Some(match word {
+        "report" => Command::Report(range_words(alloc, found, "at")?),
+        "check" => Command::Check {
+            words: range_words(alloc, found, "at")?,
+            is_brief: found.get_flag("brief"),
+        },
+        "measure" => Command::Measure(range_words(alloc, found, "wire")?),
+        _ => return Ok(None),
+    }))
+}
+
+/// The range of times, and the names in this option.
+fn range_words<'a>(
+    alloc: Global,
+    found: &ArgMatches<'a>,
+    option: &str,
+) -> Result<RangeWords<'a>, AllocError> {
+    Ok(RangeWords {
+        names: Vec::from_slice(alloc, found.get_strs(option).unwrap_or(&[]))?,
+        from: from(found),
+        to: to(found),
+    })
+}
+
+/// The other command with arguments of its own that a word names; `None` if it names none.
 fn command_with_arguments<'a>(word: &str, found: &ArgMatches<'a>) -> Option<Command<'a>>
     ensures { IfSome result (λ c. label_in c ≡ None) }
 {
@@ -131,12 +165,9 @@ fn command_with_arguments<'a>(word: &str, found: &ArgMatches<'a>) -> Option<Comm
         "path" => Command::Path {
             wire: wire(found),
             time: time(found),
+            from: found.get_one::<u64>("from"),
         },
         "waits" => Command::Waits { time: time(found) },
-        "measure" => Command::Measure {
-            from: from(found),
-            to: to(found),
-        },
         "desk" => desk_command(found),
         _ => return None,
     })
@@ -156,82 +187,6 @@ fn desk_command<'a>(found: &ArgMatches<'a>) -> Command<'a>
     }
 }
 
-/// The options of a timing diagram.
-fn picture_words<'a>(alloc: Global, found: &ArgMatches<'a>) -> Result<PictureWords<'a>, Error>
-    ensures { IfOk result (λ words. IsTrue (is_label words.unit.now)) }
-{
-    let unit = unit(alloc, found)?;
-    let caused = pair(found, "causes");
-    let causes = causes_time(alloc, caused)?;
-    let wires = shown_wires(alloc, found, caused)?;
-    Ok(PictureWords {
-        wires,
-        causes,
-        from: from(found),
-        to: to(found),
-        columns: found.get_one::<u32>("columns").unwrap_or(72),
-        ascii: found.get_flag("ascii"),
-        hex: found.get_flag("hex"),
-        svg: found.get_flag("svg"),
-        unit,
-    })
-}
-
-/// What the times of a picture are. The error comes if an SVG doesn't show one of its characters.
-fn unit<'a>(alloc: Global, found: &ArgMatches<'a>) -> Result<&'a str, Error>
-    ensures { IfOk result (λ label. IsTrue (is_label label.now)) }
-{
-    let label = found.get_str("unit").unwrap_or("time in units");
-    if is_label(label) {
-        return Ok(label);
-    }
-    let message =
-        "invalid value for '--unit <TEXT>': control characters, U+FFFE and U+FFFF aren't allowed";
-    Err(told_by(parser(alloc), ErrorKind::InvalidValue, message)?)
-}
-
-/// The time in the words of `--causes`; `None` if they aren't given.
-fn causes_time(alloc: Global, caused: Option<(&str, &str)>) -> Result<Option<u64>, Error> {
-    match caused {
-        Some((_, time)) => Ok(Some(time_in(alloc, time)?)),
-        None => Ok(None),
-    }
-}
-
-/// The wires to show: the one in the words of `--causes`, if they are given, and those that are named.
-fn shown_wires<'a>(
-    alloc: Global,
-    found: &ArgMatches<'a>,
-    caused: Option<(&'a str, &'a str)>,
-) -> Result<Vec<&'a str>, AllocError> {
-    let mut wires = Vec::new(alloc);
-    if let Some((wire, _)) = caused {
-        wires.push(wire)?;
-    }
-    wires.extend_from_slice(found.get_strs("wire").unwrap_or(&[]))?;
-    Ok(wires)
-}
-
-/// The two values of an option, or `None` if it isn't given.
-fn pair<'a>(found: &ArgMatches<'a>, option: &str) -> Option<(&'a str, &'a str)> {
-    let values = found.get_strs(option)?;
-    Some((*values.first()?, *values.get(1)?))
-}
-
-/// Reads a time. The error says that the word isn't one.
-fn time_in(alloc: Global, word: &str) -> Result<u64, Error> {
-    match word.parse::<u64>() {
-        Ok(time) => Ok(time),
-        Err(_) => Err(no_time(alloc, word)?),
-    }
-}
-
-/// The error of a TIME of `--causes` that isn't a number.
-fn no_time(alloc: Global, word: &str) -> Result<Error, AllocError> {
-    let message = format!(in alloc; "invalid value '{word}' for '--causes <WIRE> <TIME>'")?;
-    told_by(parser(alloc), ErrorKind::InvalidValue, message.as_str())
-}
-
 /// The argument WIRE.
 fn wire<'a>(found: &ArgMatches<'a>) -> &'a str {
     found.get_str("wire").unwrap_or("")
@@ -243,12 +198,12 @@ fn time(found: &ArgMatches<'_>) -> u64 {
 }
 
 /// The first time of a range, 0 if none is given.
-fn from(found: &ArgMatches<'_>) -> u64 {
+pub(crate) fn from(found: &ArgMatches<'_>) -> u64 {
     found.get_one::<u64>("from").unwrap_or(0)
 }
 
 /// The end of a range of times, 2^64 - 1 if none is given.
-fn to(found: &ArgMatches<'_>) -> u64 {
+pub(crate) fn to(found: &ArgMatches<'_>) -> u64 {
     found.get_one::<u64>("to").unwrap_or(u64::MAX)
 }
 

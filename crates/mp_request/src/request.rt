@@ -1,5 +1,6 @@
 //! A command with its arguments.
 use crate::picture_words::PictureWords;
+use crate::range_words::RangeWords;
 use std::slice;
 
 /// A command, with the arguments that only it has.
@@ -7,10 +8,13 @@ use std::slice;
 pub enum Command<'a> {
     /// Write the wave of each wire.
     Waves,
-    /// Write the findings.
-    Report,
-    /// Check whether the netlist works.
-    Check,
+    /// Write the findings in a range of times, of the modules and bundles of some names or of all.
+    Report(RangeWords<'a>),
+    /// Check whether the netlist works. `is_brief` groups findings and late changes. The range of times and the names are as those of `Report`.
+    Check {
+        words: RangeWords<'a>,
+        is_brief: bool,
+    },
     /// Write a value change dump.
     Dump,
     /// Draw a timing diagram.
@@ -21,20 +25,20 @@ pub enum Command<'a> {
         time: u64,
         steps: u32,
     },
-    /// Write how much time each module took in that chain.
+    /// Write how much time each module took in that chain, or in its part from `from` on.
     Path {
         wire: &'a str,
         time: u64,
+        from: Option<u64>,
     },
     /// Write which modules and bundles wait at a time.
     Waits {
         time: u64,
     },
-    /// Write events, gaps and margins at the times from `from` to `to - 1`.
-    Measure {
-        from: u64,
-        to: u64,
-    },
+    /// Write events, gaps and margins in a range of times: of all wires and bundles, or of the wires of some names alone.
+    Measure(RangeWords<'a>),
+    /// Write whether the netlist repeats for ever, and how fast.
+    Steady,
     /// Write the netlist as a graph.
     Graph,
     /// Write the netlist as Verilog.
@@ -69,14 +73,17 @@ pub struct Request<'a> {
 
 impl<'a> Request<'a> {
     ghost use Rattle.std.specs.Prelude.{◌≡◌};
-    ghost use Rattle.mp_request.specs.Wires.{wires_of};
+    ghost use Rattle.mp_request.specs.AskedNames.{asked_names};
 
-    /// The names of the wires that the command is about, as they were given.
-    pub fn wires(&self) -> &[&'a str]
-        ensures { result.now ≡ wires_of self.now.command }
+    /// The names that the command is about, as they were given: of wires, or for `report` and `check` of modules and bundles.
+    pub fn names(&self) -> &[&'a str]
+        ensures { result.now ≡ asked_names self.now.command }
     {
         match &self.command {
             Command::Show(picture) => picture.wires.as_slice(),
+            Command::Report(words) | Command::Measure(words) | Command::Check { words, .. } => {
+                words.names.as_slice()
+            }
             Command::Why { wire, .. } | Command::Path { wire, .. } => slice::from_ref(wire),
             _ => &[],
         }

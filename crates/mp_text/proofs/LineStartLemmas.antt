@@ -1,8 +1,8 @@
 -- How a line begins decides what it says.
-use Rattle.mp_text.proofs.Names.{◌≡◌, ◌-◌, ◌<◌, ◌==◌, ◌||◌, ◌∷◌, rest_ascii, texts_behind, ℕ, zero, suc, min, Bool, true, false, cond, List, [], length, drop, None, Some, Result, Ok, Err, IfErr, refl, ap, ◌∙◌, arith, true≢false, length-take, length-drop, nat_le, slice_get, byte, before_first, after_first, list_all, cases_eq, leb-false, nat_tests, LineError, WordCount, UnknownStatement, NotAscii, OutOfMemory, is_allowed, words_of, ◌>>=◌, statement_takes, single_takes, question_takes, takes, is_begun, HasForm, is_mark, module_edit, stated_edit, line_word, stated_line, line_of, line_at, each_word, EditWord, SingleWord, LineWord, Single, Batch, Question, QuestionWord, Empty}
+use Rattle.mp_text.proofs.Names.{◌≡◌, ◌-◌, ◌<◌, ◌==◌, ◌||◌, ◌∷◌, if◌then◌else◌, rest_ascii, texts_behind, ℕ, zero, suc, min, Bool, true, false, cond, List, [], length, drop, None, Some, Result, Ok, Err, IfErr, refl, ap, ◌∙◌, arith, true≢false, length-take, length-drop, nat_le, slice_get, byte, bytes_eq, codes, before_first, after_first, list_all, cases_eq, leb-false, nat_tests, LineError, WordCount, UnknownStatement, NotAscii, OutOfMemory, is_allowed, words_of, ◌>>=◌, statement_takes, single_takes, question_takes, takes, is_begun, HasForm, is_mark, module_edit, stated_edit, line_word, stated_line, line_of, line_at, each_word, EditWord, SingleWord, LineWord, Single, Batch, Question, QuestionWord, Empty}
 use Rattle.mp_text.specs.declared.script_line.Line.{Line}
 use Rattle.mp_text.proofs.GivenLemmas.{wanting_given}
-use Rattle.mp_text.specs.Questions.{stated_question}
+use Rattle.mp_text.specs.Questions.{check_question, range_of, stated_question}
 
 abbrev Words : Type 0
 Words = List (List ℕ)
@@ -32,8 +32,27 @@ few_ports words few = grind (arith, nat_tests, cases_eq, length-drop, length-tak
 statement_refused : (first : EditWord) (words : Words) → statement_takes first (length words) ≡ false → stated_edit first words ≡ Err WordCount
 statement_refused first words wrong = grind (arith, nat_tests, not_so_many, few_ports, leb-false)
 
+-- a range of times has two words, or none
+range_refused : (words : Words) → (length words == 0 || length words == 2) ≡ false → range_of words ≡ Err WordCount
+range_refused [] wrong = absurd (true≢false wrong)
+range_refused (from ∷ []) wrong = refl
+range_refused (from ∷ to ∷ []) wrong = absurd (true≢false wrong)
+range_refused (from ∷ to ∷ word ∷ words) wrong = refl
+
+either_way : {A : Type 0} (b : Bool) (x : A) → (if b then x else x) ≡ x
+either_way true x = refl
+either_way false x = refl
+
+-- a check has three words at most
+check_refused : (words : Words) → nat_le (length words) 3 ≡ false → check_question words ≡ Err WordCount
+check_refused [] wrong = absurd (true≢false wrong)
+check_refused (a ∷ []) wrong = absurd (true≢false wrong)
+check_refused (a ∷ b ∷ []) wrong = absurd (true≢false wrong)
+check_refused (a ∷ b ∷ c ∷ []) wrong = absurd (true≢false wrong)
+check_refused (a ∷ b ∷ c ∷ d ∷ words) wrong = either_way (bytes_eq a (codes "brief")) (Err WordCount)
+
 question_refused : (first : QuestionWord) (words : Words) → question_takes first (length words) ≡ false → stated_question first words ≡ Err WordCount
-question_refused first words wrong = grind (arith, nat_tests, not_so_many, leb-false)
+question_refused first words wrong = grind (arith, nat_tests, not_so_many, leb-false, (range_refused words), (check_refused words))
 
 -- a first word with another number of words behind it than it takes
 refused_by_count : (first : LineWord) (words : Words) → takes first (length words) ≡ false → stated_line first words ≡ Err WordCount

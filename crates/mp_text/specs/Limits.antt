@@ -13,6 +13,10 @@ max_short_text = 4194304
 abbrev pub max_first_horizon : ℕ
 max_first_horizon = 65536
 
+-- the end of the times of a question that gives none: the greatest time
+abbrev pub no_end : ℕ
+no_end = 18446744073709551615
+
 -- how many steps of a chain may be asked for
 abbrev pub max_steps : ℕ
 max_steps = 1048576

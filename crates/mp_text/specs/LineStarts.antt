@@ -1,6 +1,6 @@
 -- How a script's line begins: what is looked at before memory is taken.
 use Rattle.std.specs.Prelude.{◌==◌, ◌||◌, ◌∷◌}
-use Rattle.mp_text.specs.Names.{list_all, is_allowed, words_of, ℕ, Bool, false, List, [], length, Option, None, Some, IsTrue, nat_le, EditWord, Wire, Module, Stimulus, Bundle, SingleWord, LineWord, Single, Batch, Question, QuestionWord, Wave, Show, Why, Path, Waits, Measure, Edits}
+use Rattle.mp_text.specs.Names.{list_all, is_allowed, words_of, ℕ, Bool, false, List, [], length, Option, None, Some, IsTrue, nat_le, EditWord, Wire, Module, Stimulus, Bundle, SingleWord, LineWord, Single, Batch, Question, QuestionWord, Wave, Report, Check, Show, Why, Path, Waits, Measure, Edits}
 use Rattle.mp_text.specs.declared.single_word.SingleWord.TheVariants.{Stated, Remove, Clear}
 use Rattle.mp_text.specs.ScriptLines.{line_word}
 
@@ -21,11 +21,13 @@ single_takes port count = count == 3
 -- whether so many words may stand behind the first word of a question
 abbrev pub question_takes : QuestionWord → ℕ → Bool
 question_takes Wave count = count == 1
+question_takes Report count = count == 0 || count == 2
+question_takes Check count = nat_le count 3
 question_takes Show count = nat_le 2 count
 question_takes Why count = count == 2 || count == 3
-question_takes Path count = count == 2
+question_takes Path count = count == 2 || count == 3
 question_takes Waits count = count == 1
-question_takes Measure count = count == 2
+question_takes Measure count = nat_le 2 count
 question_takes Edits count = count == 1
 question_takes bare count = count == 0
 

@@ -39,7 +39,7 @@ pub use Rattle.mp_text.specs.declared.edit_word.EditWord.TheVariants.{Bundle, Mo
 pub use Rattle.mp_text.specs.declared.line_word.LineWord.{LineWord}
 pub use Rattle.mp_text.specs.declared.line_word.LineWord.TheVariants.{Batch, Question, Single}
 pub use Rattle.mp_text.specs.declared.question_word.QuestionWord.{QuestionWord}
-pub use Rattle.mp_text.specs.declared.question_word.QuestionWord.TheVariants.{Check, Dump, Edits, Graph, Measure, Path, Report, Show, Text, Verilog, Version, Waits, Wave, Waves, Why, Work}
+pub use Rattle.mp_text.specs.declared.question_word.QuestionWord.TheVariants.{Check, Dump, Edits, Graph, Measure, Path, Report, Show, Steady, Text, Verilog, Version, Waits, Wave, Waves, Why, Work}
 pub use Rattle.mp_text.specs.declared.script_line.Line.TheVariants.{Ask, Change, Empty}
 pub use Rattle.mp_text.specs.declared.section.Section.{Section}
 pub use Rattle.mp_text.specs.declared.section.Section.TheVariants.{Bundles, Modules, Stimuli, Wires}

@@ -11,10 +11,20 @@ pub enum Question {
     Waves,
     /// The netlist's text.
     Text,
-    /// The findings.
-    Report,
-    /// Whether the netlist works.
-    Check,
+    /// The findings at the times from one to before another.
+    Report {
+        from: u64,
+        to: u64,
+    },
+    /// Whether the netlist works: findings and late data at the times from one to before another, in groups if it is to be brief, and deadlocks and
+    /// notes of the whole run.
+    Check {
+        is_brief: bool,
+        from: u64,
+        to: u64,
+    },
+    /// Whether the netlist repeats for ever, and how fast.
+    Steady,
     /// The value change dump of the netlist.
     Dump,
     /// What was computed again for the last edit.
@@ -31,19 +41,21 @@ pub enum Question {
         time: u64,
         steps: u32,
     },
-    /// How the time of that chain divides among the modules.
+    /// How the time of that chain from another time on divides among the modules. The other time is 0 for the whole chain, and else below `time`.
     Path {
         wire: Name,
         time: u64,
+        from: u64,
     },
     /// Which modules and bundles wait at a time.
     Waits {
         time: u64,
     },
-    /// The events, gaps and margins from one time to before another.
+    /// The events, gaps and margins from one time to before another: of all wires and bundles, or of the wires of these names alone if there are names.
     Measure {
         from: u64,
         to: u64,
+        wires: WireNames,
     },
     /// The netlist as a graph.
     Graph,

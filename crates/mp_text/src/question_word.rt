@@ -14,6 +14,8 @@ pub enum QuestionWord {
     Report,
     /// `check`
     Check,
+    /// `steady`
+    Steady,
     /// `dump`
     Dump,
     /// `work`
@@ -48,6 +50,8 @@ impl QuestionWord {
     {
         match word {
             _ if is_text(word, "wave") => Some(QuestionWord::Wave),
+            _ if is_text(word, "report") => Some(QuestionWord::Report),
+            _ if is_text(word, "check") => Some(QuestionWord::Check),
             _ if is_text(word, "show") => Some(QuestionWord::Show),
             _ if is_text(word, "why") => Some(QuestionWord::Why),
             _ if is_text(word, "path") => Some(QuestionWord::Path),
@@ -65,8 +69,7 @@ impl QuestionWord {
         match word {
             _ if is_text(word, "waves") => Some(QuestionWord::Waves),
             _ if is_text(word, "text") => Some(QuestionWord::Text),
-            _ if is_text(word, "report") => Some(QuestionWord::Report),
-            _ if is_text(word, "check") => Some(QuestionWord::Check),
+            _ if is_text(word, "steady") => Some(QuestionWord::Steady),
             _ if is_text(word, "dump") => Some(QuestionWord::Dump),
             _ if is_text(word, "work") => Some(QuestionWord::Work),
             _ if is_text(word, "graph") => Some(QuestionWord::Graph),
@@ -82,9 +85,10 @@ impl QuestionWord {
     {
         match self {
             QuestionWord::Wave | QuestionWord::Waits | QuestionWord::Edits => count == 1,
-            QuestionWord::Path | QuestionWord::Measure => count == 2,
-            QuestionWord::Why => count == 2 || count == 3,
-            QuestionWord::Show => count >= 2,
+            QuestionWord::Report => count == 0 || count == 2,
+            QuestionWord::Check => count <= 3,
+            QuestionWord::Why | QuestionWord::Path => count == 2 || count == 3,
+            QuestionWord::Show | QuestionWord::Measure => count >= 2,
             // no word can follow the others
             _ => count == 0,
         }

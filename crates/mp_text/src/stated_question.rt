@@ -1,9 +1,9 @@
 //! The questions of a script's lines.
 ghost use Rattle.std.specs.Prelude.{◌≡◌, []};
-ghost use Rattle.mp_text.specs.declared.question_word.QuestionWord.TheVariants.{Wave, Show, Why, Path, Waits, Measure, Edits};
-ghost use Rattle.mp_text.specs.Clauses.{IfOk, IsAscii, OutOfMemory, Gives, texts, AreAscii, stated_question, steps_word, chain_question};
+ghost use Rattle.mp_text.specs.declared.question_word.QuestionWord.TheVariants.{Wave, Report, Check, Show, Why, Path, Waits, Measure, Edits};
+ghost use Rattle.mp_text.specs.Clauses.{IfOk, IsAscii, OutOfMemory, Gives, texts, AreAscii, stated_question, range_of, check_of, since_question, steps_word, chain_question};
 
-use crate::lexing::{LineError, name_of, number_word};
+use crate::lexing::{LineError, is_text, name_of, number_word};
 use crate::question::Question;
 use crate::question_word::QuestionWord;
 use crate::wire_names::WireNames;
@@ -14,6 +14,9 @@ pub const MAX_STEPS: u32 = 1_048_576;
 
 /// The number of steps of a chain if a question doesn't give one.
 pub const USUAL_STEPS: u32 = 20;
+
+/// The end of a range of times that has none.
+const NO_END: u64 = u64::MAX;
 
 /// The question that a first word and the words after it state.
 pub fn stated_question(
@@ -29,11 +32,13 @@ pub fn stated_question(
     }
     match word {
         QuestionWord::Wave => wave_question(alloc, words),
+        QuestionWord::Report => report_question(words),
+        QuestionWord::Check => check_question(words),
         QuestionWord::Show => show_question(alloc, words),
         QuestionWord::Why => why_question(alloc, words),
         QuestionWord::Path => path_question(alloc, words),
         QuestionWord::Waits => waits_question(words),
-        QuestionWord::Measure => measure_question(words),
+        QuestionWord::Measure => measure_question(alloc, words),
         QuestionWord::Edits => edits_question(words),
         // no word can follow the others
         _ => Err(LineError::WordCount),
@@ -48,6 +53,46 @@ fn wave_question(alloc: Global, words: &[&[u8]]) -> Result<Question, LineError>
 {
     match words {
         [wire] => Ok(Question::Wave(name_of(alloc, wire)?)),
+        _ => Err(LineError::WordCount),
+    }
+}
+
+/// The question that the words after `report` state.
+fn report_question(words: &[&[u8]]) -> Result<Question, LineError>
+    ensures { result ≡ stated_question Report (texts words.now) }
+{
+    let (from, to) = range_of(words)?;
+    Ok(Question::Report { from, to })
+}
+
+/// The question that the words after `check` state.
+fn check_question(words: &[&[u8]]) -> Result<Question, LineError>
+    ensures { result ≡ stated_question Check (texts words.now) }
+{
+    let [first, others @ ..] = words else {
+        return check_of(false, words);
+    };
+    if is_text(first, "brief") {
+        return check_of(true, others);
+    }
+    check_of(false, words)
+}
+
+/// The question whether the netlist works, brief or not, in the range of times that the words state.
+fn check_of(is_brief: bool, words: &[&[u8]]) -> Result<Question, LineError>
+    ensures { result ≡ check_of is_brief (texts words.now) }
+{
+    let (from, to) = range_of(words)?;
+    Ok(Question::Check { is_brief, from, to })
+}
+
+/// The first time and the end of the range of times that the words state. No words state the range that has all times.
+fn range_of(words: &[&[u8]]) -> Result<(u64, u64), LineError>
+    ensures { result ≡ range_of (texts words.now) }
+{
+    match words {
+        [] => Ok((0, NO_END)),
+        [from, to] => Ok((number_word(from)?, number_word(to)?)),
         _ => Err(LineError::WordCount),
     }
 }
@@ -90,10 +135,34 @@ fn path_question(alloc: Global, words: &[&[u8]]) -> Result<Question, LineError>
     match words {
         [wire, time] => Ok(Question::Path {
             time: number_word(time)?,
+            from: 0,
             wire: name_of(alloc, wire)?,
         }),
+        [wire, time, from] => since_question(alloc, wire, time, from),
         _ => Err(LineError::WordCount),
     }
+}
+
+/// The question how the time of a chain from `from` on divides. `BadNumber` comes if `from` isn't below the time of the chain.
+fn since_question(
+    alloc: Global,
+    wire: &[u8],
+    time: &[u8],
+    from: &[u8],
+) -> Result<Question, LineError>
+    requires { IsAscii wire.now }
+    ensures { Gives OutOfMemory (λ question. question) result (since_question wire.now time.now from.now) }
+{
+    let time = number_word(time)?;
+    let from = number_word(from)?;
+    if from >= time {
+        return Err(LineError::BadNumber);
+    }
+    Ok(Question::Path {
+        time,
+        from,
+        wire: name_of(alloc, wire)?,
+    })
 }
 
 /// The question that the words after `waits` state.
@@ -109,13 +178,16 @@ fn waits_question(words: &[&[u8]]) -> Result<Question, LineError>
 }
 
 /// The question that the words after `measure` state.
-fn measure_question(words: &[&[u8]]) -> Result<Question, LineError>
-    ensures { result ≡ stated_question Measure (texts words.now) }
+#[tactic(auto, using(crate::proofs::GivenLemmas::wanting_given, crate::proofs::lemmas::lexing::WordLemmas::rest_ascii))]
+fn measure_question(alloc: Global, words: &[&[u8]]) -> Result<Question, LineError>
+    requires { AreAscii words.now }
+    ensures { Gives OutOfMemory (λ question. question) result (stated_question Measure (texts words.now)) }
 {
     match words {
-        [from, to] => Ok(Question::Measure {
+        [from, to, wires @ ..] => Ok(Question::Measure {
             from: number_word(from)?,
             to: number_word(to)?,
+            wires: wire_names(alloc, wires)?,
         }),
         _ => Err(LineError::WordCount),
     }
@@ -140,8 +212,16 @@ fn lone_question(word: QuestionWord) -> Result<Question, LineError>
     match word {
         QuestionWord::Waves => Ok(Question::Waves),
         QuestionWord::Text => Ok(Question::Text),
-        QuestionWord::Report => Ok(Question::Report),
-        QuestionWord::Check => Ok(Question::Check),
+        QuestionWord::Report => Ok(Question::Report {
+            from: 0,
+            to: NO_END,
+        }),
+        QuestionWord::Check => Ok(Question::Check {
+            is_brief: false,
+            from: 0,
+            to: NO_END,
+        }),
+        QuestionWord::Steady => Ok(Question::Steady),
         QuestionWord::Dump => Ok(Question::Dump),
         QuestionWord::Work => Ok(Question::Work),
         QuestionWord::Graph => Ok(Question::Graph),

@@ -5,16 +5,16 @@ use Rattle.mp_streams.specs.Outgoing.{Outgoing}
 use Rattle.mp_streams.specs.declared.write_error.WriteError.{WriteError}
 use Rattle.mp_streams.specs.declared.write_error.WriteError.TheVariants as writes
 use Rattle.mp_text.specs.declared.text_error.TextError.{TextError}
-use Rattle.mp_commands.specs.command_runs.Clauses.{Ran, RanFrom, WritesOne, counted_netlist, has_valid_crew, lines_of, text_limit, too_long, viewed_opening, with_wires}
+use Rattle.mp_commands.specs.command_runs.Clauses.{Ran, RanFrom, WritesOne, counted_netlist, has_valid_crew, lines_of, text_limit, too_long, viewed_opening, with_places, with_wires}
 use Rattle.mp_commands.specs.command_runs.Names.{Fresh, after_lines}
 use Rattle.mp_commands.specs.command_runs.ViewRuns.{RunsView}
 use Rattle.mp_commands.specs.declared.command_runs.options.Options.{Options}
 use Rattle.mp_commands.specs.declared.command_runs.run_fault.RunFault.{RunFault}
 use Rattle.mp_commands.specs.declared.command_runs.run_fault.RunFault.TheVariants.{ReadFailed, WriteFailed, OutOfMemory}
 use Rattle.mp_commands.specs.declared.views.view.View.{View}
-use Rattle.mp_commands.specs.views.Views.{view_text, view_wires}
+use Rattle.mp_commands.specs.views.Views.{view_places, view_text, view_wires}
 use Rattle.mp_request.specs.declared.request.Command.{Command}
-use Rattle.mpwb.specs.CommandTexts.{has_valid_numbers, names_in}
+use Rattle.mpwb.specs.CommandTexts.{has_valid_numbers, places_in, wires_in}
 use Rattle.mpwb.specs.CommandRuns.{RunsCommand}
 
 -- ---- what is written
@@ -37,16 +37,17 @@ from_as a b left r turn h = (h.0, h.1, turn h.0 h.2)
 
 -- ---- how it opens
 
--- where a number is out of its range no wire is asked for
-unasked : (names : List (List ℕ)) (read : Result Circuit TextError) (valid : Bool) → counted_netlist read (valid && false) ≡ with_wires names (counted_netlist read (valid && false))
-unasked names (Err error) valid = refl
-unasked names (Ok n) true = refl
-unasked names (Ok n) false = refl
+module _ (names places : List (List ℕ)) where
+  -- where a number is out of its range no name is asked for
+  unasked : (read : Result Circuit TextError) (valid : Bool) → counted_netlist read (valid && false) ≡ with_places places (with_wires names (counted_netlist read (valid && false)))
+  unasked (Err error) valid = refl
+  unasked (Ok n) true = refl
+  unasked (Ok n) false = refl
 
-opened_as : (names : List (List ℕ)) (numbers : Bool) (view : Option View) (read : Result Circuit TextError) (valid : Bool) → is_some view ≡ numbers → IfSome view (λ v. view_wires v ≡ names)
-    → viewed_opening view (counted_netlist read (valid && is_some view)) ≡ with_wires names (counted_netlist read (valid && numbers))
-opened_as names numbers None read valid same wires = rw (sym same) (unasked names read valid)
-opened_as names numbers (Some v) read valid same wires = rw (sym same, sym wires) refl
+  opened_as : (numbers : Bool) (view : Option View) (read : Result Circuit TextError) (valid : Bool) → is_some view ≡ numbers → IfSome view (λ v. view_wires v ≡ names) → IfSome view (λ v. view_places v ≡ places)
+      → viewed_opening view (counted_netlist read (valid && is_some view)) ≡ with_places places (with_wires names (counted_netlist read (valid && numbers)))
+  opened_as numbers None read valid same wires placed = rw (sym same) (unasked read valid)
+  opened_as numbers (Some v) read valid same wires placed = rw (sym same, sym wires, sym placed) refl
 
 -- ---- a command
 
@@ -60,18 +61,19 @@ module _ {S : Type 0} (command : Command) (options : Options) (view : Option Vie
   texts_as None text same n t h = absurd h
   texts_as (Some v) text same n t h = rw (sym same) h
 
-  run_as : (text : Circuit → List ℕ) → is_some view ≡ has_valid_numbers command → IfSome view (λ v. view_text v ≡ text) → IfSome view (λ v. view_wires v ≡ names_in command)
+  run_as : (text : Circuit → List ℕ) → is_some view ≡ has_valid_numbers command → IfSome view (λ v. view_text v ≡ text) → IfSome view (λ v. view_wires v ≡ wires_in command) → IfSome view (λ v. view_places v ≡ places_in command)
       → RunsView view (has_valid_crew options) r left a b → RunsCommand command text options r left a b
-  run_as text numbers same wires runs =
+  run_as text numbers same wires placed runs =
       from_as a b left r
       (λ input ran.
       let opened = ap (λ (o : Result Circuit RunFault). if nat_le (length input) (text_limit input) then o else Err too_long)
-      (opened_as (names_in command) (has_valid_numbers command) view (after_lines 0 Fresh (lines_of input)) (has_valid_crew options) numbers wires) in
+      (opened_as (wires_in command) (places_in command) (has_valid_numbers command) view (after_lines 0 Fresh (lines_of input)) (has_valid_crew options) numbers wires placed) in
       ran_as (texts_as view text same) a b r _ (rw opened at ran))
       runs
 
-  -- a command whose view has its text and its wires, and is there where its numbers are valid
+  -- a command whose view has its text and its names, and is there where its numbers are valid
   pub runs_as : (text : Option (Circuit → List ℕ)) → IfSome text (λ t. is_some view ≡ has_valid_numbers command) → IfSome view (λ v. IfSome text (λ t. view_text v ≡ t))
-      → IfSome view (λ v. view_wires v ≡ names_in command) → RunsView view (has_valid_crew options) r left a b → IfSome text (λ t. RunsCommand command t options r left a b)
-  runs_as None numbers same wires runs = tt
-  runs_as (Some text) numbers same wires runs = run_as text numbers same wires runs
+      → IfSome view (λ v. view_wires v ≡ wires_in command) → IfSome view (λ v. view_places v ≡ places_in command) → RunsView view (has_valid_crew options) r left a b
+      → IfSome text (λ t. RunsCommand command t options r left a b)
+  runs_as None numbers same wires placed runs = tt
+  runs_as (Some text) numbers same wires placed runs = run_as text numbers same wires placed runs

@@ -6,17 +6,17 @@ use Rattle.mp_commands.specs.Desks.{IsDeskText, blocks_of, has_valid_desk}
 use Rattle.mp_commands.specs.Names.{first_part, later_parts}
 use Rattle.mp_commands.specs.Plays.{AreReplies}
 use Rattle.mp_commands.specs.ScriptSessions.{opened}
-use Rattle.mp_commands.specs.command_runs.Clauses.{Ran, RanFrom, has_valid_crew, lines_of, opening_of, with_wires, within_size}
+use Rattle.mp_commands.specs.command_runs.Clauses.{Ran, RanFrom, has_valid_crew, lines_of, opening_of, with_places, with_wires, within_size}
 use Rattle.mp_commands.specs.declared.command_runs.options.Options.{Options}
 use Rattle.mp_commands.specs.declared.command_runs.run_fault.RunFault.{RunFault}
 use Rattle.mp_request.specs.declared.request.Command.{Command}
 use Rattle.mp_request.specs.declared.request.Command.TheVariants.{Play, Desk}
-use Rattle.mpwb.specs.CommandTexts.{has_valid_numbers, names_in}
+use Rattle.mpwb.specs.CommandTexts.{has_valid_numbers, places_in, wires_in}
 
--- how its input opens: a fault of the text is told first, then one of a number, then a wire that doesn't stand
+-- how its input opens: a fault of the text is told first, then one of a number, then a name that nothing has
 abbrev pub command_opening : Command → Options → List ℕ → Result Circuit RunFault
 command_opening command options =
-    within_size (λ input. with_wires (names_in command) (opening_of (lines_of input) (has_valid_crew options && has_valid_numbers command)))
+    within_size (λ input. with_places (places_in command) (with_wires (wires_in command) (opening_of (lines_of input) (has_valid_crew options && has_valid_numbers command))))
 
 -- what it wrote of its source's input, and how it ended
 abbrev pub RunsCommand : {S : Type 0} → Command → (Circuit → List ℕ) → Options → Result (Unit {0}) RunFault → Option (List ℕ) → Outgoing S → Outgoing S → Type 0

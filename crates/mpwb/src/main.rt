@@ -107,7 +107,7 @@ fn ended<R: Runtime + AllocGlobal>(rt: &R, request: &Request<'_>, run: Result<u8
     match run {
         Ok(status) => status,
         Err(fault) => {
-            tell_fault(rt, &fault, request.wires());
+            tell_fault(rt, &fault, request.names());
             show_if_checked(rt, &fault, request);
             exit_status(&fault)
         }
@@ -116,7 +116,7 @@ fn ended<R: Runtime + AllocGlobal>(rt: &R, request: &Request<'_>, run: Result<u8
 
 /// Shows the line of FILE at which its text isn't read, if it was to be checked.
 fn show_if_checked<R: Runtime + AllocGlobal>(rt: &R, fault: &RunFault, request: &Request<'_>) {
-    if !matches!(request.command, Command::Check) {
+    if !matches!(request.command, Command::Check { .. }) {
         return;
     }
     if let RunFault::Text(error) = fault {

@@ -4,11 +4,13 @@ ghost use Rattle.mp_commands.specs.command_runs.Clauses.{TakesInput, counted_rea
 ghost use Rattle.mpwb.specs.CommandRuns.{RunsCommand, RunsEdits};
 ghost use Rattle.mpwb.specs.CommandTexts.{names_in, text_of};
 
-use crate::asked_view::view_of;
+use crate::asked_view::{selection_of, view_of};
 use crate::open_sessions::OpenSessions;
-use mp_commands::{DeskCommand, Options, Play, RunFault, run_check, run_command, run_view};
+use mp_commands::{
+    CheckAsked, DeskCommand, Options, Play, RunFault, run_check, run_command, run_view,
+};
 use mp_netlist::Name;
-use mp_request::{Command, Request};
+use mp_request::{Command, RangeWords, Request};
 use mp_streams::{Out, Sink, Source, WriteSink};
 use std::alloc::{AllocError, Global};
 use std::io;
@@ -27,21 +29,31 @@ pub(crate) fn run_on<R: Print + Threads + Wait + Sync + AllocGlobal, S: Source>(
 ) -> Result<u8, RunFault> {
     let mut out = Out::new(rt.alloc(), WriteSink::new(io::writer(rt)))?;
     match &request.command {
-        Command::Check => check_on(rt, source, &mut out, options),
+        Command::Check { words, is_brief } => {
+            check_on(rt, source, &mut out, options, words, *is_brief)
+        }
         _ => write_on(rt, source, &mut out, request, options),
     }
 }
 
-/// Checks the netlist of the source, and returns the status with which the program ends.
+/// Checks the netlist of the source as these words ask, and returns the status with which the program ends.
 fn check_on<R: Threads + Wait + Sync + AllocGlobal, S: Source, T: Sink>(
     rt: &R,
     source: &mut S,
     out: &mut Out<T>,
     options: &Options,
+    words: &RangeWords<'_>,
+    is_brief: bool,
 ) -> Result<u8, RunFault>
     requires { out.old.held ≡ [] }
 {
-    let is_wrong = run_check(rt, rt.alloc(), source, out, options)?;
+    let names = names_of(rt.alloc(), words.names.as_slice())?;
+    let selection = selection_of(names.as_slice(), words);
+    let asked = CheckAsked {
+        selection,
+        is_brief,
+    };
+    let is_wrong = run_check(rt, rt.alloc(), source, out, options, asked)?;
     Ok(if is_wrong { WRONG } else { 0 })
 }
 
@@ -55,12 +67,12 @@ fn write_on<R: Threads + Wait + Sync + AllocGlobal, S: Source, T: Sink>(
 ) -> Result<u8, RunFault>
     requires { out.old.held ≡ [] }
 {
-    let names = names_of(rt.alloc(), request.wires())?;
+    let names = names_of(rt.alloc(), request.names())?;
     run_named(rt, source, out, &request.command, names.as_slice(), options)?;
     Ok(0)
 }
 
-/// Runs the command on the source, if the wires of which the command speaks have these names. A command that writes a view writes the text of that view, `play`
+/// Runs the command on the source, if what the command speaks of has these names. A command that writes a view writes the text of that view, `play`
 /// the replies to a script, and `desk` what becomes of its blocks.
 fn run_named<R: Threads + Wait + Sync + AllocGlobal, S: Source, T: Sink>(
     rt: &R,
@@ -91,7 +103,7 @@ fn run_named<R: Threads + Wait + Sync + AllocGlobal, S: Source, T: Sink>(
             )
         }
         // its netlist is in a file, since its standard input has lines; and a check has a status of its own
-        Command::LiveDesk { .. } | Command::Check => Err(RunFault::ReadFailed),
+        Command::LiveDesk { .. } | Command::Check { .. } => Err(RunFault::ReadFailed),
         _ => run_view(
             rt,
             rt.alloc(),

@@ -13,6 +13,7 @@ from .table import Items
 _STEP = re.compile(rf"({NAME}) (\d+)=(\d+)(?: (declared)| < (stim)| < ({NAME}) ([A-Z]+)/(\d+) < (start|.+))")
 _EVENT = re.compile(rf"({NAME}) (\d+)=(\d+)(?:/(\d+))?")
 _PART = re.compile(rf"({NAME}) (\d+) (\d+)")
+_BEFORE = re.compile(r"- (\d+) (\d+)")
 _WAIT = re.compile(rf"({NAME}) ([A-Z]+|bundle) (waits for|keeps|holds) ({NAME}|\d+) since (\d+)")
 
 
@@ -56,14 +57,18 @@ class Step:
 
 @dataclass(frozen=True)
 class PathPart:
-    """How many units of time passed in a module, in how many steps."""
+    """How many units of time passed in a module, in how many steps.
+
+    Of a chain that counts from a time on, the last part may be that before it: `module` is "-", `since` is that time, and `steps` is 0.
+    """
 
     module: str
     units: int
     steps: int
+    since: Optional[int] = None
 
     def __str__(self) -> str:
-        return f"{self.module} {self.units} {self.steps}"
+        return f"{self.module} {self.units} {self.steps}" if self.since is None else f"- {self.since} {self.units}"
 
 
 @dataclass(frozen=True)
@@ -108,10 +113,16 @@ def read_why(text: str, question: str) -> Items[Step]:
     return Items(_read_step(line, question) for line in text.splitlines())
 
 
+def _read_part(line: str, question: str) -> PathPart:
+    if before := _BEFORE.fullmatch(line):
+        return PathPart("-", int(before[2]), 0, int(before[1]))
+    part = match(_PART, line, question)
+    return PathPart(part[1], int(part[2]), int(part[3]))
+
+
 def read_path(text: str, question: str) -> Items[PathPart]:
     """What `path` writes."""
-    found = [match(_PART, line, question) for line in text.splitlines()]
-    return Items(PathPart(each[1], int(each[2]), int(each[3])) for each in found)
+    return Items(_read_part(line, question) for line in text.splitlines())
 
 
 def _read_wait(line: str, question: str) -> Wait:

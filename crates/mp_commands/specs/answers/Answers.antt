@@ -1,6 +1,6 @@
 -- What questions are answered.
 use Rattle.std.specs.Prelude.{◌+◌, ◌-◌, ◌∷◌, ◌++◌, ◌&&◌, if◌then◌else◌}
-use Rattle.mp_commands.specs.answers.Names.{decimal, Edit, NoSuchWire, Circuit, wire_at, wire_named, Unicode, Decimal, missing_at, usual_columns, ℕ, Bool, List, [], length, Option, Some, None, nat_le, codes, wave, report_text, waits, measure, dump, BadNumber, check_text, Question, Wave, Waves, Text, Report, Check, Dump, Work, Show, Why, Path, Waits, Measure, Graph, Verilog, Version, Edits, written, graph, verilog, picture_text, why_of, path_of, slot_line, waves_text}
+use Rattle.mp_commands.specs.answers.Names.{decimal, Edit, NoSuchWire, Circuit, wire_at, wire_named, Unicode, Decimal, missing_at, usual_columns, ℕ, Bool, List, [], length, Option, Some, None, nat_le, codes, wave, selected_report, Selected, waits, measure_of, dump, BadNumber, check_text, steady_text, Question, Wave, Waves, Text, Report, Check, Steady, Dump, Work, Show, Why, Path, Waits, Measure, Graph, Verilog, Version, Edits, written, graph, verilog, picture_text, why_of, path_of, slot_line, waves_text}
 use Rattle.mp_commands.specs.declared.views.drawing.Drawing.TheVariants as drawings
 use Rattle.mp_commands.specs.answers.WorkLines.{work_text}
 use Rattle.mp_commands.specs.answers.EditAnswers.{edits_from}
@@ -32,20 +32,25 @@ is_edit_number edits number = nat_le 1 number && nat_le number (length edits + 1
 abbrev pub edits_text : List Edit → ℕ → List ℕ
 edits_text edits from = if is_edit_number edits from then edits_from edits (from - 1) else unread_text BadNumber
 
+-- all modules and bundles at the times from one to before another
+abbrev pub all_between : ℕ → ℕ → Selected
+all_between from to = record { from = from; to = to; names = [] }
+
 -- the answer to a question
 abbrev pub answer_text : Kept → Question → List ℕ
 answer_text kept (Wave name) = wire_text kept.netlist (wire_named kept.netlist name)
 answer_text kept Waves = waves_text kept.netlist
 answer_text kept Text = written kept.netlist
-answer_text kept Report = report_text kept.netlist
-answer_text kept Check = check_text kept.netlist
+answer_text kept (Report from to) = selected_report kept.netlist (all_between from to)
+answer_text kept (Check is_brief from to) = check_text kept.netlist (all_between from to) is_brief
+answer_text kept Steady = steady_text kept.netlist
 answer_text kept Dump = dump kept.netlist
 answer_text kept Work = work_text kept.netlist kept.work
 answer_text kept (Show from to wires) = asked_text (missing_at kept.netlist wires) (picture_text kept.netlist wires from to usual_columns (drawings.Text Unicode) Decimal)
 answer_text kept (Waits time) = waits kept.netlist time
-answer_text kept (Measure from to) = measure kept.netlist from to
+answer_text kept (Measure from to wires) = asked_text (missing_at kept.netlist wires) (measure_of kept.netlist from to wires)
 answer_text kept (Why wire time steps) = asked_text (missing_at kept.netlist (wire ∷ [])) (why_of kept.netlist wire time steps)
-answer_text kept (Path wire time) = asked_text (missing_at kept.netlist (wire ∷ [])) (path_of kept.netlist wire time)
+answer_text kept (Path wire time from) = asked_text (missing_at kept.netlist (wire ∷ [])) (path_of kept.netlist wire time from)
 answer_text kept Graph = graph kept.netlist
 answer_text kept Verilog = verilog kept.netlist
 answer_text kept Version = version_text (length kept.edits)

@@ -2,7 +2,9 @@
 pub use Rattle.std.specs.Fmt.{decimal}
 pub use Rattle.std.specs.List.{flat_map, slice_get}
 pub use Rattle.std.specs.Prelude.{Bool, List, None, Option, Some, [], codes, drop, if◌then◌else◌, length, nat_le, unwrap_or, ℕ, ◌&&◌, ◌++◌, ◌+◌, ◌-◌, ◌∷◌}
-pub use Rattle.mp_check.specs.CheckLines.{check_text}
+pub use Rattle.mp_check.specs.CheckTexts.{check_text, selected_report}
+pub use Rattle.mp_check.specs.Selections.{Selected, selected}
+pub use Rattle.mp_steady.specs.SteadyLines.{steady_text}
 pub use Rattle.mp_text.specs.edit_lines.EditLines.{edit_text}
 pub use Rattle.mp_model.specs.Waves.{wave}
 pub use Rattle.mp_netlist.specs.Circuit.{Circuit, module_at, wire_at, wire_named}
@@ -13,12 +15,10 @@ pub use Rattle.mp_records.specs.declared.edit.Edit.{Edit}
 pub use Rattle.mp_records.specs.declared.edit_error.EditError.{EditError}
 pub use Rattle.mp_records.specs.declared.edit_error.EditError.TheVariants.{InBatch, NoSuchWire}
 pub use Rattle.mp_records.specs.declared.module_record.ModuleRecord.{ModuleRecord}
-pub use Rattle.mp_report.specs.Lines.{report_text}
 pub use Rattle.mp_streams.specs.Outgoing.{Writes}
 pub use Rattle.mp_text.specs.Written.{written}
 pub use Rattle.mp_text.specs.declared.question.Question.{Question}
-pub use Rattle.mp_text.specs.declared.question.Question.TheVariants.{Check, Dump, Edits, Graph, Measure, Path, Report, Show, Text, Verilog, Version, Waits, Wave, Waves, Why, Work}
-pub use Rattle.mp_questions.specs.timing.Measures.{measure}
+pub use Rattle.mp_text.specs.declared.question.Question.TheVariants.{Check, Dump, Edits, Graph, Measure, Path, Report, Show, Steady, Text, Verilog, Version, Waits, Wave, Waves, Why, Work}
 pub use Rattle.mp_questions.specs.timing.Waits.{waits}
 pub use Rattle.mp_exports.specs.vcd.Dumps.{dump}
 pub use Rattle.mp_exports.specs.verilog.Verilog.{verilog}
@@ -26,6 +26,7 @@ pub use Rattle.mp_version.specs.Stories.{Story, present}
 pub use Rattle.mp_commands.specs.views.AskedWires.{missing_at}
 pub use Rattle.mp_commands.specs.views.Chains.{path_of, why_of}
 pub use Rattle.mp_commands.specs.views.Limits.{usual_columns}
+pub use Rattle.mp_commands.specs.views.Measured.{measure_of}
 pub use Rattle.mp_commands.specs.views.Outputs.{slot_line, waves_text}
 pub use Rattle.mp_commands.specs.views.Pictures.{picture_text}
 pub use Rattle.mp_text.specs.lexing.LineErrors.{line_name_of, line_number_of}

@@ -16,8 +16,9 @@ pub use Rattle.mp_text.specs.declared.text_code.TextCode.{TextCode}
 pub use Rattle.mp_text.specs.declared.text_code.TextCode.TheVariants.{TooLong}
 pub use Rattle.mp_text.specs.declared.text_error.TextError.{TextError}
 pub use Rattle.mp_text.specs.declared.text_state.TextState.TheVariants.{Fresh}
+pub use Rattle.mp_check.specs.Selections.{missing_place}
 pub use Rattle.mp_commands.specs.views.AskedWires.{missing_at}
 pub use Rattle.mp_text.specs.lexing.Lines.{lines_of}
 pub use Rattle.mp_commands.specs.declared.command_runs.options.Options.{Options}
 pub use Rattle.mp_commands.specs.declared.command_runs.run_fault.RunFault.{RunFault}
-pub use Rattle.mp_commands.specs.declared.command_runs.run_fault.RunFault.TheVariants.{BadCount, NoPlace, NoSuchWire, OutOfMemory, ReadFailed, Text, WriteFailed}
+pub use Rattle.mp_commands.specs.declared.command_runs.run_fault.RunFault.TheVariants.{BadCount, NoPlace, NoSuchPlace, NoSuchWire, OutOfMemory, ReadFailed, Text, WriteFailed}

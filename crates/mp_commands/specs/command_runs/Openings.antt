@@ -1,8 +1,8 @@
 -- How an input opens.
 use Rattle.std.specs.Prelude.{◌+◌, if◌then◌else◌}
-use Rattle.mp_commands.specs.command_runs.Names.{ℕ, Bool, List, length, take, Option, Some, None, Result, Ok, Err, nat_le, Circuit, TooLong, TextError, Fresh, after_lines, RunFault, Text, BadCount, NoSuchWire, missing_at, text_limit}
+use Rattle.mp_commands.specs.command_runs.Names.{ℕ, Bool, List, length, take, Option, Some, None, Result, Ok, Err, nat_le, Circuit, TooLong, TextError, Fresh, after_lines, RunFault, Text, BadCount, NoSuchWire, NoSuchPlace, missing_at, missing_place, text_limit}
 use Rattle.mp_commands.specs.declared.views.view.View.{View}
-use Rattle.mp_commands.specs.views.Views.{view_wires}
+use Rattle.mp_commands.specs.views.Views.{view_places, view_wires}
 
 -- a fault of the text is told before one of the options
 abbrev pub counted_netlist : Result Circuit TextError → Bool → Result Circuit RunFault
@@ -23,10 +23,20 @@ abbrev pub with_wires : List (List ℕ) → Result Circuit RunFault → Result C
 with_wires names (Ok n) = with_all (missing_at n names) n
 with_wires names (Err fault) = Err fault
 
--- a netlist in which the wires of a view stand
+-- a netlist, where each of the names that are asked for is that of a module or a bundle
+abbrev pub with_each : Option ℕ → Circuit → Result Circuit RunFault
+with_each None n = Ok n
+with_each (Some place) n = Err (NoSuchPlace place)
+
+-- a netlist in which modules or bundles have these names; one that none has is told last
+abbrev pub with_places : List (List ℕ) → Result Circuit RunFault → Result Circuit RunFault
+with_places names (Ok n) = with_each (missing_place n names) n
+with_places names (Err fault) = Err fault
+
+-- a netlist in which the wires, the modules and the bundles of a view stand
 abbrev pub viewed_opening : Option View → Result Circuit RunFault → Result Circuit RunFault
 viewed_opening None opening = opening
-viewed_opening (Some view) opening = with_wires (view_wires view) opening
+viewed_opening (Some view) opening = with_places (view_places view) (with_wires (view_wires view) opening)
 
 -- the fault of an input that is too long
 abbrev pub too_long : RunFault

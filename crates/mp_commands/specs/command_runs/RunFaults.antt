@@ -1,6 +1,6 @@
 -- How a fault of a run is told.
 use Rattle.std.specs.Prelude.{◌∷◌, ◌++◌}
-use Rattle.mp_commands.specs.command_runs.Names.{ℕ, List, [], Result, Err, codes, unwrap_or, slice_index_or, decimal, TakeError, WriteError, one_more, TextCode, TextError, number_of, name_of, RunFault, Text, BadCount, ReadFailed, WriteFailed, OutOfMemory, NoPlace, NoSuchWire}
+use Rattle.mp_commands.specs.command_runs.Names.{ℕ, List, [], Result, Err, codes, unwrap_or, slice_index_or, decimal, TakeError, WriteError, one_more, TextCode, TextError, number_of, name_of, RunFault, Text, BadCount, ReadFailed, WriteFailed, OutOfMemory, NoPlace, NoSuchWire, NoSuchPlace}
 use Rattle.mp_records.specs.EditErrors as edits
 use Rattle.mp_streams.specs.declared.take_error.TakeError.TheVariants as takes
 use Rattle.mp_streams.specs.declared.write_error.WriteError.TheVariants as writes
@@ -32,6 +32,7 @@ status_of WriteFailed = 3
 status_of OutOfMemory = 4
 status_of NoPlace = 4
 status_of (NoSuchWire place) = 1
+status_of (NoSuchPlace place) = 1
 
 -- a number, a space and a name
 abbrev pub numbered : ℕ → List ℕ → List ℕ
@@ -48,15 +49,19 @@ text_line line code = codes "mpwb: line " ++ (decimal line ++ (codes ": " ++ (nu
 abbrev pub wire_fault_line : List ℕ → List ℕ
 wire_fault_line wire = codes "mpwb: no such wire: " ++ wire
 
--- the line that tells of a fault, without its line feed, where these wires were asked for
+abbrev pub place_fault_line : List ℕ → List ℕ
+place_fault_line name = codes "mpwb: no such module or bundle: " ++ name
+
+-- the line that tells of a fault, without its line feed, where these names were asked for
 abbrev pub line_of : RunFault → List (List ℕ) → List ℕ
-line_of (Text error) wires = text_line error.line error.code
-line_of BadCount wires = codes "mpwb: bad count"
-line_of ReadFailed wires = codes "mpwb: read failed"
-line_of WriteFailed wires = codes "mpwb: write failed"
-line_of OutOfMemory wires = codes "mpwb: out of memory"
-line_of NoPlace wires = codes "mpwb: no place"
-line_of (NoSuchWire place) wires = wire_fault_line (slice_index_or wires place [])
+line_of (Text error) names = text_line error.line error.code
+line_of BadCount names = codes "mpwb: bad count"
+line_of ReadFailed names = codes "mpwb: read failed"
+line_of WriteFailed names = codes "mpwb: write failed"
+line_of OutOfMemory names = codes "mpwb: out of memory"
+line_of NoPlace names = codes "mpwb: no place"
+line_of (NoSuchWire place) names = wire_fault_line (slice_index_or names place [])
+line_of (NoSuchPlace place) names = place_fault_line (slice_index_or names place [])
 
 -- the number of a source's faults after a run
 abbrev pub counted_reads : {T : Type 0} → Result T RunFault → ℕ → ℕ

@@ -1,6 +1,6 @@
 -- What a run takes of its source, and what it makes of its output.
 use Rattle.std.specs.Prelude.{◌≡◌, ◌⊎◌, ◌+◌, ◌<◌, ◌≤◌}
-use Rattle.mp_commands.specs.command_runs.Names.{ℕ, length, IfSome, Some, None, Bool, true, List, [], Option, Result, Ok, Err, IsOk, IsOkAnd, Outgoing, ConsumesUpTo, Writes, WriteError, Circuit, text_limit, RunFault, Text, BadCount, ReadFailed, WriteFailed, OutOfMemory, NoPlace, NoSuchWire}
+use Rattle.mp_commands.specs.command_runs.Names.{ℕ, length, IfSome, Some, None, Bool, true, List, [], Option, Result, Ok, Err, IsOk, IsOkAnd, Outgoing, ConsumesUpTo, Writes, WriteError, Circuit, text_limit, RunFault, Text, BadCount, ReadFailed, WriteFailed, OutOfMemory, NoPlace, NoSuchWire, NoSuchPlace}
 use Rattle.mp_streams.specs.declared.write_error.WriteError.TheVariants as writes
 use Rattle.mp_commands.specs.command_runs.Openings.{too_long}
 
@@ -28,6 +28,7 @@ abbrev pub Refuses : Bool → Result Circuit RunFault → RunFault → Type 0
 Refuses seats opening (Text error) = opening ≡ Err (Text error)
 Refuses seats opening BadCount = opening ≡ Err BadCount
 Refuses seats opening (NoSuchWire place) = opening ≡ Err (NoSuchWire place)
+Refuses seats opening (NoSuchPlace place) = opening ≡ Err (NoSuchPlace place)
 Refuses seats opening NoPlace = (seats ≡ true) × IsOk opening
 Refuses seats opening OutOfMemory = Unit {0}
 Refuses seats opening ReadFailed = ⊥

@@ -1,10 +1,13 @@
 //! What a question asks for.
-ghost use Rattle.std.specs.Prelude.{◌≡◌};
+ghost use Rattle.std.specs.Prelude.{◌≡◌, []};
 ghost use Rattle.mp_commands.specs.answers.Names.{Unicode, Decimal, usual_columns};
 ghost use Rattle.mp_commands.specs.declared.views.drawing.Drawing.TheVariants.{Text};
 ghost use Rattle.mp_commands.specs.answers.Answers.{answer_text, asked_answer};
 
-use crate::views::{AskedPicture, Drawing, PathLines, PictureText, USUAL_COLUMNS, View, WhyLines};
+use crate::views::{
+    AskedPicture, CheckAsked, Drawing, MeasureLines, PathLines, PictureText, Selection,
+    USUAL_COLUMNS, View, WhyLines,
+};
 use mp_netlist::Name;
 use mp_picture::{Charset, Numerals};
 use mp_questions::TimeRange;
@@ -38,8 +41,11 @@ impl<'a> AskedAnswer<'a> {
             Question::Version => AskedAnswer::Version,
             Question::Edits { from } => AskedAnswer::Edits { from: *from },
             Question::Waves => AskedAnswer::View(View::Waves),
-            Question::Report => AskedAnswer::View(View::Report),
-            Question::Check => AskedAnswer::View(View::Check),
+            Question::Report { from, to } => AskedAnswer::View(View::Report(all_in(*from, *to))),
+            Question::Check { is_brief, from, to } => {
+                AskedAnswer::View(View::Check(checked(*is_brief, *from, *to)))
+            }
+            Question::Steady => AskedAnswer::View(View::Steady),
             Question::Dump => AskedAnswer::View(View::Dump),
             Question::Graph => AskedAnswer::View(View::Graph),
             Question::Verilog => AskedAnswer::View(View::Verilog),
@@ -47,19 +53,54 @@ impl<'a> AskedAnswer<'a> {
                 AskedAnswer::View(View::Picture(shown(*from, *to, wires)))
             }
             Question::Waits { time } => AskedAnswer::View(View::Waits { time: *time }),
-            Question::Measure { from, to } => AskedAnswer::View(View::Measure(TimeRange {
-                from: *from,
-                to: *to,
-            })),
+            Question::Measure { from, to, wires } => {
+                AskedAnswer::View(View::Measure(measured(*from, *to, wires)))
+            }
             Question::Why { wire, time, steps } => AskedAnswer::View(View::Why(WhyLines {
                 wire,
                 time: *time,
                 steps: *steps,
             })),
-            Question::Path { wire, time } => {
-                AskedAnswer::View(View::Path(PathLines { wire, time: *time }))
-            }
+            Question::Path { wire, time, from } => AskedAnswer::View(View::Path(PathLines {
+                wire,
+                time: *time,
+                from: *from,
+            })),
         }
+    }
+}
+
+/// All modules and bundles at the times from one to before another.
+fn all_in<'a>(from: u64, to: u64) -> Selection<'a>
+    ensures range { (result.range.from ≡ from) × (result.range.to ≡ to) }
+    ensures names { result.names.now ≡ [] }
+{
+    Selection {
+        range: TimeRange { from, to },
+        names: &[],
+    }
+}
+
+/// The check that a script asks for.
+fn checked<'a>(is_brief: bool, from: u64, to: u64) -> CheckAsked<'a>
+    ensures range { (result.selection.range.from ≡ from) × (result.selection.range.to ≡ to) }
+    ensures names { result.selection.names.now ≡ [] }
+    ensures brief { result.is_brief ≡ is_brief }
+{
+    CheckAsked {
+        selection: all_in(from, to),
+        is_brief,
+    }
+}
+
+/// The measures that a script asks for.
+fn measured(from: u64, to: u64, wires: &WireNames) -> MeasureLines<'_>
+    ensures range { (result.range.from ≡ from) × (result.range.to ≡ to) }
+    ensures wires { result.wires.now ≡ wires.now }
+{
+    MeasureLines {
+        range: TimeRange { from, to },
+        wires: wires.as_slice(),
     }
 }
 

@@ -1,10 +1,12 @@
 //! The netlist that an input opens with.
 ghost use Rattle.std.specs.Prelude.{◌≡◌, ◌≤◌};
-ghost use Rattle.mp_commands.specs.command_runs.Clauses.{length, false, is_some, Some, Ok, IfOk, IfErr, lines_of, max_input, opening_with, StaysShutWith, opening_of, counted_reads, HasInput, Refuses, TakesInput};
+ghost use Rattle.mp_commands.specs.command_runs.Clauses.{length, false, is_some, Some, Ok, IfOk, IfErr, lines_of, max_input, opening_with, StaysShutBy, StaysShutWith, opening_at, opening_of, counted_reads, HasInput, Refuses, TakesInput};
 
 use crate::command_runs::input::read_input;
 use crate::command_runs::run_fault::RunFault;
-use mp_netlist::Netlist;
+use mp_check::missing_place;
+use mp_netlist::{Name, Netlist};
+use mp_phase::Crew;
 use mp_streams::Source;
 use mp_text::read_lines;
 use std::alloc::Global;
@@ -24,6 +26,29 @@ pub fn read_opening<S: Source, C: Drop>(
 {
     let input = read_input(alloc, source)?;
     opened_input(alloc, input, crew)
+}
+
+/// Reads the text of a netlist as `read_opening`. Then `NoSuchPlace` comes for the first of the names that neither a module nor a bundle has.
+pub(crate) fn read_opening_at<S: Source>(
+    alloc: Global,
+    source: &mut S,
+    crew: Option<Crew>,
+    names: &[Name],
+) -> Result<(Netlist, Crew), RunFault>
+    ensures opened { IfOk result (λ both. HasInput (S.left source.old) (λ input. opening_at names.now (is_some crew) input ≡ Ok both.0)) }
+    ensures crew { IfOk result (λ both. crew ≡ Some both.1) }
+    ensures refused { IfErr result (StaysShutBy (S.left source.old) (opening_at names.now (is_some crew))) }
+    ensures taken { TakesInput (S.left source.old) (S.left source.new) }
+    ensures read_faults { S.fault_count source.new ≡ counted_reads result (S.fault_count source.old) }
+{
+    let (netlist, crew) = read_opening(alloc, source, crew)?;
+    match missing_place(&netlist, names) {
+        None => Ok((netlist, crew)),
+        Some(place) => {
+            drop(netlist);
+            Err(RunFault::NoSuchPlace(place))
+        }
+    }
 }
 
 /// The netlist of a text, with a crew for it. If there is none `BadCount` comes, after the faults of the text.

@@ -1,6 +1,6 @@
 //! Why a run ends early.
 ghost use Rattle.std.specs.Prelude.{◌≡◌, ◌++◌};
-ghost use Rattle.mp_commands.specs.command_runs.Clauses.{[], IfOk, map, slice_index_or, WriteFailed, OutOfMemory, status_of, line_of, text_line, wire_fault_line, numbered, fault_of_text, fault_of_take, fault_of_write};
+ghost use Rattle.mp_commands.specs.command_runs.Clauses.{[], IfOk, map, slice_index_or, WriteFailed, OutOfMemory, status_of, line_of, text_line, wire_fault_line, place_fault_line, numbered, fault_of_text, fault_of_take, fault_of_write};
 
 use mp_netlist::EditError;
 use mp_streams::{Failed, TakeError, WriteError};
@@ -32,6 +32,9 @@ pub enum RunFault {
     /// The wire at this place, counted from 0, is the first of those that are asked for that doesn't exist.
     #[error("no such wire")]
     NoSuchWire(usize),
+    /// The name at this place, counted from 0, is the first of those that are asked for that neither a module nor a bundle has.
+    #[error("no such module or bundle")]
+    NoSuchPlace(usize),
 }
 
 /// `OutOfMemory` of a text becomes that of the run.
@@ -89,15 +92,16 @@ pub fn exit_status(fault: &RunFault) -> u8
     ensures { result ≡ status_of fault.now }
 {
     match fault {
-        RunFault::Text(_) | RunFault::BadCount | RunFault::NoSuchWire(_) => 1,
+        RunFault::Text(_) | RunFault::BadCount => 1,
+        RunFault::NoSuchWire(_) | RunFault::NoSuchPlace(_) => 1,
         RunFault::ReadFailed | RunFault::WriteFailed => 3,
         RunFault::OutOfMemory | RunFault::NoPlace => 4,
     }
 }
 
-/// The line that reports the fault, without its line feed. `wires` are the names of the wires in the request, as they were given.
-pub fn fault_line(alloc: Global, fault: &RunFault, wires: &[&str]) -> Result<Vec<u8>, AllocError>
-    ensures { IfOk result (λ line. line.items ≡ line_of fault.now (map (λ wire. wire.now) wires.now)) }
+/// The line that reports the fault, without its line feed. `names` are the names in the request, as they were given.
+pub fn fault_line(alloc: Global, fault: &RunFault, names: &[&str]) -> Result<Vec<u8>, AllocError>
+    ensures { IfOk result (λ line. line.items ≡ line_of fault.now (map (λ name. name.now) names.now)) }
 {
     match fault {
         RunFault::Text(error) => text_line(alloc, error.line, error.code),
@@ -106,22 +110,36 @@ pub fn fault_line(alloc: Global, fault: &RunFault, wires: &[&str]) -> Result<Vec
         RunFault::WriteFailed => Vec::from_slice(alloc, b"mpwb: write failed"),
         RunFault::OutOfMemory => Vec::from_slice(alloc, b"mpwb: out of memory"),
         RunFault::NoPlace => Vec::from_slice(alloc, b"mpwb: no place"),
-        RunFault::NoSuchWire(place) => wire_line(alloc, wire_at(wires, *place)),
+        RunFault::NoSuchWire(place) => wire_line(alloc, name_at(names, *place)),
+        RunFault::NoSuchPlace(place) => place_line(alloc, name_at(names, *place)),
     }
 }
 
-/// The wire at this place; empty if there is none.
-fn wire_at<'a>(wires: &[&'a str], place: usize) -> &'a str
-    ensures { result.now ≡ slice_index_or (map (λ wire. wire.now) wires.now) place [] }
+/// The name at this place; empty if there is none.
+fn name_at<'a>(names: &[&'a str], place: usize) -> &'a str
+    ensures { result.now ≡ slice_index_or (map (λ name. name.now) names.now) place [] }
 {
-    wires.get(place).copied().unwrap_or("")
+    names.get(place).copied().unwrap_or("")
 }
 
 fn wire_line(alloc: Global, wire: &str) -> Result<Vec<u8>, AllocError>
     ensures { IfOk result (λ text. text.items ≡ wire_fault_line wire.now) }
 {
-    let mut text = Vec::from_slice(alloc, b"mpwb: no such wire: ")?;
-    text.extend_from_slice(wire.as_bytes())?;
+    named_line(alloc, b"mpwb: no such wire: ", wire)
+}
+
+fn place_line(alloc: Global, name: &str) -> Result<Vec<u8>, AllocError>
+    ensures { IfOk result (λ text. text.items ≡ place_fault_line name.now) }
+{
+    named_line(alloc, b"mpwb: no such module or bundle: ", name)
+}
+
+/// The line of a fault with a name behind it.
+fn named_line(alloc: Global, front: &[u8], name: &str) -> Result<Vec<u8>, AllocError>
+    ensures { IfOk result (λ text. text.items ≡ front.now ++ name.now) }
+{
+    let mut text = Vec::from_slice(alloc, front)?;
+    text.extend_from_slice(name.as_bytes())?;
     Ok(text)
 }
 

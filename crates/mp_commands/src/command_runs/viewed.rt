@@ -1,8 +1,8 @@
 //! The command that writes a view.
 ghost use Rattle.std.specs.Prelude.{◌≡◌, ◌&&◌};
-ghost use Rattle.mp_commands.specs.views.Views.{view_text, view_wires};
+ghost use Rattle.mp_commands.specs.views.Views.{view_places, view_text, view_wires};
 ghost use Rattle.mp_commands.specs.command_runs.ViewRuns.{RunsView};
-ghost use Rattle.mp_commands.specs.command_runs.Clauses.{[], OnOk, false, is_some, Some, Ok, IfSome, IsSomeAnd, Ran, TakesInput, counted_reads, lines_of, has_valid_crew, opening_of, viewed_opening, with_wires};
+ghost use Rattle.mp_commands.specs.command_runs.Clauses.{[], OnOk, false, is_some, Some, Ok, IfSome, IsSomeAnd, Ran, TakesInput, counted_reads, lines_of, has_valid_crew, opening_of, viewed_opening, with_places, with_wires};
 
 use crate::command_runs::command::{InputCommand, run_command};
 use crate::command_runs::opening::opened_input;
@@ -19,8 +19,8 @@ use std::sync::Wait;
 use std::thread::Threads;
 
 /// The command that writes a view of the netlist whose text its input is. There is no view if one of its numbers is out of range; then `BadCount`
-/// comes, after the faults of the text. A wire of the view that doesn't exist comes last, as `NoSuchWire` with its place among the wires of the view;
-/// then nothing is written.
+/// comes, after the faults of the text. A wire of the view that doesn't exist comes last, as `NoSuchWire` with its place among the wires of the view,
+/// and a name of its modules and bundles that none of them has as `NoSuchPlace`; then nothing is written.
 #[derive(Drop)]
 pub struct Viewed<'a> {
     pub view: Option<View<'a>>,
@@ -93,10 +93,27 @@ fn answer_of<R: Threads + Wait + Sync, T: Sink>(
     view: &View<'_>,
     finders: Finders<'_>,
 ) -> Result<(), RunFault>
-    ensures { Ran false result (with_wires (view_wires view.now) (Ok netlist.now)) (λ n text. text ≡ view_text view.now n) out.old out.new }
+    ensures { Ran false result (with_places (view_places view.now) (with_wires (view_wires view.now) (Ok netlist.now))) (λ n text. text ≡ view_text view.now n) out.old out.new }
 {
     if let Some(place) = view.missing(netlist) {
         return Err(RunFault::NoSuchWire(place));
+    }
+    answer_at(rt, alloc, out, netlist, view, finders)
+}
+
+/// Writes a view of a netlist that has its wires.
+fn answer_at<R: Threads + Wait + Sync, T: Sink>(
+    rt: &R,
+    alloc: Global,
+    out: &mut Out<T>,
+    netlist: &Netlist,
+    view: &View<'_>,
+    finders: Finders<'_>,
+) -> Result<(), RunFault>
+    ensures { Ran false result (with_places (view_places view.now) (Ok netlist.now)) (λ n text. text ≡ view_text view.now n) out.old out.new }
+{
+    if let Some(place) = view.missing_place(netlist) {
+        return Err(RunFault::NoSuchPlace(place));
     }
     let Finders { crew, progress } = finders;
     let waves = find_waves(rt, alloc, netlist, &crew, progress)?;

@@ -1,5 +1,5 @@
 -- What causes, chains and shares satisfy.
-use Rattle.std.specs.Prelude.{◌≡◌, ℕ, ◌+◌, ◌<◌, true, List, [], ◌∷◌, All, length, Some, IsSome}
+use Rattle.std.specs.Prelude.{◌≡◌, ℕ, ◌+◌, ◌<◌, true, List, [], ◌∷◌, All, length, max, Some, IsSome}
 use Rattle.std.specs.List.{sum_by}
 use Rattle.mp_modules.specs.Histories.{has_event}
 use Rattle.mp_records.specs.declared.ids.WireId.{WireId}
@@ -12,8 +12,9 @@ use Rattle.mp_questions.specs.declared.causes.moment.Moment.{Moment}
 use Rattle.mp_questions.specs.causes.Changes.{last_change}
 use Rattle.mp_questions.specs.timing.Ranges.{read_time}
 use Rattle.mp_questions.specs.causes.Causes.{Cause, Outside, Start, Events, cause_of}
-use Rattle.mp_questions.specs.causes.Chains.{chain}
+use Rattle.mp_questions.specs.causes.Chains.{chain, begin_of}
 use Rattle.mp_questions.specs.causes.Paths.{path}
+use Rattle.mp_questions.specs.causes.Shares.{shares_above}
 
 -- a wire has a new level at a time from 1 on
 pub record IsChange (n : Circuit) (c : WireChange) : Type 0 where
@@ -61,18 +62,13 @@ IsWhole n (c ∷ d ∷ cs) = IsWhole n (d ∷ cs)
 abbrev pub GoesBack : Type 0
 GoesBack = (n : Circuit) → IsCircuit n → (wire : WireId) (t : ℕ) → IsWhole n (chain n wire t)
 
--- the time at which a chain begins: that of its first change where that is set from outside, and 0 where it is a start
-abbrev pub begin_by : WireChange → Cause → ℕ
-begin_by c Outside = c.time
-begin_by c (Start g) = 0
-begin_by c (Events g es) = 0
-
-abbrev pub begin_of : Circuit → List WireChange → ℕ
-begin_of n [] = 0
-begin_of n (c ∷ []) = begin_by c (cause_of n c)
-begin_of n (c ∷ d ∷ cs) = begin_of n (d ∷ cs)
-
 -- the units of all shares are the time from the begin of the chain to its last change
 abbrev pub AddsUp : Type 0
 AddsUp = (n : Circuit) → IsCircuit n → (moment : Moment) (c : WireChange) → last_change n moment.wire (read_time n.horizon moment.time) ≡ Some c →
     begin_of n (chain n moment.wire (read_time n.horizon moment.time)) + sum_by (λ (s : ModuleShare). s.units) (path n moment) ≡ c.time
+
+-- those above a time are the time from there, or from the begin of the chain, whichever is later, to its last change; none where that isn't above it
+abbrev pub AddsUpAbove : Type 0
+AddsUpAbove = (n : Circuit) → IsCircuit n → (moment : Moment) (from : ℕ) (c : WireChange) → last_change n moment.wire (read_time n.horizon moment.time) ≡ Some c →
+    max from (begin_of n (chain n moment.wire (read_time n.horizon moment.time)))
+    + sum_by (λ (s : ModuleShare). s.units) (shares_above n from (chain n moment.wire (read_time n.horizon moment.time))) ≡ max from c.time

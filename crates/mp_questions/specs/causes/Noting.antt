@@ -14,8 +14,8 @@ with_step more s = record { id = s.id; units = s.units + more; steps = s.steps +
 
 -- its numbers don't grow too great by that
 pub record HasRoom (more : ℕ) (s : ModuleShare) : Type 0 where
-  pub units : s.units + more < 2 ^ 32
-  pub steps : s.steps + 1 < 2 ^ 32
+  pub units : s.units + more < 2 ^ 64
+  pub steps : s.steps + 1 < 2 ^ 64
 
 -- a share after a step, which may be in its module
 abbrev pub noted : Bool → ℕ → ModuleShare → ModuleShare

@@ -1,5 +1,5 @@
 -- Where the time of a chain went.
-use Rattle.std.specs.Prelude.{ℕ, ◌-◌, Bool, false, ◌==◌, List, [], ◌∷◌, map, filter, length, nat_lt, Option, Some, None, if◌then◌else◌}
+use Rattle.std.specs.Prelude.{ℕ, ◌-◌, Bool, false, ◌==◌, ◌&&◌, List, [], ◌∷◌, map, filter, length, max, nat_lt, Option, Some, None, if◌then◌else◌}
 use Rattle.std.specs.List.{sum_by, range_with_len}
 use Rattle.mp_netlist.specs.Circuit.{Circuit}
 use Rattle.mp_questions.specs.declared.causes.wire_change.WireChange.{WireChange}
@@ -34,6 +34,26 @@ share n changes m = record { id = record { 0 = m }; units = sum_by (units_of n) 
 -- each module has its share, by number
 abbrev pub shares : Circuit → List WireChange → List ModuleShare
 shares n changes = map (share n changes) (range_with_len 0 (length n.modules))
+
+-- ---- above a time
+
+-- of the units that a change came after what it follows, those above a time
+abbrev pub units_above : Circuit → ℕ → WireChange → ℕ
+units_above n from c = c.time - max from (time_of (followed (cause_of n c)))
+
+-- the changes above a time that come from a module
+abbrev pub steps_above : Circuit → ℕ → ℕ → List WireChange → List WireChange
+steps_above n from m changes = filter (λ c. nat_lt from c.time && is_step_in n m c) changes
+
+-- how many units above a time passed in a module, and in how many steps
+abbrev pub share_above : Circuit → ℕ → List WireChange → ℕ → ModuleShare
+share_above n from changes m =
+    record { id = record { 0 = m }; units = sum_by (units_above n from) (steps_above n from m changes); steps = length (steps_above n from m changes) }
+
+abbrev pub shares_above : Circuit → ℕ → List WireChange → List ModuleShare
+shares_above n from changes = map (share_above n from changes) (range_with_len 0 (length n.modules))
+
+-- ---- in their order
 
 -- whether a module has a share
 abbrev pub has_steps : ModuleShare → Bool

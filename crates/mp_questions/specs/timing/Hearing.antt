@@ -41,12 +41,13 @@ abbrev pub marked : ℕ → ℕ → ℕ → ℕ → ℕ
 marked last time before now = if before == now then last else time
 
 abbrev pub no_marks : Marks
-no_marks = record { first_output = 0; second_output = 0; first_waiting = 0; second_waiting = 0 }
+no_marks = record { first_output = 0; second_output = 0; third_output = 0; first_waiting = 0; second_waiting = 0 }
 
 -- since when each level of a module is what it is at a time
 pub record AreMarks (n : Circuit) (m : ℕ) (r : ModuleRecord) (t : ℕ) (marks : Marks) : Type 0 where
   pub first_output : marks.first_output ≡ since (given n m 0) t
   pub second_output : marks.second_output ≡ since (given n m 1) t
+  pub third_output : marks.third_output ≡ since (given n m 2) t
   pub first_waiting : marks.first_waiting ≡ since (waiting n m First) t
   pub second_waiting : marks.second_waiting ≡ since (waiting n m Second) t
 

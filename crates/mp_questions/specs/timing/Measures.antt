@@ -1,10 +1,10 @@
 -- The events, gaps and margins of a netlist over a range of times, as text.
-use Rattle.std.specs.Prelude.{ℕ, ◌-◌, List, [], ◌∷◌, ◌++◌, length, codes, Option, Some, None, option_map}
+use Rattle.std.specs.Prelude.{ℕ, ◌-◌, List, [], ◌∷◌, ◌++◌, length, bytes_eq, codes, Option, Some, None, option_map}
 use Rattle.std.specs.List.{flat_map, filter_map, range_with_len}
 use Rattle.std.specs.Fmt.{decimal}
 use Rattle.mp_records.specs.declared.wire_record.WireRecord.{WireRecord}
 use Rattle.mp_records.specs.declared.bundle_record.BundleRecord.{BundleRecord}
-use Rattle.mp_netlist.specs.Circuit.{Circuit, wire_at, bundle_at}
+use Rattle.mp_netlist.specs.Circuit.{Circuit, wire_at, wire_named, bundle_at}
 use Rattle.mp_model.specs.Waves.{level}
 use Rattle.mp_questions.specs.declared.timing.extremes.Extremes.{Extremes}
 use Rattle.mp_questions.specs.timing.Ranges.{read_time, read_end}
@@ -13,6 +13,7 @@ use Rattle.mp_questions.specs.timing.Extremes.{extremes}
 use Rattle.mp_questions.specs.declared.late.late.Late.{Late}
 use Rattle.mp_questions.specs.late.Searching.{late_over}
 use Rattle.mp_questions.specs.late.Lists.{units_within}
+use Rattle.mp_questions.specs.Once.{firsts}
 
 -- ---- what is measured
 
@@ -122,3 +123,21 @@ measured n from to =
 -- over the range that is asked for
 unfoldable pub measure : Circuit → ℕ → ℕ → List ℕ
 measure n from to = measured n (read_time n.horizon from) (read_end n.horizon to)
+
+-- ---- of wires that are asked for by name
+
+-- the line of the wire of a number, if there is one
+abbrev pub found_measure : Circuit → ℕ → ℕ → Option ℕ → List ℕ
+found_measure n from to None = []
+found_measure n from to (Some w) = wire_measure n from to w
+
+abbrev pub named_measure : Circuit → ℕ → ℕ → List ℕ → List ℕ
+named_measure n from to name = found_measure n from to (wire_named n name)
+
+-- the lines of the wires with these names, each once, in the order of the names
+abbrev pub named_measures : Circuit → ℕ → ℕ → List (List ℕ) → List ℕ
+named_measures n from to names = flat_map (named_measure n from to) (firsts bytes_eq names)
+
+-- over the range that is asked for
+unfoldable pub wire_measures : Circuit → ℕ → ℕ → List (List ℕ) → List ℕ
+wire_measures n from to names = named_measures n (read_time n.horizon from) (read_end n.horizon to) names

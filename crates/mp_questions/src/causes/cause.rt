@@ -21,8 +21,9 @@ pub(crate) enum Cause<'a> {
 }
 
 impl<'a> Cause<'a> {
-    ghost use Rattle.std.specs.Prelude.{◌≡◌, option_map, IfSome};
+    ghost use Rattle.std.specs.Prelude.{◌≡◌, if◌then◌else◌, nat_lt, None, option_map, IfSome};
     ghost use Rattle.mp_questions.specs.causes.Causes.{cause_seen, port_seen, port_of, followed};
+    ghost use Rattle.mp_questions.specs.causes.Chains.{begin_by};
 
     /// The change that a change with this cause follows: that of the first event.
     pub(crate) fn followed(&self) -> Option<WireChange>
@@ -41,6 +42,26 @@ impl<'a> Cause<'a> {
         match self {
             Cause::Outside => None,
             Cause::Start(port) | Cause::Events(port, _) => Some(*port),
+        }
+    }
+
+    /// The port from which a change with this cause comes, if the change is above a time and isn't set from outside.
+    pub(crate) fn port_above(&self, from: u32, change: WireChange) -> Option<DrivingPort<'a>>
+        ensures { option_map port_seen result ≡ (if nat_lt from change.time then port_of (cause_seen self.now) else None) }
+    {
+        if change.time <= from {
+            return None;
+        }
+        self.port()
+    }
+
+    /// The time at which a chain begins, if it begins with a change that has this cause: 0 if that isn't set from outside.
+    pub(crate) fn begin(&self, change: WireChange) -> u32
+        ensures { result ≡ begin_by change (cause_seen self.now) }
+    {
+        match self {
+            Cause::Outside => change.time,
+            Cause::Start(_) | Cause::Events(_, _) => 0,
         }
     }
 }

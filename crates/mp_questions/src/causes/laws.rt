@@ -1,5 +1,5 @@
 //! What causes and chains of causes satisfy.
-ghost use Rattle.mp_questions.specs.causes.Laws.{HasCause, TimesFall, GoesBack, AddsUp};
+ghost use Rattle.mp_questions.specs.causes.Laws.{HasCause, TimesFall, GoesBack, AddsUp, AddsUpAbove};
 
 /// Every change has a cause: a stimulus, a start, or events, each of them a change that came before.
 pub fn has_cause()
@@ -19,4 +19,9 @@ pub fn goes_back()
 /// The units of all shares add up to the time from the begin of the chain to its last change.
 pub fn adds_up()
     ensures { AddsUp }
+{}
+
+/// The units of all shares above a time add up to the time from there, or from the begin of the chain if that is later, to its last change.
+pub fn adds_up_above()
+    ensures { AddsUpAbove }
 {}

@@ -3,8 +3,10 @@ use mp_netlist::ModuleId;
 
 /// How long a chain of causes was in a module, and in how many steps.
 #[derive(Clone, Copy, PartialEq, Eq)]
-pub(crate) struct ModuleShare {
-    pub(crate) id: ModuleId,
-    pub(crate) units: u32,
-    pub(crate) steps: u32,
+pub struct ModuleShare {
+    pub id: ModuleId,
+    /// How long.
+    pub units: u64,
+    /// In how many steps.
+    pub steps: u64,
 }

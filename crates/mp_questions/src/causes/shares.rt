@@ -1,11 +1,12 @@
 //! The shares of all modules of a chain of causes.
-ghost use Rattle.std.specs.Prelude.{◌≡◌, ◌≢◌, ◌<◌, ℕ, true, Some, IfOk, filter, length, slice_index_or, option_map};
+ghost use Rattle.std.specs.Prelude.{◌≡◌, ◌≢◌, ◌<◌, ◌^◌, ℕ, true, All, Some, IfOk, filter, length, slice_index_or, option_map};
 ghost use Rattle.mp_netlist.specs.Circuit.{IsCircuit};
 ghost use Rattle.mp_questions.specs.causes.Causes.{port_seen};
-ghost use Rattle.mp_questions.specs.causes.Chains.{chain_from};
-ghost use Rattle.mp_questions.specs.causes.Shares.{shares, has_steps, by_units, is_port_of, time_of};
+ghost use Rattle.mp_questions.specs.causes.Chains.{begin_of, chain_from};
+ghost use Rattle.mp_questions.specs.causes.Shares.{shares, shares_above, has_steps, by_units, is_port_of, is_step_in, time_of, units_of};
 ghost use Rattle.mp_questions.specs.causes.Noting.{AreByNumber, HasRoom, IsNone, noted, with_step};
 ghost use Rattle.mp_questions.specs.declared.causes.module_share.ModuleShare.{ModuleShare as Share};
+ghost use Rattle.mp_questions.specs.declared.causes.wire_change.WireChange.{WireChange as Change};
 
 use crate::causes::driving_port::DrivingPort;
 use crate::causes::module_share::ModuleShare;
@@ -15,27 +16,75 @@ use mp_netlist::{ModuleId, Netlist};
 use std::alloc::{AllocError, Global};
 use std::cmp::Reverse;
 
-/// The share of each module, by number, in the chain of a change.
-pub(crate) fn shares(
+/// What is told of a chain of causes above a time.
+#[derive(Drop)]
+pub(crate) struct ChainShares {
+    /// The share of each module above that time, by number.
+    pub(crate) shares: Vec<ModuleShare>,
+    /// When the whole chain begins: the time of what is set from outside, and 0 if it begins with the start of a module.
+    pub(crate) begin: u32,
+}
+
+/// The shares in the chain of a change, above a time, and when that chain begins.
+pub(crate) fn shares_above(
     alloc: Global,
     tracer: &mut Tracer<'_>,
     last: WireChange,
-) -> Result<Vec<ModuleShare>, AllocError>
+    from: u32,
+) -> Result<ChainShares, AllocError>
     requires form { IsCircuit tracer.old.levels.netlist.now }
     requires from { 0 < last.time }
     requires within { last.time < tracer.old.levels.netlist.now.horizon }
-    ensures value { IfOk result (λ found. found.items ≡ shares tracer.old.levels.netlist.now (chain_from tracer.old.levels.netlist.now last.time (Some last))) }
-    ensures order { IfOk result (λ found. AreByNumber 0 found.items) }
+    ensures value { IfOk result (λ found. found.shares.items ≡ shares_above tracer.old.levels.netlist.now from (chain_from tracer.old.levels.netlist.now last.time (Some last))) }
+    ensures order { IfOk result (λ found. AreByNumber 0 found.shares.items) }
+    ensures begin { IfOk result (λ found. found.begin ≡ begin_of tracer.old.levels.netlist.now (chain_from tracer.old.levels.netlist.now last.time (Some last))) }
 {
     let mut shares = no_shares(alloc, tracer.levels.netlist)?;
+    let mut begin: u32 = 0;
     let mut next = Some(last);
     while let Some(change) = next {
         let cause = tracer.cause_of(change);
         next = cause.followed();
-        let units = change.time - time_of(next);
-        note(&mut shares, cause.port(), units);
+        begin = cause.begin(change);
+        let units = change.time.saturating_sub(time_of(next).max(from));
+        note(&mut shares, cause.port_above(from, change), units);
     }
-    Ok(shares)
+    Ok(ChainShares { shares, begin })
+}
+
+/// How the time of some changes divides among modules: the shares of the modules that made them, the most units first, and of equal ones the lesser
+/// number. A change took as long as it came after the one that it follows. The error comes if memory runs out.
+pub fn shares_of(
+    alloc: Global,
+    tracer: &mut Tracer<'_>,
+    changes: &[WireChange],
+) -> Result<Vec<ModuleShare>, AllocError>
+    requires form { IsCircuit tracer.old.levels.netlist.now }
+    requires within { All (λ (c : Change). (0 < c.time) × (c.time < tracer.old.levels.netlist.now.horizon)) changes.now }
+    requires few { length changes.now < 2 ^ 32 }
+    ensures value { IfOk result (λ found. found.items ≡ by_units (filter has_steps (shares tracer.old.levels.netlist.now changes.now))) }
+    ensures levels { tracer.new.levels ≡ tracer.old.levels }
+{
+    let mut shares = no_shares(alloc, tracer.levels.netlist)?;
+    for &change in changes {
+        note_change(tracer, &mut shares, change);
+    }
+    Ok(by_units(shares))
+}
+
+/// Adds the step that a change is to the share of the module that made it.
+fn note_change(tracer: &mut Tracer<'_>, shares: &mut Vec<ModuleShare>, change: WireChange)
+    requires form { IsCircuit tracer.old.levels.netlist.now }
+    requires from { 0 < change.time }
+    requires within { change.time < tracer.old.levels.netlist.now.horizon }
+    requires room { (m : ℕ) (d : Share) → m < length shares.old.items → HasRoom (2 ^ 32) (slice_index_or shares.old.items m d) }
+    ensures places { length shares.new.items ≡ length shares.old.items }
+    ensures each { (m : ℕ) (d : Share) → m < length shares.old.items → slice_index_or shares.new.items m d ≡ noted (is_step_in tracer.old.levels.netlist.now m change) (units_of tracer.old.levels.netlist.now change) (slice_index_or shares.old.items m d) }
+    ensures levels { tracer.new.levels ≡ tracer.old.levels }
+{
+    let cause = tracer.cause_of(change);
+    let units = change.time - time_of(cause.followed());
+    note(shares, cause.port(), units);
 }
 
 /// No share of any module.
@@ -95,7 +144,7 @@ fn with_step(share: ModuleShare, units: u32) -> ModuleShare
 {
     ModuleShare {
         id: share.id,
-        units: share.units + units,
+        units: share.units + u64::from(units),
         steps: share.steps + 1,
     }
 }

@@ -10,15 +10,15 @@ use mp_model::built;
 use mp_modules::{EventModule, Memory};
 use mp_netlist::{ModuleId, ModuleRecord};
 
-/// The state of a module at a time, and since when its levels are what they are.
+/// The state of a module at a time, and since when its levels are what they are, in units from 0.
 #[derive(Clone, Copy)]
-pub(crate) struct ClientWatch {
-    pub(crate) memory: Memory,
-    pub(crate) marks: Marks,
+pub struct ClientWatch {
+    pub memory: Memory,
+    pub marks: Marks,
 }
 
 /// A module at a time. It steps from one event of an input to the next, and passes over all units between.
-pub(crate) fn follow(at: &WaitMoment<'_>, id: ModuleId, found: &ModuleRecord) -> ClientWatch
+pub fn follow(at: &WaitMoment<'_>, id: ModuleId, found: &ModuleRecord) -> ClientWatch
     requires stands { module_at at.now.netlist.now id.0 ≡ Some found.now }
     requires form { IsModule at.now.netlist.now found.now }
     ensures { IsWatch at.now.netlist.now id.0 found.now at.now.time result }

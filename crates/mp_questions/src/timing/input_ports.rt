@@ -13,11 +13,11 @@ use mp_netlist::ModuleRecord;
 
 /// The delayed wave at each port that a module can have; `None` if the module has no such port.
 #[derive(Clone, Copy)]
-pub(crate) struct InputPorts<'a> {
-    pub(crate) first: Option<DelayedInput<'a>>,
-    pub(crate) second: Option<DelayedInput<'a>>,
-    pub(crate) third: Option<DelayedInput<'a>>,
-    pub(crate) fourth: Option<DelayedInput<'a>>,
+pub struct InputPorts<'a> {
+    pub first: Option<DelayedInput<'a>>,
+    pub second: Option<DelayedInput<'a>>,
+    pub third: Option<DelayedInput<'a>>,
+    pub fourth: Option<DelayedInput<'a>>,
 }
 
 impl<'a> InputPorts<'a> {
@@ -29,7 +29,7 @@ impl<'a> InputPorts<'a> {
     ghost use Rattle.mp_questions.specs.timing.Hearing.{AreHeard};
 
     /// The inputs of a module.
-    pub(crate) fn of(at: &WaitMoment<'a>, found: &ModuleRecord) -> Self
+    pub fn of(at: &WaitMoment<'a>, found: &ModuleRecord) -> Self
         requires { IsModule at.now.netlist.now found.now }
         ensures { AreHeard (inputs_by at.now.netlist.now (level at.now.netlist.now) found.now) at.now.netlist.now.horizon result }
     {
@@ -42,7 +42,7 @@ impl<'a> InputPorts<'a> {
     }
 
     /// The levels at a time.
-    pub(crate) fn levels(self, time: u32) -> [u64; MOST_INPUTS]
+    pub fn levels(self, time: u32) -> [u64; MOST_INPUTS]
         ensures { (x : ℕ → List ℕ) (end : ℕ) → AreHeard x end self.entry → time < end → result ≡ input_levels (x time) }
     {
         [
@@ -54,7 +54,7 @@ impl<'a> InputPorts<'a> {
     }
 
     /// The first time after one at which an input has an event, or an end that comes first.
-    pub(crate) fn next(self, time: u32, end: u32) -> u32
+    pub fn next(self, time: u32, end: u32) -> u32
         ensures within { result ≤ end }
         ensures later { time < end → time < result }
         ensures quiet { (x : ℕ → List ℕ) (most t : ℕ) → AreHeard x most self.entry → end ≤ most → time ≤ t → t < result → input_levels (x t) ≡ input_levels (x time) }

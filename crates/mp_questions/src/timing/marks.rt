@@ -6,11 +6,12 @@ use mp_modules::Memory;
 
 /// The times of the last events up to a time, 0 if there was none: of the outputs before their delays, and of whether each client waits.
 #[derive(Clone, Copy)]
-pub(crate) struct Marks {
-    pub(crate) first_output: u32,
-    pub(crate) second_output: u32,
-    pub(crate) first_waiting: u32,
-    pub(crate) second_waiting: u32,
+pub struct Marks {
+    pub first_output: u32,
+    pub second_output: u32,
+    pub third_output: u32,
+    pub first_waiting: u32,
+    pub second_waiting: u32,
 }
 
 impl Marks {
@@ -25,6 +26,7 @@ impl Marks {
         Marks {
             first_output: 0,
             second_output: 0,
+            third_output: 0,
             first_waiting: 0,
             second_waiting: 0,
         }
@@ -34,6 +36,7 @@ impl Marks {
     pub(crate) fn moved(self, time: u32, before: &Memory, now: &Memory) -> Marks
         ensures first_output { result.first_output ≡ marked self.first_output time (output_of before.now 0) (output_of now.now 0) }
         ensures second_output { result.second_output ≡ marked self.second_output time (output_of before.now 1) (output_of now.now 1) }
+        ensures third_output { result.third_output ≡ marked self.third_output time (output_of before.now 2) (output_of now.now 2) }
         ensures first_waiting { result.first_waiting ≡ marked self.first_waiting time (bit before.now.waiting.first) (bit now.now.waiting.first) }
         ensures second_waiting { result.second_waiting ≡ marked self.second_waiting time (bit before.now.waiting.second) (bit now.now.waiting.second) }
     {
@@ -42,6 +45,7 @@ impl Marks {
         Marks {
             first_output: marked(self.first_output, time, before.output(0), now.output(0)),
             second_output: marked(self.second_output, time, before.output(1), now.output(1)),
+            third_output: marked(self.third_output, time, before.output(2), now.output(2)),
             first_waiting: marked(self.first_waiting, time, first.0, first.1),
             second_waiting: marked(self.second_waiting, time, second.0, second.1),
         }

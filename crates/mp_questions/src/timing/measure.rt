@@ -62,7 +62,7 @@ fn put_wires<S: Sink>(
 }
 
 /// Writes the line of a wire; nothing if there is none.
-fn put_wire<S: Sink>(
+pub(crate) fn put_wire<S: Sink>(
     out: &mut Out<S>,
     netlist: &Netlist,
     waves: &Waves,

@@ -14,7 +14,7 @@ use mp_modules::Rendezvous;
 use mp_netlist::ModuleRecord;
 
 /// The input of a C whose event is missing, if that of the other one has come: the input that agrees, behind its bubble, with the output.
-pub fn missing_input(at: &WaitMoment<'_>, found: &ModuleRecord) -> Option<usize>
+pub(crate) fn missing_input(at: &WaitMoment<'_>, found: &ModuleRecord) -> Option<usize>
     requires form { IsModule at.now.netlist.now found.now }
     requires kind { found.now.kind ≡ kinds.C }
     ensures value { (m : ℕ) → module_at at.now.netlist.now m ≡ Some found.now → result ≡ missing_input at.now.netlist.now m found.now at.now.time }

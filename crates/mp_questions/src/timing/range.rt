@@ -12,7 +12,16 @@ pub struct TimeRange {
 
 impl TimeRange {
     ghost use Rattle.std.specs.Prelude.{◌≡◌, ◌<◌, ◌≤◌};
-    ghost use Rattle.mp_questions.specs.timing.Ranges.{read_time, read_end};
+    ghost use Rattle.mp_questions.specs.timing.Ranges.{is_in_range, read_time, read_end};
+
+    /// Whether a time is one of the range, as a netlist with this horizon reads it.
+    pub fn contains(self, horizon: u32, time: u32) -> bool
+        ensures { result ≡ is_in_range horizon self.from self.to time }
+    {
+        let last = u64::from(horizon.saturating_sub(1));
+        let time = u64::from(time);
+        self.from.min(last) <= time && time < self.to.min(u64::from(horizon))
+    }
 
     /// The range as a netlist with this horizon reads it.
     pub(crate) fn read(self, horizon: u32) -> Units

@@ -17,9 +17,9 @@ use Rattle.mp_request.specs.declared.explain.seat_code.SeatCode.{SeatCode}
 use Rattle.mp_request.specs.declared.explain.seat_code.SeatCode.TheVariants as seats
 use Rattle.mp_request.specs.explain.SeatCodes as seat_codes
 use Rattle.mp_request.specs.declared.explain.topic.Topic.{Topic}
-use Rattle.mp_request.specs.declared.explain.topic.Topic.TheVariants.{Text, Edit, Seat, Finding, Check, Kind as OfKind}
+use Rattle.mp_request.specs.declared.explain.topic.Topic.TheVariants.{Text, Edit, Seat, Finding, Check, Kind as OfKind, Steady}
 use Rattle.mp_request.specs.declared.explain.check_word.CheckWord.{CheckWord}
-use Rattle.mp_request.specs.declared.explain.check_word.CheckWord.TheVariants.{Late, Deadlock, Becomes, Undriven, Unread}
+use Rattle.mp_request.specs.declared.explain.check_word.CheckWord.TheVariants.{Late, Deadlock, Becomes, Undriven, Unread, Busy}
 use Rattle.mp_request.specs.explain.CheckWords as check_word
 
 abbrev pub edit_name : EditError → List ℕ
@@ -33,6 +33,7 @@ title (Seat code) = codes "seat " ++ (decimal (seat_codes.number_of code) ++ (co
 title (Finding code) = codes "finding " ++ (decimal (code_number code) ++ (codes " " ++ code_word code))
 title (Check word) = codes "check " ++ check_word.word_of word
 title (OfKind kind) = codes "kind " ++ word_of kind
+title Steady = codes "command steady"
 
 abbrev pub is_one_of : List ℕ → ℕ → List ℕ → Bool
 is_one_of word number name = str_eq_ignore_ascii_case word name || bytes_eq word (decimal number)
@@ -45,6 +46,7 @@ is_called word (Seat code) = is_one_of word (seat_codes.number_of code) (seat_co
 is_called word (Finding code) = is_one_of word (code_number code) (code_word code)
 is_called word (Check check) = str_eq_ignore_ascii_case word (check_word.word_of check)
 is_called word (OfKind kind) = str_eq_ignore_ascii_case word (word_of kind)
+is_called word Steady = str_eq_ignore_ascii_case word (codes "steady")
 
 -- the faults of a text by number; of those that hold another code, one
 abbrev pub text_faults : List TextCode
@@ -65,7 +67,7 @@ seat_refusals = seats.NotADesigner ∷ seats.NoWork ∷ seats.NotKept ∷ []
 
 -- what a check tells beside findings
 abbrev pub check_words : List CheckWord
-check_words = Late ∷ Deadlock ∷ Becomes ∷ Undriven ∷ Unread ∷ []
+check_words = Late ∷ Deadlock ∷ Becomes ∷ Undriven ∷ Unread ∷ Busy ∷ []
 
 abbrev pub all_kinds : List Kind
 all_kinds =
@@ -74,4 +76,4 @@ all_kinds =
 
 -- all that can be explained
 abbrev pub subjects : List Topic
-subjects = map Text text_faults ++ (map Edit refusals ++ (map Seat seat_refusals ++ (map Finding by_number ++ (map Check check_words ++ map OfKind all_kinds))))
+subjects = map Text text_faults ++ (map Edit refusals ++ (map Seat seat_refusals ++ (map Finding by_number ++ (map Check check_words ++ (map OfKind all_kinds ++ Steady ∷ [])))))

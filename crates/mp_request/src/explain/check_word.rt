@@ -2,7 +2,7 @@
 ghost use Rattle.std.specs.Prelude.{◌≡◌};
 ghost use Rattle.mp_request.specs.explain.CheckWords.{word_of};
 
-/// What a line of `check` reports that isn't a finding. The last three are notes on wires.
+/// What a line of `check` reports that isn't a finding. The last four are notes: three on wires, and one on bundles.
 #[derive(Clone, Copy, PartialEq, Eq)]
 pub enum CheckWord {
     /// Data of a bundle come after their request.
@@ -15,6 +15,8 @@ pub enum CheckWord {
     Undriven,
     /// Nothing reads a stimulus.
     Unread,
+    /// Nobody ended a bundle's transfer.
+    Busy,
 }
 
 impl CheckWord {
@@ -28,6 +30,7 @@ impl CheckWord {
             CheckWord::Becomes => "becomes",
             CheckWord::Undriven => "undriven",
             CheckWord::Unread => "unread",
+            CheckWord::Busy => "busy",
         }
     }
 }

@@ -37,7 +37,8 @@ pub(crate) const DEADLOCK: Entry = Entry {
     text: "
   meaning:
     modules wait for each other's wires in a cycle, and these wires keep
-      their levels for ever
+      their levels for ever, whatever stimuli set later; modules of all kinds
+      may be in it
   example, read by `mpwb check`:
     horizon 40
     wire p 1 0
@@ -47,10 +48,13 @@ pub(crate) const DEADLOCK: Entry = Entry {
   answer:
     0 deadlock x waits for q, y waits for p
   remedy:
-    Break the cycle, or start an event in it: with a NOT in place of a BUF, or
-    with the other INIT of a C and the same level at its wire. Or a bubble is
-    missing: the C of a stage that begins empty has one (BUBA or BUBB is 1) at
-    the input by which the next stage answers.
+    Look for a missing bubble first: a C waits for the answer of the next stage
+    before it has passed anything on. The C of a stage that begins empty has a
+    bubble (BUBA or BUBB is 1) at the input by which the next stage answers. Or
+    no event was ever started: put a NOT in place of a BUF, or use the other
+    INIT of a C and the same level at its wire. Or a ring is full: add a stage
+    that begins empty. Or a CALL or an ARBITER waits for a done that only comes
+    once the other client is served. If it is none of these, break the cycle.
 ",
 };
 
@@ -107,5 +111,32 @@ pub(crate) const UNREAD: Entry = Entry {
     note wire a has a stimulus, and nothing reads it
   remedy:
     Let a module read the wire, or remove it.
+",
+};
+
+pub(crate) const BUSY: Entry = Entry {
+    subject: Topic::Check(CheckWord::Busy),
+    text: "
+  meaning:
+    nothing changes any more, and nobody ended a transfer of a bundle: its
+      request and its acknowledge differ; the time is that of the last change of
+      the request, 0 if there is none
+  example, read by `mpwb check`:
+    horizon 20
+    wire r 1 0
+    wire k 1 0
+    wire d 4 0
+    wire ok 1 0
+    module recv C 0 0 0 : r ok > k/3
+    bundle t r k d 1
+    stim r 5=1
+    stim d 2=3
+    stim ok
+  answer:
+    note bundle t is busy since 5
+  remedy:
+    It is no fault if the environment just hasn't answered: set the stimulus
+    that answers. If the transfer should have ended, `mpwb waits TIME` shows
+    which module waits, and for which wire.
 ",
 };

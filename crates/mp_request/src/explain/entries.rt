@@ -1,10 +1,10 @@
 //! All explanations.
-ghost use Rattle.std.specs.Prelude.{◌≡◌, IfOk, map};
+ghost use Rattle.std.specs.Prelude.{◌≡◌, ◌∷◌, [], IfOk, map};
 ghost use Rattle.mp_modules.specs.Findings.{by_number};
 ghost use Rattle.mp_request.specs.explain.Subjects.{all_kinds, check_words, refusals, seat_refusals, subjects, text_faults};
-ghost use Rattle.mp_request.specs.declared.explain.topic.Topic.TheVariants.{Text, Edit, Seat, Finding, Check, Kind};
+ghost use Rattle.mp_request.specs.declared.explain.topic.Topic.TheVariants.{Text, Edit, Seat, Finding, Check, Kind, Steady};
 
-use crate::explain::checks::{BECOMES, DEADLOCK, LATE, UNDRIVEN, UNREAD};
+use crate::explain::checks::{BECOMES, BUSY, DEADLOCK, LATE, UNDRIVEN, UNREAD};
 use crate::explain::data_kinds::{ADDC, BIT, REG, SUM, XORC};
 use crate::explain::entry::Entry;
 use crate::explain::event_kinds::{ARBITER, BUF, C, CALL, NOT, SELECT, TOGGLE, XOR};
@@ -13,6 +13,7 @@ use crate::explain::findings::{
     DONE_WITHOUT_CALL, DONE_WITHOUT_GRANT, MERGE_COLLISION, PASS_WHILE_OPEN, REPEAT_REQUEST,
     REQUEST_WHILE_BUSY, SELECT_UNSTABLE, SETUP, WITHDRAWN,
 };
+use crate::explain::periods::STEADY;
 use crate::explain::refusals_of_names::{
     ALREADY_DRIVEN, BAD_NAME, HISTORY_FULL, NAME_TAKEN, NO_SUCH_BUNDLE, NO_SUCH_MODULE,
     NO_SUCH_WIRE, OUT_OF_MEMORY, STILL_USED, TABLE_FULL,
@@ -28,7 +29,8 @@ use crate::explain::text_faults::{
 };
 use std::alloc::{AllocError, Global};
 
-/// The explanations of each code of a text, of an edit, of a seat and of a finding, by number, of each word of `check`, and of each kind of module.
+/// The explanations of each code of a text, of an edit, of a seat and of a finding, by number, of each word of `check`, of each kind of module, and
+/// of what `steady` writes.
 /// `AllocError` comes if memory runs out.
 ///
 /// Each group is a function of its own, since a proof takes more steps the more text its function names.
@@ -41,6 +43,7 @@ pub fn guide(alloc: Global) -> Result<Vec<Entry>, AllocError>
     guide.extend_from_slice(findings())?;
     guide.extend_from_slice(checks())?;
     guide.extend_from_slice(kinds())?;
+    guide.extend_from_slice(periods())?;
     Ok(guide)
 }
 
@@ -124,7 +127,14 @@ fn findings() -> &'static [Entry]
 fn checks() -> &'static [Entry]
     ensures { map (λ entry. entry.subject) result.now ≡ map Check check_words }
 {
-    &[LATE, DEADLOCK, BECOMES, UNDRIVEN, UNREAD]
+    &[LATE, DEADLOCK, BECOMES, UNDRIVEN, UNREAD, BUSY]
+}
+
+/// What `steady` writes.
+fn periods() -> &'static [Entry]
+    ensures { map (λ entry. entry.subject) result.now ≡ Steady ∷ [] }
+{
+    &[STEADY]
 }
 
 /// The kinds of module.

@@ -11,7 +11,7 @@ use mp_records::EditError;
 use mp_streams::{Failed, Out, Sink, Text};
 use mp_text::TextCode;
 
-/// What can be explained: a code or a word of the program's answers, or a kind of module.
+/// What can be explained: a code or a word of the program's answers, a kind of module, or what `steady` writes.
 #[derive(Clone, Copy, PartialEq, Eq)]
 pub enum Topic {
     /// A fault of a netlist's text or of a line of a script.
@@ -26,6 +26,8 @@ pub enum Topic {
     Check(CheckWord),
     /// A kind of module.
     Kind(Kind),
+    /// What `steady` writes.
+    Steady,
 }
 
 impl Topic {
@@ -40,6 +42,7 @@ impl Topic {
             Topic::Finding(code) => is_one_of(word, code.number(), code.word()),
             Topic::Check(check) => word.eq_ignore_ascii_case(check.word()),
             Topic::Kind(kind) => word.eq_ignore_ascii_case(kind.word()),
+            Topic::Steady => word.eq_ignore_ascii_case("steady"),
         }
     }
 }
@@ -56,6 +59,7 @@ impl Text for Topic {
             Topic::Finding(code) => put_finding_title(out, *code),
             Topic::Check(check) => ("check ", check.word()).put_to(out),
             Topic::Kind(kind) => ("kind ", kind.word()).put_to(out),
+            Topic::Steady => out.put_text("command steady"),
         }
     }
 }

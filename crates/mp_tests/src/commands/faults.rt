@@ -4,7 +4,7 @@ use mp_netlist::EditError;
 use mp_text::{LineError, TextCode, TextError};
 use std::test::Fail;
 
-static FAULTS: [(RunFault, u8, &str); 8] = [
+static FAULTS: [(RunFault, u8, &str); 9] = [
     (
         RunFault::Text(TextError {
             line: 4,
@@ -27,6 +27,11 @@ static FAULTS: [(RunFault, u8, &str); 8] = [
     (RunFault::OutOfMemory, 4, "mpwb: out of memory"),
     (RunFault::NoPlace, 4, "mpwb: no place"),
     (RunFault::NoSuchWire(1), 1, "mpwb: no such wire: b c"),
+    (
+        RunFault::NoSuchPlace(0),
+        1,
+        "mpwb: no such module or bundle: a",
+    ),
 ];
 
 #[test]

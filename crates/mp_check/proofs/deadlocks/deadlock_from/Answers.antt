@@ -1,5 +1,5 @@
 use Rattle.std.proofs.Common.{◌≡◌, ◌+◌, ◌-◌, ◌<◌, ◌++◌, ◌∷◌, [], ℕ, List, Option, suc, ap, ◌∙◌, arith}
-use Rattle.mp_check.specs.Waiting.{port_slots}
+use Rattle.mp_check.specs.Dead.{port_slots}
 use Rattle.mp_check.specs.Deadlocks.{deadlock_from, waits_to}
 use Rattle.mp_check.specs.declared.wait.Wait.{Wait}
 use Rattle.mp_check.proofs.DeadlockLemmas.{waits_last, waits_more}
@@ -7,7 +7,7 @@ use Rattle.mp_check.proofs.deadlocks.deadlock_from.Goals as goal
 
 pub returns-then-wait-first : goal.returns-then-wait-first
 returns-then-wait-first c =
-    let n = c.args.end.now.at.netlist.now in
+    let n = c.args.ports.now.end.at.netlist.now in
     let first = c.args.first in
     let count : ℕ = port_slots n - c.loop.counter in
     let some : 0 < count = omega (arith, c.loop-test.true, c.port_slots-end.ensures) in
@@ -15,7 +15,7 @@ returns-then-wait-first c =
 
 pub loop-preserved : goal.loop-preserved
 loop-preserved c =
-    let n = c.args.end.now.at.netlist.now in
+    let n = c.args.ports.now.end.at.netlist.now in
     let first = c.args.first in
     let xs = c.loop.waits.items in
     let w = c.in-Some.wait in

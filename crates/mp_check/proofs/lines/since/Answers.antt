@@ -1,7 +1,7 @@
 use Rattle.std.proofs.Common.{ap, sym, ◌∙◌}
 use Rattle.mp_model.specs.Waves.{level}
 use Rattle.mp_questions.specs.timing.Events.{since}
-use Rattle.mp_check.specs.Waiting.{last_unit}
+use Rattle.mp_check.specs.Dead.{last_unit}
 use Rattle.mp_check.proofs.LineLemmas.{unset_since}
 use Rattle.mp_check.proofs.lines.since.Goals as goal
 

@@ -1,7 +1,7 @@
 -- The input of a source, by what was taken of it.
-use Rattle.mp_commands.proofs.lemmas.command_runs.Names.{◌≡◌, ◌<◌, ◌≤◌, ◌+◌, ℕ, IfSome, Bool, List, length, Option, Some, None, Err, refl, sym, subst, arith, take_all, length-take, lt-leb, le-leb, Circuit, lines_of, opening_of, within_size, too_long, fault_of_take, IsInput, HasInput, StaysUnread, RunFault, ReadFailed, OutOfMemory, text_limit, taken_of, Result, ◌-◌, ◌++◌, inl, inr, min, take, cases_lt, ap, ◌∙◌, length-append, max_short_text, limit_least, limit_of_front, TakesInput}
+use Rattle.mp_commands.proofs.lemmas.command_runs.Names.{◌≡◌, ◌<◌, ◌≤◌, ◌+◌, ℕ, IfSome, Bool, false, List, length, Option, Some, None, Err, refl, sym, subst, arith, take_all, length-take, lt-leb, le-leb, Circuit, lines_of, opening_of, with_places, within_size, too_long, fault_of_take, IsInput, HasInput, StaysUnread, Refuses, RunFault, ReadFailed, OutOfMemory, text_limit, taken_of, Result, ◌-◌, ◌++◌, inl, inr, min, take, cases_lt, ap, ◌∙◌, length-append, max_short_text, limit_least, limit_of_front, TakesInput}
 use Rattle.mp_streams.specs.declared.take_error.TakeError.{TakeError}
-use Rattle.mp_commands.specs.command_runs.OpenedInputs.{StaysShutWith}
+use Rattle.mp_commands.specs.command_runs.OpenedInputs.{StaysShutBy, StaysShutWith, opening_at, opening_with}
 use Rattle.std.specs.Io.KnownBytes.{Consumes, IsAtEnd}
 use Rattle.std.proofs.KnownBytes.{Consumes-trans}
 use Rattle.std.proofs.Math.Seq.{take-append_seam}
@@ -94,3 +94,16 @@ shut_unread left valid OutOfMemory unread = some_input (λ input. Unit {0}) left
 shut_unread left valid fault unread =
     let long = unread.1 in
     subst (StaysShutWith left valid) (sym unread.0) (long.0, long.1, within_size-long (λ input. opening_of (lines_of input) valid) long.0 long.2)
+
+-- ---- names of modules and bundles
+
+-- a fault of the text or of a number is told before a name
+placed_fault : (names : List (List ℕ)) (fault : RunFault) → with_places names (Err fault) ≡ Err fault
+placed_fault names fault = refl
+
+placed_refused : (names : List (List ℕ)) (read : Result Circuit RunFault) (fault : RunFault) → Refuses false read fault → Refuses false (with_places names read) fault
+placed_refused names read fault is = grind (arith, placed_fault)
+
+pub shut_at : (names : List (List ℕ)) (left : Option (List ℕ)) (valid : Bool) (fault : RunFault) → StaysShutWith left valid fault → StaysShutBy left (opening_at names valid) fault
+shut_at names left valid ReadFailed shut = tt
+shut_at names left valid fault shut = (shut.0, shut.1, placed_refused names (opening_with valid shut.0) fault shut.2)

@@ -15,7 +15,7 @@ use Rattle.mp_netlist.specs.Circuit.{Circuit}
 use Rattle.mp_questions.specs.declared.causes.module_share.ModuleShare.{ModuleShare}
 use Rattle.mp_questions.specs.declared.causes.wire_change.WireChange.{WireChange}
 use Rattle.mp_questions.specs.causes.Noting.{AreByNumber}
-use Rattle.mp_questions.specs.causes.Shares.{share, has_steps, placed, by_units}
+use Rattle.mp_questions.specs.causes.Shares.{share, share_above, has_steps, placed, by_units}
 
 -- a share comes before another, or has its place
 abbrev pub Precedes : ModuleShare → ModuleShare → Type 0
@@ -174,6 +174,10 @@ kept_by_number a (s ∷ others) are = by (has_steps s) (kept_by_number (s.id.0 +
 pub shares_by_number : (n : Circuit) (changes : List WireChange) (a k : ℕ) → AreByNumber a (map (share n changes) (range_with_len a k))
 shares_by_number n changes a zero = tt
 shares_by_number n changes a (suc k) = (omega arith, shares_by_number n changes (a + 1) k)
+
+pub above_by_number : (n : Circuit) (from : ℕ) (changes : List WireChange) (a k : ℕ) → AreByNumber a (map (share_above n from changes) (range_with_len a k))
+above_by_number n from changes a zero = tt
+above_by_number n from changes a (suc k) = (omega arith, above_by_number n from changes (a + 1) k)
 
 -- the share of this number
 abbrev at_number : List ModuleShare → ℕ → ModuleShare

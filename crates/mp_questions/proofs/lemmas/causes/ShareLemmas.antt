@@ -1,5 +1,5 @@
 -- The shares of a chain, step by step, and what they add up to.
-use Rattle.std.proofs.Common.{◌≡◌, ℕ, ◌+◌, ◌-◌, ◌<◌, ◌≤◌, ◌^◌, ◌==◌, Bool, true, false, not, cond, List, [], ◌∷◌, length, get_or, map, filter, nat_lt, Option, Some, None, zero, suc, refl, ap, sym, subst, ◌∙◌, arith, inl, inr, zero-add}
+use Rattle.std.proofs.Common.{◌≡◌, ℕ, ◌+◌, ◌*◌, ◌-◌, ◌<◌, ◌≤◌, ◌^◌, ◌==◌, Bool, true, false, not, cond, List, [], ◌∷◌, length, drop, get_or, add-one, drop-cons, map, filter, nat_lt, Option, Some, None, zero, suc, refl, ap, sym, subst, ◌∙◌, arith, inl, inr, zero-add}
 use Rattle.std.specs.List.{sum_by, range_with_len}
 use Rattle.std.proofs.lemmas.Bool.{cases_eq, eq-eqb, ne_eqb, ltb-false}
 use Rattle.std.proofs.lemmas.List.{same_lists}
@@ -11,16 +11,14 @@ use Rattle.mp_netlist.specs.Circuit.{Circuit, IsCircuit}
 use Rattle.mp_model.proofs.SlotLemmas.{slot_within}
 use Rattle.mp_questions.specs.declared.causes.wire_change.WireChange.{WireChange}
 use Rattle.mp_questions.specs.declared.causes.module_share.ModuleShare.{ModuleShare}
-use Rattle.mp_questions.specs.declared.causes.moment.Moment.{Moment}
-use Rattle.mp_questions.specs.causes.Changes.{last_change}
 use Rattle.mp_questions.specs.timing.Ranges.{read_time}
 use Rattle.mp_questions.specs.causes.Causes.{DrivingPort, Cause, Outside, Start, Events, driving_port, events_at, cause_by, cause_of, followed, port_of}
-use Rattle.mp_questions.specs.causes.Chains.{chain_from, chain}
+use Rattle.mp_questions.specs.causes.Chains.{chain_from, chain, begin_by, begin_of}
 use Rattle.mp_questions.specs.causes.Shares.{time_of, units_of, is_port_of, is_step_in, steps_in, share, shares, has_steps, by_units}
-use Rattle.mp_questions.specs.causes.Noting.{HasRoom, noted, with_step}
+use Rattle.mp_questions.specs.causes.Noting.{HasRoom, noted}
 use Rattle.mp_questions.specs.causes.Paths.{path}
-use Rattle.mp_questions.specs.causes.Laws.{begin_by, begin_of, AddsUp}
-use Rattle.mp_questions.proofs.lemmas.causes.ChainLemmas.{HasTime, followed_time, rest, rest_step, last_change_is, chain_is, IsPortOf, port_is}
+use Rattle.mp_questions.specs.causes.Laws.{AddsUp}
+use Rattle.mp_questions.proofs.lemmas.causes.ChainLemmas.{HasTime, followed_time, last_change_is, chain_is, IsPortOf, port_is}
 use Rattle.mp_questions.proofs.lemmas.causes.OrderLemmas.{sum_by_units}
 
 -- ---- how long and how many steps there are
@@ -70,40 +68,6 @@ noted_more n all left c m s of = by (is_step_in n m c) refl
     by false is =
         let none : steps_in n m (c ∷ left) ≡ steps_in n m left = rw is refl in
         record { id = of.id; units = ap (λ cs. s.units + sum_by (units_of n) cs) (sym none) ∙ of.units; steps = ap (λ cs. s.steps + length cs) (sym none) ∙ of.steps }
-
--- the numbers of a share are no greater than the time of its chain
-pub share_room : (n : Circuit) → IsCircuit n → (last : WireChange) (left : List WireChange) (c : WireChange) (m : ℕ) (s : ModuleShare) → 0 < last.time → last.time < 2 ^ 31 → is_step_in n m c ≡ true
-    → IsShareOf n (rest n (Some last)) (c ∷ left) m s → HasRoom (units_of n c) s
-share_room n ok last left c m s from low is of =
-    let all = rest n (Some last) in
-    let more = noted_more n all left c m s of in
-    let kept : noted (is_step_in n m c) (units_of n c) s ≡ with_step (units_of n c) s = ap (λ b. noted b (units_of n c) s) is in
-    let now : IsShareOf n all left m (with_step (units_of n c) s) = subst (IsShareOf n all left m) kept more in
-    let a = units_in n m all in
-    let b = units_bound n ok last.time (Some last) from in
-    let d = steps_few n m all in
-    let e = steps_bound n ok last.time (Some last) from in
-    record { units = omega (arith, now.units, a, b, low); steps = omega (arith, now.steps, d, e, low) }
-
--- what is left before a step, and the step's units
-module _ (n : Circuit) (ok : IsCircuit n) (change : WireChange) (now next : Option WireChange) (o : Option DrivingPort) (t : ℕ) (is : now ≡ Some change) (from : 0 < change.time)
-    (goes : followed (cause_of n change) ≡ next) (port : o ≡ port_of (cause_of n change)) (time : t ≡ time_of next) where
-  left_is : rest n now ≡ change ∷ rest n next
-  left_is = ap (rest n) is ∙ rest_step n ok change from ∙ ap (λ f. change ∷ rest n f) goes
-
-  units_are : units_of n change ≡ change.time - t
-  units_are = ap (λ f. change.time - time_of f) goes ∙ ap (λ u. change.time - u) (sym time)
-
-  pub step_noted : (all : List WireChange) (m : ℕ) (s : ModuleShare) → IsShareOf n all (rest n now) m s → IsShareOf n all (rest n next) m (noted (is_port_of m o) (change.time - t) s)
-  step_noted all m s of =
-      subst (IsShareOf n all (rest n next) m)
-      (ap (λ b. noted b (units_of n change) s) (ap (is_port_of m) (sym port)) ∙ ap (λ u. noted (is_port_of m o) u s) units_are)
-      (noted_more n all (rest n next) change m s (subst (λ l. IsShareOf n all l m s) left_is of))
-
-  pub step_room : (last : WireChange) (m : ℕ) (s : ModuleShare) → 0 < last.time → last.time < 2 ^ 31 → is_port_of m o ≡ true → IsShareOf n (rest n (Some last)) (rest n now) m s → HasRoom (change.time - t) s
-  step_room last m s some low here of =
-      subst (λ u. HasRoom u s) units_are
-      (share_room n ok last (rest n next) change m s some low (ap (is_port_of m) (sym port) ∙ here) (subst (λ l. IsShareOf n (rest n (Some last)) l m s) left_is of))
 
 -- when all is noted, these are the shares
 pub shares_are : (n : Circuit) (all : List WireChange) (list : List ModuleShare) → length list ≡ length n.modules
@@ -160,25 +124,26 @@ sum_once g u a (suc k) low high = elim (cases_eq g a) as (λ _. sum_by (once g u
 ]
 
 -- the units of a change that comes from a module
-abbrev in_port : ℕ → Option DrivingPort → ℕ
+abbrev pub in_port : ℕ → Option DrivingPort → ℕ
 in_port u None = 0
 in_port u (Some g) = u
 
-abbrev ported : Circuit → WireChange → ℕ
-ported n c = in_port (units_of n c) (port_of (cause_of n c))
+-- the same, where units are told of each change
+abbrev pub ported : (WireChange → ℕ) → Circuit → WireChange → ℕ
+ported u n c = in_port (u c) (port_of (cause_of n c))
 
-abbrev units_at : Circuit → List WireChange → ℕ → ℕ
-units_at n changes m = sum_by (units_of n) (steps_in n m changes)
+abbrev pub units_at : (WireChange → ℕ) → Circuit → List WireChange → ℕ → ℕ
+units_at u n changes m = sum_by u (steps_in n m changes)
 
 -- with a change more each module has as much, and that of the change its units more
-one_module : (n : Circuit) (c : WireChange) (changes : List WireChange) (m : ℕ) → units_at n (c ∷ changes) m ≡ cond (is_step_in n m c) (units_of n c) 0 + units_at n changes m
-one_module n c changes m = by (is_step_in n m c)
+one_module : (u : WireChange → ℕ) (n : Circuit) (c : WireChange) (changes : List WireChange) (m : ℕ) → units_at u n (c ∷ changes) m ≡ cond (is_step_in n m c) (u c) 0 + units_at u n changes m
+one_module u n c changes m = by (is_step_in n m c)
   where
-    by : (b : Bool) → sum_by (units_of n) (cond b (c ∷ steps_in n m changes) (steps_in n m changes)) ≡ cond b (units_of n c) 0 + units_at n changes m
-    by true = sum_by-cons (units_of n) c (steps_in n m changes)
+    by : (b : Bool) → sum_by u (cond b (c ∷ steps_in n m changes) (steps_in n m changes)) ≡ cond b (u c) 0 + units_at u n changes m
+    by true = sum_by-cons u c (steps_in n m changes)
     by false = omega arith
 
-sum_same : (f g : ℕ → ℕ) (a k : ℕ) → ((m : ℕ) → f m ≡ g m) → sum_by f (range_with_len a k) ≡ sum_by g (range_with_len a k)
+pub sum_same : (f g : ℕ → ℕ) (a k : ℕ) → ((m : ℕ) → f m ≡ g m) → sum_by f (range_with_len a k) ≡ sum_by g (range_with_len a k)
 sum_same f g a zero same = refl
 sum_same f g a (suc k) same = omega (arith, sum_by-cons f a (range_with_len (a + 1) k), sum_by-cons g a (range_with_len (a + 1) k), same a, sum_same f g (a + 1) k same)
 
@@ -191,31 +156,31 @@ sum_none : (f : ℕ → ℕ) (a k : ℕ) → ((m : ℕ) → f m ≡ 0) → sum_b
 sum_none f a zero none = refl
 sum_none f a (suc k) none = omega (arith, sum_by-cons f a (range_with_len (a + 1) k), none a, sum_none f (a + 1) k none)
 
-change_once : (n : Circuit) (c : WireChange) → sum_by (λ m. cond (is_step_in n m c) (units_of n c) 0) (range_with_len 0 (length n.modules)) ≡ ported n c
-change_once n c = by (port_of (cause_of n c)) refl
+change_once : (u : WireChange → ℕ) (n : Circuit) (c : WireChange) → sum_by (λ m. cond (is_step_in n m c) (u c) 0) (range_with_len 0 (length n.modules)) ≡ ported u n c
+change_once u n c = by (port_of (cause_of n c)) refl
   where
-    by : (o : Option DrivingPort) → port_of (cause_of n c) ≡ o → sum_by (λ m. cond (is_port_of m o) (units_of n c) 0) (range_with_len 0 (length n.modules)) ≡ in_port (units_of n c) o
+    by : (o : Option DrivingPort) → port_of (cause_of n c) ≡ o → sum_by (λ m. cond (is_port_of m o) (u c) 0) (range_with_len 0 (length n.modules)) ≡ in_port (u c) o
     by None at = sum_none (λ m. 0) 0 (length n.modules) (λ m. refl)
-    by (Some g) at = sum_once g.id.0 (units_of n c) 0 (length n.modules) (omega arith) (omega (arith, module_within n c g at))
+    by (Some g) at = sum_once g.id.0 (u c) 0 (length n.modules) (omega arith) (omega (arith, module_within n c g at))
 
 -- all modules together have the units of all changes that come from a module
-all_modules : (n : Circuit) (changes : List WireChange) → sum_by (units_at n changes) (range_with_len 0 (length n.modules)) ≡ sum_by (ported n) changes
-all_modules n [] = sum_none (units_at n []) 0 (length n.modules) (λ m. refl)
-all_modules n (c ∷ changes) =
-    let one = λ (m : ℕ). cond (is_step_in n m c) (units_of n c) 0 in
-    sum_same (units_at n (c ∷ changes)) (λ m. one m + units_at n changes m) 0 (length n.modules) (one_module n c changes)
-    ∙ sum_both one (units_at n changes) 0 (length n.modules)
-    ∙ ap (λ k. k + sum_by (units_at n changes) (range_with_len 0 (length n.modules))) (change_once n c)
-    ∙ ap (λ k. ported n c + k) (all_modules n changes)
-    ∙ sym (sum_by-cons (ported n) c changes)
+pub all_modules : (u : WireChange → ℕ) (n : Circuit) (changes : List WireChange) → sum_by (units_at u n changes) (range_with_len 0 (length n.modules)) ≡ sum_by (ported u n) changes
+all_modules u n [] = sum_none (units_at u n []) 0 (length n.modules) (λ m. refl)
+all_modules u n (c ∷ changes) =
+    let one = λ (m : ℕ). cond (is_step_in n m c) (u c) 0 in
+    sum_same (units_at u n (c ∷ changes)) (λ m. one m + units_at u n changes m) 0 (length n.modules) (one_module u n c changes)
+    ∙ sum_both one (units_at u n changes) 0 (length n.modules)
+    ∙ ap (λ k. k + sum_by (units_at u n changes) (range_with_len 0 (length n.modules))) (change_once u n c)
+    ∙ ap (λ k. ported u n c + k) (all_modules u n changes)
+    ∙ sym (sum_by-cons (ported u n) c changes)
 
-shares_sum : (n : Circuit) (changes : List WireChange) (a k : ℕ) → sum_by (λ (s : ModuleShare). s.units) (map (share n changes) (range_with_len a k)) ≡ sum_by (units_at n changes) (range_with_len a k)
+shares_sum : (n : Circuit) (changes : List WireChange) (a k : ℕ) → sum_by (λ (s : ModuleShare). s.units) (map (share n changes) (range_with_len a k)) ≡ sum_by (units_at (units_of n) n changes) (range_with_len a k)
 shares_sum n changes a zero = refl
 shares_sum n changes a (suc k) =
     omega (
       arith,
       sum_by-cons (λ (s : ModuleShare). s.units) (share n changes a) (map (share n changes) (range_with_len (a + 1) k)),
-      sum_by-cons (units_at n changes) a (range_with_len (a + 1) k),
+      sum_by-cons (units_at (units_of n) n changes) a (range_with_len (a + 1) k),
       shares_sum n changes (a + 1) k,
     )
 
@@ -253,21 +218,21 @@ from_module n c d Outside is goes less = cc
 from_module n c d (Start g) is goes less = cc
 from_module n c d (Events g es) is goes less = let e : time_of (followed (cause_of n c)) ≡ d.time = ap (λ f. time_of (followed f)) is ∙ ap time_of goes in omega (arith, e, less)
 
-chain_sum : (n : Circuit) → IsCircuit n → (k : ℕ) (c : WireChange) → 0 < c.time → c.time ≤ k → begin_of n (chain_from n k (Some c)) + sum_by (ported n) (chain_from n k (Some c)) ≡ c.time
+chain_sum : (n : Circuit) → IsCircuit n → (k : ℕ) (c : WireChange) → 0 < c.time → c.time ≤ k → begin_of n (chain_from n k (Some c)) + sum_by (ported (units_of n) n) (chain_from n k (Some c)) ≡ c.time
 chain_sum n ok zero c some le = absurd (omega (arith, some, le))
 chain_sum n ok (suc k) c some le = by (followed (cause_of n c)) refl (λ d has less. chain_sum n ok k d has less)
   where
-    last : (j : ℕ) → followed (cause_of n c) ≡ None → begin_of n (c ∷ chain_from n j None) + sum_by (ported n) (c ∷ chain_from n j None) ≡ c.time
-    last zero none = omega (arith, sum_by-cons (ported n) c [], alone n c (cause_of n c) refl none)
-    last (suc j) none = omega (arith, sum_by-cons (ported n) c [], alone n c (cause_of n c) refl none)
+    last : (j : ℕ) → followed (cause_of n c) ≡ None → begin_of n (c ∷ chain_from n j None) + sum_by (ported (units_of n) n) (c ∷ chain_from n j None) ≡ c.time
+    last zero none = omega (arith, sum_by-cons (ported (units_of n) n) c [], alone n c (cause_of n c) refl none)
+    last (suc j) none = omega (arith, sum_by-cons (ported (units_of n) n) c [], alone n c (cause_of n c) refl none)
 
-    more : (j : ℕ) (d : WireChange) → followed (cause_of n c) ≡ Some d → 0 < d.time → d.time < c.time → d.time ≤ j → begin_of n (chain_from n j (Some d)) + sum_by (ported n) (chain_from n j (Some d)) ≡ d.time
-        → begin_of n (c ∷ chain_from n j (Some d)) + sum_by (ported n) (c ∷ chain_from n j (Some d)) ≡ c.time
+    more : (j : ℕ) (d : WireChange) → followed (cause_of n c) ≡ Some d → 0 < d.time → d.time < c.time → d.time ≤ j → begin_of n (chain_from n j (Some d)) + sum_by (ported (units_of n) n) (chain_from n j (Some d)) ≡ d.time
+        → begin_of n (c ∷ chain_from n j (Some d)) + sum_by (ported (units_of n) n) (c ∷ chain_from n j (Some d)) ≡ c.time
     more zero d goes has less within later = absurd (omega (arith, has, within))
-    more (suc j) d goes has less within later = omega (arith, sum_by-cons (ported n) c (chain_from n (suc j) (Some d)), from_module n c d (cause_of n c) refl goes less, later)
+    more (suc j) d goes has less within later = omega (arith, sum_by-cons (ported (units_of n) n) c (chain_from n (suc j) (Some d)), from_module n c d (cause_of n c) refl goes less, later)
 
-    by : (next : Option WireChange) → followed (cause_of n c) ≡ next → ((d : WireChange) → 0 < d.time → d.time ≤ k → begin_of n (chain_from n k (Some d)) + sum_by (ported n) (chain_from n k (Some d)) ≡ d.time)
-        → begin_of n (c ∷ chain_from n k next) + sum_by (ported n) (c ∷ chain_from n k next) ≡ c.time
+    by : (next : Option WireChange) → followed (cause_of n c) ≡ next → ((d : WireChange) → 0 < d.time → d.time ≤ k → begin_of n (chain_from n k (Some d)) + sum_by (ported (units_of n) n) (chain_from n k (Some d)) ≡ d.time)
+        → begin_of n (c ∷ chain_from n k next) + sum_by (ported (units_of n) n) (c ∷ chain_from n k next) ≡ c.time
     by None at later = last k at
     by (Some d) at later =
         let f = followed_time n ok c some (Some d) at in
@@ -279,24 +244,46 @@ adds_up n ok moment c is =
     let t = read_time n.horizon moment.time in
     let changes = chain n moment.wire t in
     let last = last_change_is n moment.wire t c is in
-    let sum : sum_by (λ (s : ModuleShare). s.units) (by_units (filter has_steps (shares n changes))) ≡ sum_by (ported n) changes
-    = sum_by_units (λ (s : ModuleShare). s.units) (filter has_steps (shares n changes)) ∙ kept_sum n changes 0 (length n.modules) ∙ shares_sum n changes 0 (length n.modules) ∙ all_modules n changes in
-    let total : begin_of n changes + sum_by (ported n) changes ≡ c.time
-    = subst (λ cs. begin_of n cs + sum_by (ported n) cs ≡ c.time) (sym (chain_is n ok moment.wire t (Some c) is)) (chain_sum n ok c.time c last.from (omega arith)) in
+    let sum : sum_by (λ (s : ModuleShare). s.units) (by_units (filter has_steps (shares n changes))) ≡ sum_by (ported (units_of n) n) changes
+    = sum_by_units (λ (s : ModuleShare). s.units) (filter has_steps (shares n changes)) ∙ kept_sum n changes 0 (length n.modules) ∙ shares_sum n changes 0 (length n.modules) ∙ all_modules (units_of n) n changes in
+    let total : begin_of n changes + sum_by (ported (units_of n) n) changes ≡ c.time
+    = subst (λ cs. begin_of n cs + sum_by (ported (units_of n) n) cs ≡ c.time) (sym (chain_is n ok moment.wire t (Some c) is)) (chain_sum n ok c.time c last.from (omega arith)) in
     ap (λ k. begin_of n changes + k) sum ∙ total
 
--- ---- the path of a chain
+-- ---- changes that are noted one by one
 
-none_kept : (n : Circuit) (a k : ℕ) → filter has_steps (map (share n []) (range_with_len a k)) ≡ []
-none_kept n a zero = refl
-none_kept n a (suc k) = none_kept n (a + 1) k
+-- the units of some changes are few where these are
+units_few : (n : Circuit) (changes : List WireChange) → ((k : ℕ) (d : WireChange) → k < length changes → (get_or changes k d).time < 2 ^ 31) → sum_by (units_of n) changes ≤ length changes * 2 ^ 31
+units_few n [] early = omega arith
+units_few n (c ∷ changes) early =
+    omega (arith, sum_by-cons (units_of n) c changes, units_few n changes (λ k d low. early (suc k) d (omega (arith, low))), early 0 c (omega arith))
 
-pub no_path : (n : Circuit) → IsCircuit n → (moment : Moment) → None ≡ last_change n moment.wire (read_time n.horizon moment.time) → path n moment ≡ []
-unfolding path
-no_path n ok moment none =
-    ap (λ cs. by_units (filter has_steps (shares n cs))) (chain_is n ok moment.wire (read_time n.horizon moment.time) None (sym none)) ∙ ap by_units (none_kept n 0 (length n.modules))
+-- so what is noted of a module has room for another step
+pub noted_room : (n : Circuit) (all left : List WireChange) (m : ℕ) (s : ModuleShare) → length all < 2 ^ 32 → ((k : ℕ) (d : WireChange) → k < length all → (get_or all k d).time < 2 ^ 31) → IsShareOf n all left m s
+    → HasRoom (2 ^ 32) s
+noted_room n all left m s few early of =
+    record {
+      units = omega (arith, of.units, units_in n m all, units_few n all early, few);
+      steps = omega (arith, of.steps, steps_few n m all, few);
+    }
 
-pub path_is : (n : Circuit) → IsCircuit n → (moment : Moment) (c : WireChange) → Some c ≡ last_change n moment.wire (read_time n.horizon moment.time)
-    → path n moment ≡ by_units (filter has_steps (shares n (chain_from n c.time (Some c))))
-unfolding path
-path_is n ok moment c some = ap (λ cs. by_units (filter has_steps (shares n cs))) (chain_is n ok moment.wire (read_time n.horizon moment.time) (Some c) (sym some))
+pub room_enough : (u : ℕ) (s : ModuleShare) → u < 2 ^ 32 → HasRoom (2 ^ 32) s → HasRoom u s
+room_enough u s low room = record { units = omega (arith, room.units, low); steps = room.steps }
+
+-- one of them more
+pub noted_next : (n : Circuit) (all : List WireChange) (i m : ℕ) (c : WireChange) (s : ModuleShare) → i < length all → IsShareOf n all (drop i all) m s
+    → IsShareOf n all (drop (i + 1) all) m (noted (is_step_in n m (get_or all i c)) (units_of n (get_or all i c)) s)
+noted_next n all i m c s low of =
+    let first : drop i all ≡ get_or all i c ∷ drop (i + 1) all = rw (add-one, drop-cons all i c) refl in
+    noted_more n all (drop (i + 1) all) (get_or all i c) m s (subst (λ l. IsShareOf n all l m s) first of)
+
+dropped : (all : List WireChange) (i : ℕ) → length all ≤ i → drop i all ≡ []
+dropped [] zero past = refl
+dropped [] (suc i) past = refl
+dropped (c ∷ cs) zero past = absurd (omega (arith, past))
+dropped (c ∷ cs) (suc i) past = dropped cs i (omega (arith, past))
+
+-- when all are noted, these are their shares
+pub all_noted : (n : Circuit) (all : List WireChange) (i : ℕ) (list : List ModuleShare) → length all ≤ i → length list ≡ length n.modules
+    → ((m : ℕ) (d : ModuleShare) → m < length n.modules → IsShareOf n all (drop i all) m (get_or list m d)) → list ≡ shares n all
+all_noted n all i list past long each = shares_are n all list long (λ m d low. subst (λ l. IsShareOf n all l m (get_or list m d)) (dropped all i past) (each m d low))

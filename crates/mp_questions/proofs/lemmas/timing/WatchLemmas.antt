@@ -36,6 +36,7 @@ since_stays f t same = ap (λ (o : Option ℕ). unwrap_or o 0) (sym (last_quiet 
 pub record HaveMoved (t : ℕ) (before now : Memory) (old new : Marks) : Type 0 where
   pub first_output : new.first_output ≡ marked old.first_output t (output_of before 0) (output_of now 0)
   pub second_output : new.second_output ≡ marked old.second_output t (output_of before 1) (output_of now 1)
+  pub third_output : new.third_output ≡ marked old.third_output t (output_of before 2) (output_of now 2)
   pub first_waiting : new.first_waiting ≡ marked old.first_waiting t (bit before.waiting.first) (bit now.waiting.first)
   pub second_waiting : new.second_waiting ≡ marked old.second_waiting t (bit before.waiting.second) (bit now.waiting.second)
 
@@ -55,7 +56,7 @@ module _ (n : Circuit) (ok : IsCircuit n) (m : ℕ) (r : ModuleRecord) (at : mod
       ap (λ (s : Memory). step part s (x (suc t))) last ∙ stepped_stays part (state n m t) (x (suc t)) ∙ sym last
 
   -- where the inputs stay, the state stays
-  state_stays : (t : ℕ) → input_levels (x (t + 1)) ≡ input_levels (x t) → state n m (t + 1) ≡ state n m t
+  pub state_stays : (t : ℕ) → input_levels (x (t + 1)) ≡ input_levels (x t) → state n m (t + 1) ≡ state n m t
   state_stays t same =
       (satisfies n ok).stepped m t r at ∙ sym (step_padded part (state n m t) (x (t + 1))) ∙ ap (step part (state n m t)) same ∙ step_padded part (state n m t) (x t) ∙ again t
 
@@ -67,6 +68,7 @@ module _ (n : Circuit) (ok : IsCircuit n) (m : ℕ) (r : ModuleRecord) (at : mod
     marks = record {
       first_output = ap (λ (k : Marks). k.first_output) none;
       second_output = ap (λ (k : Marks). k.second_output) none;
+      third_output = ap (λ (k : Marks). k.third_output) none;
       first_waiting = ap (λ (k : Marks). k.first_waiting) none;
       second_waiting = ap (λ (k : Marks). k.second_waiting) none;
     };
@@ -87,6 +89,7 @@ module _ (n : Circuit) (ok : IsCircuit n) (m : ℕ) (r : ModuleRecord) (at : mod
         marks = record {
           first_output = mark_is (λ (s : Memory). output_of s 0) (given n m 0) t w.marks.first_output new.marks.first_output w.memory new.memory was now (λ u. refl) is.marks.first_output moved.first_output;
           second_output = mark_is (λ (s : Memory). output_of s 1) (given n m 1) t w.marks.second_output new.marks.second_output w.memory new.memory was now (λ u. refl) is.marks.second_output moved.second_output;
+          third_output = mark_is (λ (s : Memory). output_of s 2) (given n m 2) t w.marks.third_output new.marks.third_output w.memory new.memory was now (λ u. refl) is.marks.third_output moved.third_output;
           first_waiting = mark_is (λ (s : Memory). bit s.waiting.first) (waiting n m First) t w.marks.first_waiting new.marks.first_waiting w.memory new.memory was now (λ u. refl) is.marks.first_waiting moved.first_waiting;
           second_waiting = mark_is (λ (s : Memory). bit s.waiting.second) (waiting n m Second) t w.marks.second_waiting new.marks.second_waiting w.memory new.memory was now (λ u. refl) is.marks.second_waiting moved.second_waiting;
         };
@@ -107,6 +110,7 @@ module _ (n : Circuit) (ok : IsCircuit n) (m : ℕ) (r : ModuleRecord) (at : mod
         marks = record {
           first_output = look_stays (λ (s : Memory). output_of s 0) (given n m 0) t w.marks.first_output same (λ u. refl) is.marks.first_output;
           second_output = look_stays (λ (s : Memory). output_of s 1) (given n m 1) t w.marks.second_output same (λ u. refl) is.marks.second_output;
+          third_output = look_stays (λ (s : Memory). output_of s 2) (given n m 2) t w.marks.third_output same (λ u. refl) is.marks.third_output;
           first_waiting = look_stays (λ (s : Memory). bit s.waiting.first) (waiting n m First) t w.marks.first_waiting same (λ u. refl) is.marks.first_waiting;
           second_waiting = look_stays (λ (s : Memory). bit s.waiting.second) (waiting n m Second) t w.marks.second_waiting same (λ u. refl) is.marks.second_waiting;
         };

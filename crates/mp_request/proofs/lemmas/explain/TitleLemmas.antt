@@ -14,11 +14,11 @@ use Rattle.mp_request.specs.declared.explain.check_word.CheckWord.{CheckWord}
 use Rattle.mp_request.specs.declared.explain.check_word.CheckWord.TheVariants as words
 use Rattle.mp_request.specs.declared.explain.seat_code.SeatCode.{SeatCode}
 use Rattle.mp_request.specs.declared.explain.seat_code.SeatCode.TheVariants as seats
-use Rattle.mp_request.specs.declared.explain.topic.Topic.TheVariants.{Text, Edit, Seat, Finding, Check, Kind as OfKind}
+use Rattle.mp_request.specs.declared.explain.topic.Topic.TheVariants.{Text, Edit, Seat, Finding, Check, Kind as OfKind, Steady}
 use Rattle.mp_request.specs.explain.Laws.{TellsOfEach, titles}
 use Rattle.mp_request.specs.explain.Subjects.{title}
 
-many : length titles ≡ 66
+many : length titles ≡ 68
 many = refl
 
 text_told : (code : TextCode) → Contains titles (title (Text code))
@@ -83,21 +83,22 @@ check_told words.Deadlock = (49, omega (arith, many), refl)
 check_told words.Becomes = (50, omega (arith, many), refl)
 check_told words.Undriven = (51, omega (arith, many), refl)
 check_told words.Unread = (52, omega (arith, many), refl)
+check_told words.Busy = (53, omega (arith, many), refl)
 
 kind_told : (kind : Kind) → Contains titles (title (OfKind kind))
-kind_told kinds.Buf = (53, omega (arith, many), refl)
-kind_told kinds.Not = (54, omega (arith, many), refl)
-kind_told kinds.Xor = (55, omega (arith, many), refl)
-kind_told kinds.C = (56, omega (arith, many), refl)
-kind_told kinds.Toggle = (57, omega (arith, many), refl)
-kind_told kinds.Select = (58, omega (arith, many), refl)
-kind_told kinds.Call = (59, omega (arith, many), refl)
-kind_told kinds.Arbiter = (60, omega (arith, many), refl)
-kind_told kinds.Reg = (61, omega (arith, many), refl)
-kind_told kinds.AddC = (62, omega (arith, many), refl)
-kind_told kinds.XorC = (63, omega (arith, many), refl)
-kind_told kinds.Sum = (64, omega (arith, many), refl)
-kind_told kinds.Bit = (65, omega (arith, many), refl)
+kind_told kinds.Buf = (54, omega (arith, many), refl)
+kind_told kinds.Not = (55, omega (arith, many), refl)
+kind_told kinds.Xor = (56, omega (arith, many), refl)
+kind_told kinds.C = (57, omega (arith, many), refl)
+kind_told kinds.Toggle = (58, omega (arith, many), refl)
+kind_told kinds.Select = (59, omega (arith, many), refl)
+kind_told kinds.Call = (60, omega (arith, many), refl)
+kind_told kinds.Arbiter = (61, omega (arith, many), refl)
+kind_told kinds.Reg = (62, omega (arith, many), refl)
+kind_told kinds.AddC = (63, omega (arith, many), refl)
+kind_told kinds.XorC = (64, omega (arith, many), refl)
+kind_told kinds.Sum = (65, omega (arith, many), refl)
+kind_told kinds.Bit = (66, omega (arith, many), refl)
 
 pub tells_of_each : TellsOfEach
 tells_of_each (Text code) = text_told code
@@ -106,3 +107,4 @@ tells_of_each (Seat code) = seat_told code
 tells_of_each (Finding code) = finding_told code
 tells_of_each (Check word) = check_told word
 tells_of_each (OfKind kind) = kind_told kind
+tells_of_each Steady = (67, omega (arith, many), refl)

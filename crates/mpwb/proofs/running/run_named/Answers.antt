@@ -5,7 +5,7 @@ use Rattle.mpwb.proofs.running.run_named.Goals as goal
 pub returns-in_default-clause-written : goal.returns-in_default-clause-written
 returns-in_default-clause-written g c =
     runs_as c.args.command.now c.args.options.now _ (g.S.Source.left c.args.source.now) c.run_view.result c.args.out.now c.run_view.new.out (text_of c.args.command.now)
-    c.view_of.ensures.valid c.view_of.ensures.text c.view_of.ensures.wires c.run_view.ensures.written
+    c.view_of.ensures.valid c.view_of.ensures.text c.view_of.ensures.wires c.view_of.ensures.places c.run_view.ensures.written
 
 pub returns-in_default-clause-taken : goal.returns-in_default-clause-taken
 returns-in_default-clause-taken g c = any_some (text_of c.args.command.now) c.run_view.ensures.taken

@@ -64,6 +64,7 @@ loop-now-preserved c =
     let moved : HaveMoved now old.memory new.memory old.marks new.marks = record {
       first_output = moves.first_output;
       second_output = moves.second_output;
+      third_output = moves.third_output;
       first_waiting = moves.first_waiting;
       second_waiting = moves.second_waiting;
     } in

@@ -1,9 +1,0 @@
-use Rattle.std.proofs.Common.{Ok, take}
-use Rattle.std.specs.List.{flat_map}
-use Rattle.mp_streams.specs.Outgoing.{Writes}
-use Rattle.mp_check.specs.CheckLines.{deadlock_line}
-use Rattle.mp_check.proofs.lines.put_deadlocks.Given as goal
-
--- the lines so far are written
-abbrev pub invariant-loop-deadlock : goal.invariant-loop-deadlock
-invariant-loop-deadlock g l = Writes {T = Unit {0}} (Ok tt) l.fn.out l.out (flat_map (deadlock_line l.end.at.netlist.now) (take l.deadlock-index l.deadlocks))

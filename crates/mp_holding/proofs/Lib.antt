@@ -1,0 +1,5 @@
+pub mod SetLemmas
+pub mod FunctionLemmas
+pub mod CallLemmas
+pub mod ArbiterLemmas
+pub mod HoldingLemmas

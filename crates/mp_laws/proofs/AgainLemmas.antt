@@ -1,0 +1,282 @@
+-- What is found in a netlist that repeats is found again.
+use Rattle.std.proofs.Common.{◌≡◌, ℕ, ◌+◌, ◌-◌, ◌<◌, ◌≤◌, ◌==◌, ◌⊎◌, inl, inr, Bool, true, false, not, cond, List, [], ◌∷◌, drop, length, filter, take, Option, Some, None, is_some, zero, suc, refl, ap, sym, subst, ◌∙◌, arith}
+use Rattle.std.specs.Prelude.{◌≢◌, ◌||◌, ◌&&◌, IsSome, slice_index_or}
+use Rattle.std.specs.List.{Contains, list_all, range_with_len}
+use Rattle.std.proofs.lemmas.Bool.{cases_Bool, cases_lt, eqb-true, eqb-false, eq-eqb, and_parts}
+use Rattle.std.proofs.lemmas.Option.{same_Some}
+use Rattle.mp_modules.specs.declared.finding_code.FindingCode.{FindingCode}
+use Rattle.mp_modules.specs.declared.finding_code.FindingCode.TheVariants as codes
+use Rattle.mp_modules.specs.declared.memory.Memory.{Memory}
+use Rattle.mp_modules.specs.Findings.{has_code}
+use Rattle.mp_modules.specs.storage.AnyModules.{found}
+use Rattle.mp_records.specs.declared.ids.WireId.{WireId}
+use Rattle.mp_records.specs.declared.wire_record.WireRecord.{WireRecord}
+use Rattle.mp_records.specs.declared.module_record.ModuleRecord.{ModuleRecord}
+use Rattle.mp_records.specs.declared.bundle_record.BundleRecord.{BundleRecord}
+use Rattle.mp_records.specs.declared.ports.Input.{Input}
+use Rattle.mp_netlist.specs.declared.driver.Driver.{Driver}
+use Rattle.mp_netlist.specs.declared.driver.Driver.TheVariants.{Nothing, Stimulus, Port}
+use Rattle.mp_netlist.specs.Circuit.{Circuit, IsCircuit, wire_at, module_at, bundle_at}
+use Rattle.mp_netlist.specs.Drivers.{driver}
+use Rattle.mp_model.specs.Levels.{built, inputs_by}
+use Rattle.mp_model.specs.Waves.{level, state}
+use Rattle.mp_model.specs.Findings.{findings}
+use Rattle.mp_model.specs.FindingLaws.{BundleRule, Changes, IsBusy, IsRequestedSoon, Rule}
+use Rattle.mp_model.specs.declared.finding.Place.{Place}
+use Rattle.mp_model.specs.declared.finding.Place.TheVariants.{Module, Bundle}
+use Rattle.mp_model.proofs.FindingLemmas.{finds_by_rule}
+use Rattle.mp_model.proofs.SlotLemmas.{slot_within}
+use Rattle.mp_laws.specs.Stimuli.{AreSetAlike}
+use Rattle.mp_steady.specs.WireSets.{all_wires, has_wire, inputs_by as depended, inputs_in, is_whole, passes_on, port_inputs, wire_inputs}
+use Rattle.mp_steady.specs.Periods.{heard_from, last_unit, longest_period, repeats, start, told_until}
+use Rattle.mp_laws.specs.Repeating.{FindingsRepeatForEver, GoesOnAt, IsBelowHorizon, IsDriving, IsTold}
+use Rattle.mp_laws.proofs.AlikeLemmas.{same_module}
+use Rattle.mp_laws.proofs.RepeatLemmas.{again_for_ever, begun_by, heard_for_ever, same_heard, same_levels, same_states, state_for_ever}
+
+-- ---- all wires are a whole set
+
+has_range : (a k w : ℕ) → a ≤ w → w < a + k → has_wire (range_with_len a k) w ≡ true
+has_range a zero w low high = absurd (omega (arith, low, high))
+has_range a (suc k) w low high = by (cases_Bool (a == w)) (λ above. has_range (a + 1) k w above (omega (arith, high)))
+  where
+    by : ((a == w) ≡ true) ⊎ ((a == w) ≡ false) → (a + 1 ≤ w → has_wire (range_with_len (a + 1) k) w ≡ true) → has_wire (range_with_len a (suc k)) w ≡ true
+    by (inl here) rest = ap (λ b. b || has_wire (range_with_len (a + 1) k) w) here
+    by (inr other) rest =
+        let apart = eqb-false a w other in
+        ap (λ b. b || has_wire (range_with_len (a + 1) k) w) other ∙ rest (omega (arith, low, apart))
+
+has_filter : (p : ℕ → Bool) (xs : List ℕ) (w : ℕ) → has_wire xs w ≡ true → p w ≡ true → has_wire (filter p xs) w ≡ true
+has_filter p [] w has passes = has
+has_filter p (x ∷ xs) w has passes = by (cases_Bool (x == w)) (cases_Bool (p x)) (λ here. has_filter p xs w here passes)
+  where
+    by : ((x == w) ≡ true) ⊎ ((x == w) ≡ false) → (p x ≡ true) ⊎ (p x ≡ false) → (has_wire xs w ≡ true → has_wire (filter p xs) w ≡ true) → has_wire (filter p (x ∷ xs)) w ≡ true
+    by (inl here) (inl keeps) rest = ap (λ b. has_wire (cond b (x ∷ filter p xs) (filter p xs)) w) keeps ∙ ap (λ b. b || has_wire (filter p xs) w) here
+    by (inl here) (inr drops) rest = let no : true ≡ false = sym passes ∙ ap p (sym (eqb-true x w here)) ∙ drops in let none : ⊥ = cc in absurd none
+    by (inr other) (inl keeps) rest =
+        ap (λ b. has_wire (cond b (x ∷ filter p xs) (filter p xs)) w) keeps ∙ ap (λ b. b || has_wire (filter p xs) w) other ∙ rest (sym (ap (λ b. b || has_wire xs w) other) ∙ has)
+    by (inr other) (inr drops) rest =
+        ap (λ b. has_wire (cond b (x ∷ filter p xs) (filter p xs)) w) drops ∙ rest (sym (ap (λ b. b || has_wire xs w) other) ∙ has)
+
+-- a wire that stands is one of all
+pub in_all : (n : Circuit) (w : ℕ) (r : WireRecord) → wire_at n w ≡ Some r → has_wire (all_wires n) w ≡ true
+in_all n w r at =
+    has_filter (λ v. is_some (wire_at n v)) (range_with_len 0 (length n.wires)) w (has_range 0 (length n.wires) w (omega arith) (omega (arith, slot_within n.wires w r at))) (ap is_some at)
+
+stands_in : (n : Circuit) (w : ℕ) → IsSome (wire_at n w) → has_wire (all_wires n) w ≡ true
+stands_in n w some = by (wire_at n w) refl some
+  where
+    by : (slot : Option WireRecord) → wire_at n w ≡ slot → IsSome slot → has_wire (all_wires n) w ≡ true
+    by None at here = let no : ⊥ = cc in absurd no
+    by (Some r) at here = in_all n w r at
+
+all_of : (p : ℕ → Bool) (xs : List ℕ) → ((w : ℕ) → p w ≡ true) → list_all p xs ≡ true
+all_of p [] each = refl
+all_of p (x ∷ xs) each = ap (λ b. b && list_all p xs) (each x) ∙ all_of p xs each
+
+-- the wires at the inputs of a module stand
+reads_stand : (n : Circuit) (r : ModuleRecord) (inputs : List Input) → ((p : ℕ) (d : Input) → p < length inputs → IsSome (wire_at n (slice_index_or inputs p d).wire.0))
+    → list_all (λ (i : Input). has_wire (all_wires n) i.wire.0) inputs ≡ true
+reads_stand n r [] stand = refl
+reads_stand n r (i ∷ is) stand =
+    ap (λ b. b && list_all (λ (j : Input). has_wire (all_wires n) j.wire.0) is) (stands_in n i.wire.0 (stand 0 i (omega arith)))
+    ∙ reads_stand n r is (λ p d low. stand (suc p) d (omega (arith, low)))
+
+some_of : (q : Input → Bool) (xs : List Input) (p : ℕ) → list_all q xs ≡ true → list_all q (take 1 (drop p xs)) ≡ true
+some_of q [] zero all = refl
+some_of q [] (suc p) all = refl
+some_of q (i ∷ is) zero all = ap (λ b. b && true) (and_parts (q i) (list_all q is) all).0
+some_of q (i ∷ is) (suc p) all = some_of q is p (and_parts (q i) (list_all q is) all).1
+
+-- an input reads one of all wires
+abbrev inside : Circuit → Input → Bool
+inside n i = has_wire (all_wires n) i.wire.0
+
+all_whole : (n : Circuit) → IsCircuit n → is_whole n (all_wires n) ≡ true
+all_whole n ok = all_of (λ w. list_all (inside n) (wire_inputs n w)) (all_wires n) (λ w. by (driver n w))
+  where
+    at_port : (p : ℕ) (r : ModuleRecord) (passes : Bool) → list_all (inside n) r.inputs ≡ true → list_all (inside n) (cond passes (take 1 (drop p r.inputs)) r.inputs) ≡ true
+    at_port p r true all = some_of (inside n) r.inputs p all
+    at_port p r false all = all
+
+    in_slot : (m p : ℕ) (slot : Option ModuleRecord) → module_at n m ≡ slot → list_all (inside n) (inputs_in p slot) ≡ true
+    in_slot m p None at = refl
+    in_slot m p (Some r) at = at_port p r (passes_on r.kind p) (reads_stand n r r.inputs (λ k d low. ((ok.modules_ok m r at).reads k d low).0))
+
+    by : (d : Driver) → list_all (inside n) (depended n d) ≡ true
+    by Nothing = refl
+    by Stimulus = refl
+    by (Port m p) = in_slot m.0 p (module_at n m.0) refl
+
+-- ---- the levels of a netlist that goes on
+
+module _ (n later : Circuit) (ok : IsCircuit n) (later_ok : IsCircuit later) (whole : is_whole n (all_wires n) ≡ true) (goes : GoesOnAt (all_wires n) n later) (units : ℕ) (some : 1 ≤ units)
+    (few : units ≤ longest_period n (all_wires n)) (again : repeats n (all_wires n) units ≡ true) where
+  stands_there : (w : ℕ) → IsSome (wire_at later w) → has_wire (all_wires n) w ≡ true
+  stands_there w stands = by (wire_at n w) (wire_at later w) refl (goes.alike.wires w) stands
+    where
+      by : (a b : Option WireRecord) → wire_at n w ≡ a → AreSetAlike 0 a b → IsSome b → has_wire (all_wires n) w ≡ true
+      by None None at alike here = let no : ⊥ = cc in absurd no
+      by (Some r) b at alike here = in_all n w r at
+      by None (Some s) at alike here = absurd alike
+
+  -- the level of a wire so many units later
+  later_level : (w t : ℕ) → IsSome (wire_at later w) → told_until n (all_wires n) - units ≤ t → level later w (t + units) ≡ level later w t
+  later_level w t stands low =
+      let has = stands_there w stands in
+      let begin = begun_by n ok (all_wires n) whole units some few again in
+      same_levels n ok (all_wires n) whole later later_ok goes w (t + units) has ∙ again_for_ever n ok (all_wires n) whole units some few again w t has (omega (arith, begin, low))
+      ∙ sym (same_levels n ok (all_wires n) whole later later_ok goes w t has)
+
+  -- ---- bundles
+
+  module _ (r : BundleRecord) (t : ℕ) (past : told_until n (all_wires n) - units < t) where
+    -- a change so many units later, and the other way
+    changes_later : (w : WireId) (s : ℕ) → IsSome (wire_at later w.0) → t ≤ s → Changes later w s → Changes later w (s + units)
+    changes_later w s stands from differs =
+        let back : s + units - 1 ≡ s - 1 + units = omega (arith, from, past) in
+        λ same.
+        differs (sym (ap (level later w.0) back ∙ later_level w.0 (s - 1) stands (omega (arith, from, past))) ∙ same ∙ later_level w.0 s stands (omega (arith, from, past)))
+
+    changes_sooner : (w : WireId) (s : ℕ) → IsSome (wire_at later w.0) → t ≤ s → Changes later w (s + units) → Changes later w s
+    changes_sooner w s stands from differs =
+        let back : s + units - 1 ≡ s - 1 + units = omega (arith, from, past) in
+        λ same.
+        differs (ap (level later w.0) back ∙ later_level w.0 (s - 1) stands (omega (arith, from, past)) ∙ same ∙ sym (later_level w.0 s stands (omega (arith, from, past))))
+
+    module _ (request : IsSome (wire_at later r.request.0)) (acknowledge : IsSome (wire_at later r.acknowledge.0)) (payload : IsSome (wire_at later r.payload.0)) where
+      before : t + units - 1 ≡ t - 1 + units
+      before = omega (arith, past)
+
+      busy_later : IsBusy later r (t - 1) → IsBusy later r (t + units - 1)
+      busy_later busy =
+          λ same.
+          busy (sym (ap (level later r.request.0) before ∙ later_level r.request.0 (t - 1) request (omega (arith, past))) ∙ same
+          ∙ ap (level later r.acknowledge.0) before ∙ later_level r.acknowledge.0 (t - 1) acknowledge (omega (arith, past)))
+
+      busy_sooner : IsBusy later r (t + units - 1) → IsBusy later r (t - 1)
+      busy_sooner busy =
+          λ same.
+          busy (ap (level later r.request.0) before ∙ later_level r.request.0 (t - 1) request (omega (arith, past)) ∙ same
+          ∙ sym (ap (level later r.acknowledge.0) before ∙ later_level r.acknowledge.0 (t - 1) acknowledge (omega (arith, past))))
+
+      soon_later : t + units + r.setup < later.horizon → IsRequestedSoon later r t → IsRequestedSoon later r (t + units)
+      soon_later within soon = record {
+        at = soon.at + units;
+        since = omega (arith, soon.since);
+        until = omega (arith, soon.until);
+        within = omega (arith, soon.until, within);
+        event = changes_later r.request soon.at request soon.since soon.event;
+      }
+
+      soon_sooner : IsRequestedSoon later r (t + units) → IsRequestedSoon later r t
+      soon_sooner soon =
+          let at : ℕ = soon.at - units in
+          let back : at + units ≡ soon.at = omega (arith, soon.since) in
+          record {
+            at = at;
+            since = omega (arith, soon.since);
+            until = omega (arith, soon.until, back);
+            within = omega (arith, soon.within, back);
+            event = changes_sooner r.request at request (omega (arith, soon.since)) (subst (λ k. Changes later r.request k) (sym back) soon.event);
+          }
+
+      rule_later : t + units + r.setup < later.horizon → (code : FindingCode) → BundleRule later r t code → BundleRule later r (t + units) code
+      rule_later within codes.DataWhileBusy rule = (changes_later r.payload t payload (omega arith) rule.0, busy_later rule.1)
+      rule_later within codes.Setup rule = (changes_later r.payload t payload (omega arith) rule.0, soon_later within rule.1)
+      rule_later within codes.RequestWhileBusy rule = (changes_later r.request t request (omega arith) rule.0, busy_later rule.1)
+      rule_later within codes.AckWhileIdle rule = (changes_later r.acknowledge t acknowledge (omega arith) rule.0, λ busy. rule.1 (busy_sooner busy))
+      rule_later within codes.MergeCollision rule = absurd rule
+      rule_later within codes.Withdrawn rule = absurd rule
+      rule_later within codes.SelectUnstable rule = absurd rule
+      rule_later within codes.CallOverlap rule = absurd rule
+      rule_later within codes.DoneWithoutCall rule = absurd rule
+      rule_later within codes.RepeatRequest rule = absurd rule
+      rule_later within codes.DoneWithoutGrant rule = absurd rule
+      rule_later within codes.CaptureWhileHeld rule = absurd rule
+      rule_later within codes.PassWhileOpen rule = absurd rule
+      rule_later within codes.DataAtCapture rule = absurd rule
+
+      rule_sooner : (code : FindingCode) → BundleRule later r (t + units) code → BundleRule later r t code
+      rule_sooner codes.DataWhileBusy rule = (changes_sooner r.payload t payload (omega arith) rule.0, busy_sooner rule.1)
+      rule_sooner codes.Setup rule = (changes_sooner r.payload t payload (omega arith) rule.0, soon_sooner rule.1)
+      rule_sooner codes.RequestWhileBusy rule = (changes_sooner r.request t request (omega arith) rule.0, busy_sooner rule.1)
+      rule_sooner codes.AckWhileIdle rule = (changes_sooner r.acknowledge t acknowledge (omega arith) rule.0, λ busy. rule.1 (busy_later busy))
+      rule_sooner codes.MergeCollision rule = absurd rule
+      rule_sooner codes.Withdrawn rule = absurd rule
+      rule_sooner codes.SelectUnstable rule = absurd rule
+      rule_sooner codes.CallOverlap rule = absurd rule
+      rule_sooner codes.DoneWithoutCall rule = absurd rule
+      rule_sooner codes.RepeatRequest rule = absurd rule
+      rule_sooner codes.DoneWithoutGrant rule = absurd rule
+      rule_sooner codes.CaptureWhileHeld rule = absurd rule
+      rule_sooner codes.PassWhileOpen rule = absurd rule
+      rule_sooner codes.DataAtCapture rule = absurd rule
+
+  -- ---- modules
+
+  module _ (m t : ℕ) (code : FindingCode) (told : IsDriving n (all_wires n) m) (past : told_until n (all_wires n) - units < t) where
+    abbrev r : ModuleRecord
+    r = told.part
+
+    there : module_at later m ≡ Some r
+    there = same_module n later ok later_ok 0 goes.alike m ∙ told.stands
+
+    states_equal : state later m (t + units - 1) ≡ state later m (t - 1)
+    states_equal =
+        let back : t + units - 1 ≡ t - 1 + units = omega (arith, past) in
+        let alike = same_states n ok (all_wires n) whole later later_ok goes told.wire m told.port r told.has told.stands told.drives told.holds in
+        alike (t + units - 1) ∙ ap (state n m) back
+        ∙ state_for_ever n ok (all_wires n) whole units some few again told.wire m told.port r told.has told.stands told.drives told.holds (t - 1) (omega (arith, past)) ∙ sym (alike (t - 1))
+
+    heard_equal : inputs_by later (level later) r (t + units) ≡ inputs_by later (level later) r t
+    heard_equal =
+        let alike = same_heard n ok (all_wires n) whole later later_ok goes told.wire m told.port r told.has told.stands told.drives told.holds in
+        alike (t + units) ∙ heard_for_ever n ok (all_wires n) whole units some few again told.wire m told.port r told.has told.stands told.drives told.holds t (omega (arith, past)) ∙ sym (alike t)
+
+    found_equal : has_code (found (built later r) (state later m (t + units - 1)) (inputs_by later (level later) r (t + units))) code
+        ≡ has_code (found (built later r) (state later m (t - 1)) (inputs_by later (level later) r t)) code
+    found_equal =
+        ap (λ (s : Memory). has_code (found (built later r) s (inputs_by later (level later) r (t + units))) code) states_equal
+        ∙ ap (λ x. has_code (found (built later r) (state later m (t - 1)) x) code) heard_equal
+
+    found_by : (s : ℕ) → Rule later (Module (record { 0 = m })) s code → has_code (found (built later r) (state later m (s - 1)) (inputs_by later (level later) r s)) code ≡ true
+    found_by s rule =
+        let same : rule.0 ≡ r = same_Some {A = ModuleRecord} rule.0 r (sym rule.1 ∙ there) in
+        subst (λ (k : ModuleRecord). has_code (found (built later k) (state later m (s - 1)) (inputs_by later (level later) k s)) code ≡ true) same rule.2
+
+    module_later : Rule later (Module (record { 0 = m })) t code → Rule later (Module (record { 0 = m })) (t + units) code
+    module_later rule = (r, there, found_equal ∙ found_by t rule)
+
+    module_sooner : Rule later (Module (record { 0 = m })) (t + units) code → Rule later (Module (record { 0 = m })) t code
+    module_sooner rule = (r, there, sym found_equal ∙ found_by (t + units) rule)
+
+  -- ---- both
+
+  rules_later : (place : Place) (t : ℕ) (code : FindingCode) → IsTold n (all_wires n) place → told_until n (all_wires n) - units < t → IsBelowHorizon later place (t + units)
+      → Rule later place t code → Rule later place (t + units) code
+  rules_later (Module m) t code told past below rule = module_later m.0 t code told past rule
+  rules_later (Bundle b) t code told past below rule =
+      let form = later_ok.bundles_ok b.0 rule.0 rule.1 in
+      (rule.0, rule.1, rule_later rule.0 t past form.request.0 form.acknowledge.0 form.payload (below.1 rule.0 rule.1) code rule.2)
+
+  rules_sooner : (place : Place) (t : ℕ) (code : FindingCode) → IsTold n (all_wires n) place → told_until n (all_wires n) - units < t → Rule later place (t + units) code → Rule later place t code
+  rules_sooner (Module m) t code told past rule = module_sooner m.0 t code told past rule
+  rules_sooner (Bundle b) t code told past rule =
+      let form = later_ok.bundles_ok b.0 rule.0 rule.1 in
+      (rule.0, rule.1, rule_sooner rule.0 t past form.request.0 form.acknowledge.0 form.payload code rule.2)
+
+  below_horizon : (place : Place) (s : ℕ) → IsBelowHorizon later place s → s < later.horizon
+  below_horizon (Module m) s below = below
+  below_horizon (Bundle b) s below = below.0
+
+pub findings_repeat_for_ever : FindingsRepeatForEver
+findings_repeat_for_ever n later ok later_ok goes units some few again place t code told past below =
+    let whole = all_whole n ok in
+    let within = below_horizon n later ok later_ok whole goes units some few again place (t + units) below in (
+      λ listed.
+          (let f = (finds_by_rule later (record { time = t; place = place; code = code })).0 listed in
+          (finds_by_rule later (record { time = t + units; place = place; code = code })).1 (omega (arith, f.0), within, rules_later n later ok later_ok whole goes units some few again place t code told past below f.2)),
+      λ listed.
+          (let f = (finds_by_rule later (record { time = t + units; place = place; code = code })).0 listed in
+          (finds_by_rule later (record { time = t; place = place; code = code })).1 (omega (arith, past), omega (arith, within), rules_sooner n later ok later_ok whole goes units some few again place t code told past f.2)),
+    )

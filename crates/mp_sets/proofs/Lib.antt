@@ -1,0 +1,4 @@
+pub mod ClosedLemmas
+pub mod NeedLemmas
+pub mod LeftLemmas
+pub mod ReaderLemmas

@@ -1,0 +1,152 @@
+//! Whether modules come to a state again.
+ghost use Rattle.std.specs.Prelude.{◌≡◌, ◌<◌, ◌≤◌, ℕ, All, IfOk, IsSome, Some, length, map, vec_len};
+ghost use Rattle.std.specs.List.{list_all};
+ghost use Rattle.mp_records.specs.declared.ports.Input.{Input as Port};
+ghost use Rattle.mp_netlist.specs.Circuit.{IsModule, module_at, wire_at};
+ghost use Rattle.mp_netlist.specs.Drivers.{driver};
+ghost use Rattle.mp_model.specs.Levels.{input_by};
+ghost use Rattle.mp_model.specs.Waves.{level};
+ghost use Rattle.mp_model.specs.response.Pieces.{levels_at};
+ghost use Rattle.mp_questions.specs.late.Sources.{has_memory};
+ghost use Rattle.mp_steady.specs.Periods.{is_again_by, is_same_state, is_state_again, told_until};
+ghost use Rattle.mp_steady.specs.RunTimes.{AreTimes};
+ghost use Rattle.mp_steady.specs.WireSets.{numbers};
+
+use crate::run_times::RunTimes;
+use crate::wire_inputs::passes_on;
+use crate::wire_set::WireSet;
+use mp_model::{InPiece, built, cut_delayed, respond};
+use mp_modules::{EventModule, Kind, Memory};
+use mp_netlist::{Driver, Input, ModuleId};
+use std::alloc::{AllocError, Global};
+
+/// Whether each module that drives one of the wires, if it doesn't only pass an input on, has the state of so many units before.
+pub(crate) fn are_states_again(
+    alloc: Global,
+    set: WireSet<'_>,
+    times: RunTimes,
+    units: u32,
+) -> Result<bool, AllocError>
+    requires times { AreTimes set.of.netlist.now (numbers set.wires.now) times }
+    requires few { units ≤ told_until set.of.netlist.now (numbers set.wires.now) }
+    ensures { IfOk result (λ is. is ≡ list_all (λ w. is_again_by set.entry.of.netlist.now (numbers set.entry.wires.now) units (driver set.entry.of.netlist.now w)) (numbers set.entry.wires.now)) }
+{
+    for &wire in set.wires {
+        if !is_again(alloc, set, times, units, set.of.driver_of(wire))? {
+            return Ok(false);
+        }
+    }
+    Ok(true)
+}
+
+/// Whether the module of a port that is a driver has that state.
+fn is_again(
+    alloc: Global,
+    set: WireSet<'_>,
+    times: RunTimes,
+    units: u32,
+    driver: Driver,
+) -> Result<bool, AllocError>
+    requires times { AreTimes set.of.netlist.now (numbers set.wires.now) times }
+    requires few { units ≤ told_until set.of.netlist.now (numbers set.wires.now) }
+    ensures { IfOk result (λ is. is ≡ is_again_by set.entry.of.netlist.now (numbers set.entry.wires.now) units driver) }
+{
+    let Driver::Port(id, port) = driver else {
+        return Ok(true);
+    };
+    match set.of.netlist.module(id) {
+        Some(part) if !passes_on(part.kind, port) => is_state_again(alloc, set, times, units, id),
+        _ => Ok(true),
+    }
+}
+
+/// Whether a module has that state. One without memory has it from the levels that it hears then, so nothing before is run.
+fn is_state_again(
+    alloc: Global,
+    set: WireSet<'_>,
+    times: RunTimes,
+    units: u32,
+    id: ModuleId,
+) -> Result<bool, AllocError>
+    requires times { AreTimes set.of.netlist.now (numbers set.wires.now) times }
+    requires few { units ≤ told_until set.of.netlist.now (numbers set.wires.now) }
+    requires stands { IsSome (module_at set.of.netlist.now id.0) }
+    ensures { IfOk result (λ is. is ≡ is_state_again set.entry.of.netlist.now (numbers set.entry.wires.now) units id.0) }
+{
+    let Some(record) = set.of.netlist.module(id) else {
+        unreachable!()
+    };
+    let part = built(set.of.netlist, record);
+    let inputs = record.inputs.as_slice();
+    let last = times.told_until();
+    let first = last - units;
+    let (from, next) = if has_memory(record.kind) {
+        (0, first + 1)
+    } else {
+        (first, last)
+    };
+    let begun = pieces(alloc, set, inputs, from, first + 1)?;
+    let before = respond(
+        alloc,
+        &part,
+        part.start(),
+        begun.as_slice(),
+        from,
+        first + 1,
+    )?;
+    let gone_on = pieces(alloc, set, inputs, next, last + 1)?;
+    let now = respond(
+        alloc,
+        &part,
+        before.memory,
+        gone_on.as_slice(),
+        next,
+        last + 1,
+    )?;
+    Ok(is_same_state(&before.memory, &now.memory))
+}
+
+/// Whether a module of the kind does what it does after what its inputs did before.
+fn has_memory(kind: Kind) -> bool
+    ensures { result ≡ has_memory kind }
+{
+    match kind {
+        Kind::C | Kind::Toggle | Kind::Select | Kind::Call | Kind::Arbiter | Kind::Reg => true,
+        Kind::Buf | Kind::Not | Kind::Xor => false,
+        Kind::AddC | Kind::XorC | Kind::Sum | Kind::Bit => false,
+    }
+}
+
+/// Whether two states are the same.
+fn is_same_state(one: &Memory, other: &Memory) -> bool
+    ensures { result ≡ is_same_state one.now other.now }
+{
+    one.inputs == other.inputs
+        && one.outputs == other.outputs
+        && one.served == other.served
+        && one.waiting.first == other.waiting.first
+        && one.waiting.second == other.waiting.second
+}
+
+/// The waves at the inputs of a module, from one time to before another.
+fn pieces(
+    alloc: Global,
+    set: WireSet<'_>,
+    inputs: &[Input],
+    from: u32,
+    to: u32,
+) -> Result<Vec<InPiece>, AllocError>
+    requires stand { All (λ (i : Port). IsSome (wire_at set.of.netlist.now i.wire.0)) inputs.now }
+    requires some { from < to }
+    requires within { to ≤ set.of.netlist.now.horizon }
+    ensures count { IfOk result (λ pieces. vec_len pieces ≡ length inputs.now) }
+    ensures levels { IfOk result (λ pieces. (t : ℕ) → from ≤ t → t < to
+        → levels_at pieces.items t ≡ map (λ i. input_by set.entry.of.netlist.now (level set.entry.of.netlist.now) i t) inputs.now) }
+{
+    let mut pieces = Vec::with_capacity(alloc, inputs.len())?;
+    for &input in inputs {
+        let wave = set.wave_of(input.wire);
+        pieces.push(cut_delayed(alloc, wave, input.delay, from, to)?)?;
+    }
+    Ok(pieces)
+}
