@@ -14,7 +14,7 @@ use mp_streams::{Failed, Out, Sink, Text};
 pub(crate) fn put_bundle_notes<S: Sink>(out: &mut Out<S>, end: &RunEnd<'_>) -> Result<(), Failed>
     ensures { Writes result out.old out.new (bundle_notes end.now.at.netlist.now) }
 {
-    if !is_over(end) {
+    if end.at.netlist.bundle_slots() == 0 || !is_over(end) {
         return Ok(());
     }
     put_bundles(out, end)
