@@ -1,16 +1,20 @@
 -- Ports that wait for each other, one after the other.
 use Rattle.std.proofs.Common.{Bool, ◌≡◌, ◌≢◌, ℕ, ◌+◌, ◌^◌, ◌/◌, ◌%◌, ◌<◌, ◌≤◌, ◌==◌, true, false, cond, List, [], ◌∷◌, ◌++◌, All, length, get_or, map, filter, Option, Some, None, zero, suc, refl, ap, sym, subst, ◌∙◌, append_assoc, inl, inr, arith}
-use Rattle.std.specs.List.{range_with_len}
-use Rattle.std.proofs.lemmas.Bool.{cases_lt, eq-eqb, ne_eqb}
+use Rattle.std.specs.Prelude.{not}
+use Rattle.std.specs.List.{list_all, range_with_len}
+use Rattle.std.proofs.lemmas.Bool.{and_parts, cases_lt, eq-eqb, ne_eqb}
 use Rattle.std.proofs.lemmas.List.{get_or_past, length-map}
 use Rattle.std.proofs.lemmas.List.FromFn.{get_or-range_with_len, length-range_with_len}
 use Rattle.mp_netlist.specs.Circuit.{Circuit, IsCircuit, module_at}
-use Rattle.mp_check.specs.Dead.{port_numbers, port_slots}
-use Rattle.mp_check.specs.Waiting.{wait_of, wait_in, waiting}
-use Rattle.mp_check.specs.Ways.{begins_round}
+use Rattle.mp_sets.specs.Marks.{is_marked}
+use Rattle.mp_sets.proofs.ClosedLemmas.{true_false}
+use Rattle.mp_check.specs.Dead.{AreDead, dead, port_numbers, port_slots}
+use Rattle.mp_check.specs.Waiting.{AreWaiting, wait_of, wait_in, waiting}
+use Rattle.mp_check.specs.Ways.{begins_round, least, way}
 use Rattle.mp_check.specs.Doubling.{next_in}
 use Rattle.mp_check.specs.Deadlocks.{port_after, next_port, waits_to, deadlock_from, deadlocks}
 use Rattle.mp_check.specs.declared.wait.Wait.{Wait}
+use Rattle.mp_check.proofs.AwaitedLemmas.{waiting_is_dead}
 use Rattle.mp_check.proofs.PortLemmas.{slots_few}
 
 -- ---- what they wait for, so far
@@ -77,3 +81,48 @@ module _ (n : Circuit) (next : List ℕ) (are : next ≡ map (next_port n) (rang
   deadlocks_are firsts is =
       ap (map (deadlock_from n)) (is ∙ ap (λ f. filter (begins_round f (length next)) (range_with_len 0 (length next))) same_next
       ∙ ap (λ c. filter (begins_round (next_port n) c) (range_with_len 0 c)) next_count)
+
+-- ---- nobody waits
+
+filter_none : (p : ℕ → Bool) (from count : ℕ) → ((k : ℕ) → k < from + count → p k ≡ false) → filter p (range_with_len from count) ≡ []
+filter_none p from zero none = refl
+filter_none p from (suc count) none =
+    ap (λ b. cond b (from ∷ filter p (range_with_len (from + 1) count)) (filter p (range_with_len (from + 1) count))) (none from (omega arith))
+    ∙ filter_none p (from + 1) count (λ k low. none k (omega (arith, low)))
+
+least_none : (next : ℕ → ℕ) (most count k : ℕ) → ((j : ℕ) → next j ≡ most) → k ≡ most → least most (way next count k) ≡ most
+least_none next most zero k none is = refl
+least_none next most (suc count) k none is = let rest = least_none next most count (next k) none (none k) in omega (arith, rest, is)
+
+pub nobody_waits : (n : Circuit) → ((k : ℕ) → waiting n k ≡ false) → [] ≡ deadlocks n
+unfolding deadlocks wait_of
+nobody_waits n none = sym (ap (map (deadlock_from n)) (filter_none (begins_round (next_port n) (port_slots n)) 0 (port_slots n) begins))
+  where
+    next_none : (k : ℕ) → next_port n k ≡ port_slots n
+    next_none k = ap (λ b. port_after (port_slots n) (cond b (wait_in n (k / port_numbers) (k % port_numbers) (module_at n (k / port_numbers))) None)) (none k)
+
+    begins : (k : ℕ) → k < 0 + port_slots n → begins_round (next_port n) (port_slots n) k ≡ false
+    begins k low =
+        let most : least (port_slots n) (way (next_port n) (port_slots n) (next_port n k)) ≡ port_slots n =
+        least_none (next_port n) (port_slots n) (port_slots n) (next_port n k) next_none (next_none k) in
+        ne_eqb (least (port_slots n) (way (next_port n) (port_slots n) (next_port n k))) k (λ same. omega (arith, most, same, low))
+
+-- no mark is set
+pub unmarked_at : (marks : List Bool) → list_all not marks ≡ true → (k : ℕ) → is_marked marks k ≡ false
+unmarked_at [] all k = refl
+unmarked_at (mark ∷ marks) all zero = by mark (and_parts (not mark) (list_all not marks) all).0
+  where
+    by : (b : Bool) → not b ≡ true → b ≡ false
+    by false is = refl
+    by true is = sym is
+unmarked_at (mark ∷ marks) all (suc k) = unmarked_at marks (and_parts (not mark) (list_all not marks) all).1 k
+
+pub nobody_waits_unmarked : (n : Circuit) (marks : List Bool) → AreWaiting n marks → list_all not marks ≡ true → [] ≡ deadlocks n
+nobody_waits_unmarked n marks are all = nobody_waits n (λ k. sym (are k) ∙ unmarked_at marks all k)
+
+pub nobody_is_dead : (n : Circuit) (marks : List Bool) → AreDead n marks → list_all not marks ≡ true → [] ≡ deadlocks n
+nobody_is_dead n marks are all = nobody_waits n (λ k. by k (waiting n k) refl)
+  where
+    by : (k : ℕ) (b : Bool) → waiting n k ≡ b → b ≡ false
+    by k false is = refl
+    by k true is = absurd (true_false (dead n k) (waiting_is_dead n k is) (sym (are k) ∙ unmarked_at marks all k))

@@ -21,7 +21,7 @@ pub(crate) fn put_bundle_notes<S: Sink>(
 ) -> Result<(), Failed>
     ensures { Writes result out.old out.new (selected_bundle_notes end.now.at.netlist.now (selected selection.entry)) }
 {
-    if !is_over(end) {
+    if end.at.netlist.bundle_slots() == 0 || !is_over(end) {
         return Ok(());
     }
     put_bundles(out, end, selection)

@@ -1,6 +1,6 @@
 //! Ports that wait for each other for ever.
-ghost use Rattle.std.specs.Prelude.{◌≡◌, ◌≤◌, IfOk, All, map};
-ghost use Rattle.std.specs.List.{range_with_len};
+ghost use Rattle.std.specs.Prelude.{◌≡◌, ◌≤◌, IfOk, All, map, not};
+ghost use Rattle.std.specs.List.{list_all, range_with_len};
 ghost use Rattle.mp_check.specs.Dead.{port_slots};
 ghost use Rattle.mp_check.specs.Deadlocks.{deadlock_from, deadlocks, next_port};
 
@@ -44,13 +44,31 @@ pub(crate) fn deadlocks(alloc: Global, end: &RunEnd<'_>) -> Result<Vec<Deadlock>
     ensures { IfOk result (λ found. found.items ≡ deadlocks end.now.at.netlist.now) }
 {
     let dead = dead_ports(alloc, end)?;
+    if are_unmarked(dead.as_slice()) {
+        return Ok(Vec::new(alloc));
+    }
     let waiting = waiting_ports(alloc, end, dead.as_slice())?;
+    if are_unmarked(waiting.as_slice()) {
+        return Ok(Vec::new(alloc));
+    }
     let ports = WaitingPorts {
         end: *end,
         dead: dead.as_slice(),
         waiting: waiting.as_slice(),
     };
     deadlocks_among(alloc, &ports)
+}
+
+/// Whether none of some marks is set.
+fn are_unmarked(marks: &[bool]) -> bool
+    ensures { result ≡ list_all not marks.now }
+{
+    for &mark in marks {
+        if mark {
+            return false;
+        }
+    }
+    true
 }
 
 /// The deadlocks among the ports that wait.
