@@ -2,7 +2,7 @@
 ghost use Rattle.std.specs.Prelude.{◌≡◌, All, IfOk, IsSome};
 ghost use Rattle.mp_netlist.specs.Circuit.{wire_at};
 ghost use Rattle.mp_records.specs.declared.ids.WireId.{WireId as Id};
-ghost use Rattle.mp_steady.specs.WireSets.{control, numbers};
+ghost use Rattle.mp_steady.specs.WireSets.{control, has_events, numbers};
 
 use crate::wire_inputs::wire_inputs;
 use mp_netlist::{Netlist, WireId};
@@ -68,7 +68,9 @@ impl Reached {
 }
 
 /// Whether a wire has width 1.
-fn has_events(netlist: &Netlist, wire: WireId) -> bool {
+pub(crate) fn has_events(netlist: &Netlist, wire: WireId) -> bool
+    ensures { result ≡ has_events netlist.now wire.0 }
+{
     match netlist.wire(wire) {
         Some(found) => found.width == 1,
         None => false,

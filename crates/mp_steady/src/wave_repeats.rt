@@ -40,7 +40,7 @@ fn level_after(wave: &Wave, changes: WaveChanges<'_>) -> u64
 }
 
 /// The time of the last change, 0 if there is none.
-fn time_of(changes: WaveChanges<'_>) -> u32
+pub(crate) fn time_of(changes: WaveChanges<'_>) -> u32
     ensures { result ≡ last_time 0 (changes_in changes.entry) }
 {
     match changes.last() {
