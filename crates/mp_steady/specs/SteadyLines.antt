@@ -36,11 +36,13 @@ abbrev pub cycle_text : Circuit → List WireChange → List ℕ
 cycle_text n [] = []
 cycle_text n (c ∷ cs) = cycle_line n c (cycle_length n (c ∷ cs)) ++ flat_map (module_line n) (by_units (filter has_steps (shares n (c ∷ cs))))
 
--- what is said of wires that repeat, as `repeats from 6 every 18`, behind a word on which these are
+-- the first line of wires that repeat, as `repeats from 6 every 18`, behind a word on which these are
+abbrev pub repeats_line : List ℕ → ℕ → ℕ → List ℕ
+repeats_line word from units = word ++ (codes "repeats from " ++ (decimal from ++ (codes " every " ++ (decimal units ++ codes "\n"))))
+
+-- what is said of wires that repeat
 abbrev pub repeats_text : Circuit → List ℕ → List ℕ → ℕ → List ℕ
-repeats_text n word wires units =
-    (word ++ (codes "repeats from " ++ (decimal (start n wires units) ++ (codes " every " ++ (decimal units ++ codes "\n")))))
-    ++ (flat_map (events_line n units) wires ++ cycle_text n (cycle n wires units))
+repeats_text n word wires units = repeats_line word (start n wires units) units ++ (flat_map (events_line n units) wires ++ cycle_text n (cycle n wires units))
 
 -- what is said of wires that are over
 abbrev pub over_text : Circuit → List ℕ → List ℕ → List ℕ

@@ -1,0 +1,184 @@
+-- Ways from cause to cause in the last period, and what comes round.
+use Rattle.std.proofs.Common.{◌≡◌, ℕ, ◌+◌, ◌*◌, ◌-◌, ◌%◌, ◌<◌, ◌≤◌, ◌^◌, ◌==◌, ◌⊎◌, inl, inr, Bool, true, false, not, cond, List, [], ◌∷◌, ◌++◌, length, map, slice_get, Option, Some, None, option_map, zero, suc, refl, ap, sym, subst, ◌∙◌, arith}
+use Rattle.std.specs.Prelude.{◌||◌, ◌&&◌, nat_lt}
+use Rattle.std.specs.List.{All, find, list_any}
+use Rattle.std.specs.Option.{option_or}
+use Rattle.std.proofs.lemmas.Bool.{cases_Bool, cases_lt, eqb-true, eq-eqb, ne_eqb, lt-ltb, and_parts}
+use Rattle.std.proofs.lemmas.List.{length-map}
+use Rattle.std.proofs.lemmas.List.Elements.{All-nil, All-cons, All-head, All-tail}
+use Rattle.mp_wave.specs.Waveform.{AreChanges, earlier_than, later_than}
+use Rattle.mp_wave.proofs.PrefixLemmas.{all_later, none_earlier, nat_lt-true, nat_lt-false}
+use Rattle.mp_records.specs.declared.ids.WireId.{WireId}
+use Rattle.mp_netlist.specs.Circuit.{Circuit}
+use Rattle.mp_questions.specs.declared.causes.wire_change.WireChange.{WireChange}
+use Rattle.mp_questions.specs.causes.Changes.{last_change}
+use Rattle.mp_questions.specs.timing.Events.{times_of}
+use Rattle.mp_questions.proofs.lemmas.causes.ChainLemmas.{last_change_is}
+use Rattle.mp_questions.proofs.lemmas.causes.EventLemmas.{last_of as last_in}
+use Rattle.mp_steady.specs.Periods.{events, last_unit}
+use Rattle.mp_steady.specs.WireSets.{has_events}
+use Rattle.mp_steady.specs.Cycles.{behind, cycle, first_wire, from_place, is_moving, is_place, last_of, most_places, round_of, way_from}
+
+-- ---- the last of some changes
+
+some_at : (x : ℕ × ℕ) (xs : List (ℕ × ℕ)) → (y : ℕ × ℕ) × (slice_get (x ∷ xs) (length xs) ≡ Some y)
+some_at x [] = (x, refl)
+some_at x (y ∷ ys) = some_at y ys
+
+last_cons : (x : ℕ × ℕ) (xs : List (ℕ × ℕ)) → last_in (x ∷ xs) ≡ slice_get (x ∷ xs) (length xs)
+last_cons x xs = let e : length (x ∷ xs) - 1 ≡ length xs = omega arith in ap (slice_get (x ∷ xs)) e
+
+-- without a last one there is none
+pub none_last : (xs : List (ℕ × ℕ)) → last_in xs ≡ None → length xs ≡ 0
+none_last [] none = refl
+none_last (x ∷ xs) none = let found = some_at x xs in let no : None ≡ Some found.0 = sym none ∙ last_cons x xs ∙ found.1 in cc
+
+pub some_last : (xs : List (ℕ × ℕ)) (x : ℕ × ℕ) → last_in xs ≡ Some x → 0 < length xs
+some_last [] x some = let no : ⊥ = cc in absurd no
+some_last (y ∷ ys) x some = omega arith
+
+-- a change in front of others isn't the last
+last_behind : (x y : ℕ × ℕ) (xs : List (ℕ × ℕ)) → last_in xs ≡ Some y → last_in (x ∷ xs) ≡ Some y
+last_behind x y [] last = let no : ⊥ = cc in absurd no
+last_behind x y (z ∷ zs) last = last_cons x (z ∷ zs) ∙ sym (last_cons z zs) ∙ last
+
+-- the last change between two times is the last one before the second
+pub last_between : (from to before v : ℕ) (xs : List (ℕ × ℕ)) (x : ℕ × ℕ) → AreChanges before v xs → last_in (earlier_than to (later_than from xs)) ≡ Some x → last_in (earlier_than to xs) ≡ Some x
+last_between from to before v [] x are last = last
+last_between from to before v (y ∷ ys) x are last = by (cases_lt from y.0) (cases_lt y.0 to) (λ here. last_between from to y.0 y.1 ys x are.2 here)
+  where
+    by : (from < y.0) ⊎ (y.0 ≤ from) → (y.0 < to) ⊎ (to ≤ y.0) → (last_in (earlier_than to (later_than from ys)) ≡ Some x → last_in (earlier_than to ys) ≡ Some x)
+        → last_in (earlier_than to (y ∷ ys)) ≡ Some x
+    by (inl past) at rest =
+        let whole : later_than from (y ∷ ys) ≡ y ∷ ys =
+        ap (λ b. cond b (y ∷ later_than from ys) (later_than from ys)) (nat_lt-true from y.0 past) ∙ ap (λ (zs : List (ℕ × ℕ)). y ∷ zs) (all_later from y.0 y.1 ys (omega (arith, past)) are.2) in
+        sym (ap (λ zs. last_in (earlier_than to zs)) whole) ∙ last
+    by (inr early) (inl sooner) rest =
+        let left : later_than from (y ∷ ys) ≡ later_than from ys = ap (λ b. cond b (y ∷ later_than from ys) (later_than from ys)) (nat_lt-false from y.0 early) in
+        ap (λ b. last_in (cond b (y ∷ earlier_than to ys) (earlier_than to ys))) (nat_lt-true y.0 to sooner)
+        ∙ last_behind y x (earlier_than to ys) (rest (sym (ap (λ zs. last_in (earlier_than to zs)) left) ∙ last))
+    by (inr early) (inr late) rest =
+        let left : later_than from (y ∷ ys) ≡ later_than from ys = ap (λ b. cond b (y ∷ later_than from ys) (later_than from ys)) (nat_lt-false from y.0 early) in
+        ap (λ b. last_in (cond b (y ∷ earlier_than to ys) (earlier_than to ys))) (nat_lt-false y.0 to late) ∙ rest (sym (ap (λ zs. last_in (earlier_than to zs)) left) ∙ last)
+
+-- ---- wires with events
+
+pub count_is : (changes : List (ℕ × ℕ)) (times : List ℕ) → times_of changes ≡ times → length times ≡ length changes
+count_is changes times is = ap length (sym is) ∙ length-map changes (λ (c : ℕ × ℕ). c.0)
+
+pub not_moving : (n : Circuit) (units : ℕ) (narrow : Bool) (w : ℕ) → events n units w ≡ 0 → is_moving n units narrow w ≡ false
+not_moving n units narrow w none = ap (λ k. (not narrow || has_events n w) && nat_lt 0 k) none ∙ by (not narrow || has_events n w)
+  where
+    by : (b : Bool) → (b && nat_lt 0 0) ≡ false
+    by true = refl
+    by false = refl
+
+pub not_counted : (n : Circuit) (units : ℕ) (narrow : Bool) (w : ℕ) → (not narrow || has_events n w) ≡ false → is_moving n units narrow w ≡ false
+not_counted n units narrow w no = ap (λ b. b && nat_lt 0 (events n units w)) no
+
+pub moving : (n : Circuit) (units : ℕ) (narrow : Bool) (w : ℕ) → (not narrow || has_events n w) ≡ true → 0 < events n units w → is_moving n units narrow w ≡ true
+moving n units narrow w counts some = ap (λ b. b && nat_lt 0 (events n units w)) counts ∙ lt-ltb 0 (events n units w) some
+
+-- the last change of the first wire of width 1 with events, or else of the first one of any width
+pub first_narrow : (n : Circuit) (units : ℕ) (wires : List ℕ) (c : WireChange) → last_of n (find (is_moving n units true) wires) ≡ Some c → Some c ≡ last_of n (first_wire n units wires)
+first_narrow n units wires c is = by (find (is_moving n units true) wires) is
+  where
+    by : (o : Option ℕ) → last_of n o ≡ Some c → Some c ≡ last_of n (option_or o (find (is_moving n units false) wires))
+    by None e = let no : ⊥ = cc in absurd no
+    by (Some w) e = sym e
+
+pub first_wide : (n : Circuit) (units : ℕ) (wires : List ℕ) → find (is_moving n units true) wires ≡ None → first_wire n units wires ≡ find (is_moving n units false) wires
+first_wide n units wires none = ap (λ o. option_or o (find (is_moving n units false) wires)) none
+
+-- a change in the run
+pub record IsWithin (n : Circuit) (c : WireChange) : Type 0 where
+  pub from : 0 < c.time
+  pub within : c.time < n.horizon
+
+pub last_within : (n : Circuit) (o : Option ℕ) (c : WireChange) → 1 ≤ n.horizon → Some c ≡ last_of n o → IsWithin n c
+last_within n None c low is = let no : ⊥ = cc in absurd no
+last_within n (Some w) c low is = let last = last_change_is n (record { 0 = w }) (last_unit n) c (sym is) in record { from = last.from; within = omega (arith, last.within, low) }
+
+-- ---- changes by their numbers
+
+abbrev pub key : WireChange → ℕ
+key c = c.time * 4294967296 + c.wire.0
+
+abbrev pub has_key : ℕ → List WireChange → Bool
+has_key k changes = list_any (λ (d : WireChange). k == key d) changes
+
+-- the numbers of two changes are the same where they are of the same wire at the same time
+pub same_key : (c d : WireChange) → c.wire.0 < 2 ^ 32 → d.wire.0 < 2 ^ 32 → (key c == key d) ≡ is_place c d
+same_key c d low other = by (cases_Bool (is_place c d))
+  where
+    by : (is_place c d ≡ true) ⊎ (is_place c d ≡ false) → (key c == key d) ≡ is_place c d
+    by (inl is) =
+        let parts = and_parts (c.wire.0 == d.wire.0) (c.time == d.time) is in
+        let wire = eqb-true c.wire.0 d.wire.0 parts.0 in
+        let time = eqb-true c.time d.time parts.1 in
+        eq-eqb (key c) (key d) (omega (arith, wire, time)) ∙ sym is
+    by (inr no) =
+        ne_eqb (key c) (key d) (λ same.
+        let wire : c.wire.0 ≡ d.wire.0 = omega (arith, same, low, other) in
+        let time : c.time ≡ d.time = omega (arith, same, low, other) in
+        let is : is_place c d ≡ true = ap (λ b. b && (c.time == d.time)) (eq-eqb c.wire.0 d.wire.0 wire) ∙ eq-eqb c.time d.time time in
+        let none : true ≡ false = sym is ∙ no in
+        cc)
+        ∙ sym no
+
+-- among changes whose wires have small numbers
+pub keyed : (c : WireChange) (changes : List WireChange) → c.wire.0 < 2 ^ 32 → All (λ (d : WireChange). d.wire.0 < 2 ^ 32) changes → has_key (key c) changes ≡ list_any (is_place c) changes
+keyed c [] low small = refl
+keyed c (d ∷ ds) low small =
+    ap (λ b. b || has_key (key c) ds) (same_key c d low (All-head (λ (e : WireChange). e.wire.0 < 2 ^ 32) d ds small))
+    ∙ ap (λ b. is_place c d || b) (keyed c ds low (All-tail (λ (e : WireChange). e.wire.0 < 2 ^ 32) d ds small))
+
+-- ---- from a change on
+
+pub from_few : (c : WireChange) (changes : List WireChange) → length (from_place c changes) ≤ length changes
+from_few c [] = omega arith
+from_few c (d ∷ ds) = by (is_place c d) (from_few c ds)
+  where
+    by : (b : Bool) → length (from_place c ds) ≤ length ds → length (cond b (d ∷ ds) (from_place c ds)) ≤ length (d ∷ ds)
+    by true rest = omega arith
+    by false rest = omega (arith, rest)
+
+pub from_all : (P : WireChange → Type 0) (c : WireChange) (changes : List WireChange) → All P changes → All P (from_place c changes)
+from_all P c [] all = all
+from_all P c (d ∷ ds) all = by (is_place c d) (from_all P c ds (All-tail P d ds all))
+  where
+    by : (b : Bool) → All P (from_place c ds) → All P (cond b (d ∷ ds) (from_place c ds))
+    by true rest = all
+    by false rest = rest
+
+pub from_here : (c d : WireChange) (ds : List WireChange) → is_place c d ≡ true → from_place c (d ∷ ds) ≡ d ∷ ds
+from_here c d ds is = ap (λ b. cond b (d ∷ ds) (from_place c ds)) is
+
+pub from_later : (c d : WireChange) (ds : List WireChange) → is_place c d ≡ false → from_place c (d ∷ ds) ≡ from_place c ds
+from_later c d ds is = ap (λ b. cond b (d ∷ ds) (from_place c ds)) is
+
+-- ---- round
+
+-- what is found on the way from a change on, behind others
+abbrev pub found_on : Circuit → ℕ → List WireChange → ℕ → Option WireChange → List WireChange
+found_on n units before count next = round_of before (way_from n units count next)
+
+pub found_out : (n : Circuit) (units : ℕ) (before : List WireChange) (count : ℕ) (next : Option WireChange) → count ≡ 0 → found_on n units before count next ≡ []
+found_out n units before count next none = ap (λ k. found_on n units before k next) none
+
+pub found_end : (n : Circuit) (units : ℕ) (before : List WireChange) (count : ℕ) → found_on n units before count None ≡ []
+found_end n units before zero = refl
+found_end n units before (suc count) = refl
+
+pub found_round : (n : Circuit) (units : ℕ) (before : List WireChange) (count : ℕ) (c : WireChange) → 0 < count → list_any (is_place c) before ≡ true → found_on n units before count (Some c) ≡ from_place c before
+found_round n units before zero c some found = absurd (omega (arith, some))
+found_round n units before (suc count) c some found = ap (λ b. cond b (from_place c before) (round_of (before ++ c ∷ []) (way_from n units count (behind n units c)))) found
+
+pub found_more : (n : Circuit) (units : ℕ) (before : List WireChange) (count rest : ℕ) (c : WireChange) → count ≡ suc rest → list_any (is_place c) before ≡ false
+    → found_on n units before count (Some c) ≡ found_on n units (before ++ c ∷ []) rest (behind n units c)
+found_more n units before count rest c more new =
+    ap (λ k. found_on n units before k (Some c)) more ∙ ap (λ b. cond b (from_place c before) (round_of (before ++ c ∷ []) (way_from n units rest (behind n units c)))) new
+
+pub cycle_is : (n : Circuit) (wires : List ℕ) (units : ℕ) (next : Option WireChange) → next ≡ last_of n (first_wire n units wires) → found_on n units [] 4294967295 next ≡ cycle n wires units
+unfolding cycle most_places
+cycle_is n wires units next is = ap (found_on n units [] 4294967295) is

@@ -1,0 +1,299 @@
+-- Which numbers of units can be a period: each is the time from an earlier change of a guide to its last one.
+use Rattle.std.proofs.Common.{◌≡◌, ℕ, ◌+◌, ◌-◌, ◌<◌, ◌≤◌, ◌==◌, ◌⊎◌, inl, inr, Bool, true, false, not, cond, List, [], ◌∷◌, ◌++◌, length, get_or, map, take, Option, Some, None, zero, suc, refl, ap, sym, subst, ◌∙◌, arith}
+use Rattle.std.specs.Prelude.{◌≢◌, ◌||◌, max, nat_le, unwrap_or}
+use Rattle.std.specs.List.{Contains, find, fold, list_all, range_with_len}
+use Rattle.std.proofs.lemmas.Bool.{cases_Bool, cases_lt, cases_eq, eq-eqb, ne_eqb, leb-true, leb-false, and_parts}
+use Rattle.std.proofs.lemmas.List.{map-append, take_more}
+use Rattle.mp_modules.specs.Histories.{has_event}
+use Rattle.mp_wave.specs.Waveform.{AreChanges, change_after, changes_after, last_time, level_from}
+use Rattle.mp_wave.proofs.WaveformLemmas.{last_time-append, level_from-rest, nat_le-false}
+use Rattle.mp_wave.proofs.ChangesLemmas.{AreChanges-changes_after, level_from-changes_after, last_time-changes_after}
+use Rattle.mp_records.specs.declared.ids.WireId.{WireId}
+use Rattle.mp_netlist.specs.Circuit.{Circuit}
+use Rattle.mp_netlist.specs.Drivers.{driver}
+use Rattle.mp_model.specs.Waves.{level}
+use Rattle.mp_questions.specs.timing.Events.{last_event, since}
+use Rattle.mp_questions.proofs.lemmas.causes.EventLemmas.{last_event_is, no_event_at}
+use Rattle.mp_steady.specs.WireSets.{has_wire, numbers}
+use Rattle.mp_steady.specs.Periods.{greatest, heard_from, is_again_by, is_over, last_change, last_set, last_unit, longest_delay, longest_input_delay, longest_period, period, repeats, repeats_from, start}
+use Rattle.mp_steady.proofs.SetLemmas.{greatest_bounds, repeats_level}
+
+-- ---- wires of a set
+
+pub has_number : (wires : List WireId) (w : WireId) → Contains wires w → has_wire (numbers wires) w.0 ≡ true
+has_number [] w has = absurd (omega (arith, has.1))
+has_number (v ∷ vs) w has = by has.0 has.1 has.2
+  where
+    by : (k : ℕ) → k < length (v ∷ vs) → get_or (v ∷ vs) k w ≡ w → has_wire (numbers (v ∷ vs)) w.0 ≡ true
+    by zero low is = ap (λ b. b || has_wire (numbers vs) w.0) (eq-eqb v.0 w.0 (ap (λ (x : WireId). x.0) is))
+    by (suc k) low is = rw (has_number vs w (k, omega (arith, low), is)) (or_true (v.0 == w.0))
+
+    or_true : (b : Bool) → (b || true) ≡ true
+    or_true true = refl
+    or_true false = refl
+
+fold_push : (xs : List ℕ) (a x : ℕ) → fold max a (xs ++ x ∷ []) ≡ max (fold max a xs) x
+fold_push [] a x = refl
+fold_push (y ∷ ys) a x = fold_push ys (max a y) x
+
+-- the greatest of one wire more
+pub greatest_more : (f : ℕ → ℕ) (wires : List WireId) (i : ℕ) (d : WireId) → i < length wires → greatest f (numbers (take (i + 1) wires)) ≡ max (greatest f (numbers (take i wires))) (f (get_or wires i d).0)
+greatest_more f wires i d low =
+    let more : numbers (take (i + 1) wires) ≡ numbers (take i wires) ++ (get_or wires i d).0 ∷ [] =
+    ap numbers (take_more wires i d low) ∙ map-append (λ (w : WireId). w.0) (take i wires) (get_or wires i d ∷ []) in
+    ap (greatest f) more ∙ ap (fold max 0) (map-append f (numbers (take i wires)) ((get_or wires i d).0 ∷ [])) ∙ fold_push (map f (numbers (take i wires))) 0 (f (get_or wires i d).0)
+
+-- ---- the changes of a level
+
+-- the time of the last change of a wave is that since which the level is what it is at the end
+pub last_since : (f : ℕ → ℕ) (t : ℕ) → last_time 0 (changes_after f 0 t) ≡ since f t
+last_since f zero = refl
+last_since f (suc t) =
+    let e : 0 + t ≡ t = omega arith in
+    ap (λ k. last_time 0 (changes_after f 0 t ++ change_after f k)) e ∙ last_time-append 0 (changes_after f 0 t) (change_after f t) ∙ by (f t == f (suc t)) (last_since f t)
+  where
+    by : (same : Bool) → last_time 0 (changes_after f 0 t) ≡ since f t
+        → last_time (last_time 0 (changes_after f 0 t)) (cond same [] ((suc t, f (suc t)) ∷ [])) ≡ unwrap_or (cond (not same) (Some (suc t)) (last_event f t)) 0
+    by true before = before
+    by false before = refl
+
+-- there it changes
+pub since_event : (f : ℕ → ℕ) (end last : ℕ) → since f end ≡ last → 0 < last → f (last - 1) ≢ f last
+since_event f end last is some = λ same. by same (last_event f end) refl
+  where
+    by : f (last - 1) ≡ f last → (o : Option ℕ) → last_event f end ≡ o → ⊥
+    by same None at = let none : since f end ≡ 0 = ap (λ o. unwrap_or o 0) at in omega (arith, none, is, some)
+    by same (Some u) at =
+        let here : u ≡ last = sym (ap (λ o. unwrap_or o 0) at) ∙ is in
+        let event : has_event f last ≡ true = subst (λ k. has_event f k ≡ true) here (last_event_is f end u at).event in
+        let none : has_event f last ≡ false = no_event_at f last same in
+        let no : true ≡ false = sym event ∙ none in
+        cc
+
+first_stays : (xs : List (ℕ × ℕ)) (v t : ℕ) (d : ℕ × ℕ) → (0 < length xs → t < (get_or xs 0 d).0) → level_from v xs t ≡ v
+first_stays [] v t d until = refl
+first_stays (x ∷ xs) v t d until = rw (nat_le-false x.0 t (until (omega arith))) refl
+
+later_at : (before v : ℕ) (xs : List (ℕ × ℕ)) (k : ℕ) (d : ℕ × ℕ) → AreChanges before v xs → k < length xs → before < (get_or xs k d).0
+later_at before v [] k d are low = absurd (omega (arith, low))
+later_at before v (x ∷ xs) zero d are low = are.0
+later_at before v (x ∷ xs) (suc k) d are low = omega (arith, are.0, later_at x.0 x.1 xs k d are.2 (omega (arith, low)))
+
+-- a change is later than those before it
+pub rises : (before v : ℕ) (xs : List (ℕ × ℕ)) (k j : ℕ) (d : ℕ × ℕ) → AreChanges before v xs → k < j → j < length xs → (get_or xs k d).0 < (get_or xs j d).0
+rises before v [] k j d are less low = absurd (omega (arith, low))
+rises before v (x ∷ xs) k zero d are less low = absurd (omega (arith, less))
+rises before v (x ∷ xs) zero (suc j) d are less low = later_at x.0 x.1 xs j d are.2 (omega (arith, low))
+rises before v (x ∷ xs) (suc k) (suc j) d are less low = rises x.0 x.1 xs k j d are.2 (omega (arith, less)) (omega (arith, low))
+
+-- the level between a change and the next one
+stays_at : (before v : ℕ) (xs : List (ℕ × ℕ)) (k t : ℕ) (d : ℕ × ℕ) → AreChanges before v xs → k < length xs → (get_or xs k d).0 ≤ t → (suc k < length xs → t < (get_or xs (suc k) d).0)
+    → level_from v xs t ≡ (get_or xs k d).1
+stays_at before v [] k t d are low from until = absurd (omega (arith, low))
+stays_at before v (x ∷ xs) zero t d are low from until = level_from-rest v t x xs from ∙ first_stays xs x.1 t d (λ more. until (omega (arith, more)))
+stays_at before v (x ∷ xs) (suc k) t d are low from until =
+    let later = later_at x.0 x.1 xs k d are.2 (omega (arith, low)) in
+    level_from-rest v t x xs (omega (arith, later, from)) ∙ stays_at x.0 x.1 xs k t d are.2 (omega (arith, low)) from (λ more. until (omega (arith, more)))
+
+last_place : (before v : ℕ) (xs : List (ℕ × ℕ)) (k : ℕ) (d : ℕ × ℕ) → length xs ≡ suc k → last_time before xs ≡ (get_or xs k d).0
+last_place before v [] k d long = absurd (omega (arith, long))
+last_place before v (x ∷ []) zero d long = refl
+last_place before v (x ∷ y ∷ ys) zero d long = absurd (omega (arith, long))
+last_place before v (x ∷ xs) (suc k) d long = last_place x.0 x.1 xs k d (omega (arith, long))
+
+-- ---- a number of units that a level repeats after
+
+module _ (f : ℕ → ℕ) (units heard last end : ℕ) (few : units ≤ heard) (late : heard < last) (within : last ≤ end) (again : (t : ℕ) → heard - units ≤ t → t ≤ end - units → f t ≡ f (t + units)) where
+  like_last : f (last - units) ≡ f last
+  like_last = let e : last - units + units ≡ last = omega (arith, few, late) in again (last - units) (omega (arith, few, late)) (omega (arith, within)) ∙ ap f e
+
+  like_before : f (last - units - 1) ≡ f (last - 1)
+  like_before =
+      let e : last - units - 1 + units ≡ last - 1 = omega (arith, few, late) in
+      again (last - units - 1) (omega (arith, few, late)) (omega (arith, within)) ∙ ap f e
+
+-- ---- a guide
+
+module _ (n : Circuit) (wires : List ℕ) (w : ℕ) (has : has_wire wires w ≡ true) (late : heard_from n wires < since (level n w) (last_unit n)) where
+  abbrev f : ℕ → ℕ
+  f = level n w
+
+  abbrev end : ℕ
+  end = last_unit n
+
+  abbrev pub xs : List (ℕ × ℕ)
+  xs = changes_after f 0 end
+
+  are : AreChanges 0 (f 0) xs
+  are = AreChanges-changes_after f 0 end
+
+  same : (t : ℕ) → t ≤ end → level_from (f 0) xs t ≡ f t
+  same t upto = level_from-changes_after f 0 end t (omega arith) (omega (arith, upto))
+
+  -- it has a change
+  pub some_changes : 0 < length xs
+  some_changes = by (length xs) refl
+    where
+      by : (k : ℕ) → length xs ≡ k → 0 < length xs
+      by zero none = absurd (no xs none (last_since f end))
+        where
+          no : (ys : List (ℕ × ℕ)) → length ys ≡ 0 → last_time 0 ys ≡ since f end → ⊥
+          no [] long is = omega (arith, is, late)
+          no (y ∷ ys) long is = omega (arith, long)
+      by (suc k) more = omega (arith, more)
+
+  module _ (last : ℕ) (long : length xs ≡ suc last) where
+    -- the time of the change at a place
+    abbrev pub at : ℕ → ℕ
+    at k = (get_or xs k (0, 0)).0
+
+    abbrev pub level_at : ℕ → ℕ
+    level_at k = (get_or xs k (0, 0)).1
+
+    time_is : since f end ≡ at last
+    time_is = sym (last_since f end) ∙ last_place 0 (f 0) xs last (0, 0) long
+
+    -- it is late
+    pub is_late : heard_from n wires < at last
+    is_late = subst (λ k. heard_from n wires < k) time_is late
+
+    in_run : at last ≤ end
+    in_run = let low = last_time-changes_after f 0 end in let is = last_since f end ∙ time_is in omega (arith, low, is)
+
+    place_in_run : (k : ℕ) → k ≤ last → at k ≤ at last
+    place_in_run k low = elim (cases_lt k last) as (λ _. at k ≤ at last) [
+      | inl less ↦ let up = rises 0 (f 0) xs k last (0, 0) are less (omega (arith, long)) in omega (arith, up)
+      | inr over ↦ let e : at k ≡ at last = ap at (let is : k ≡ last = omega (arith, low, over) in is) in omega (arith, e)
+    ]
+
+    stays : (k t : ℕ) → k ≤ last → at k ≤ t → t ≤ end → (suc k ≤ last → t < at (suc k)) → f t ≡ level_at k
+    stays k t low from upto until = sym (same t upto) ∙ stays_at 0 (f 0) xs k t (0, 0) are (omega (arith, low, long)) from (λ more. until (omega (arith, more, long)))
+
+    last_level : f (at last) ≡ level_at last
+    last_level = stays last (at last) (omega arith) (omega arith) in_run (λ more. absurd (omega (arith, more)))
+
+    module _ (units : ℕ) (some : 1 ≤ units) (few : units ≤ longest_period n wires) where
+      short : units ≤ heard_from n wires
+      short = omega (arith, few)
+
+      again : repeats n wires units ≡ true → (t : ℕ) → heard_from n wires - units ≤ t → t ≤ end - units → f t ≡ f (t + units)
+      unfolding repeats
+      again is t low high =
+          let parts = and_parts (nat_le (start n wires units) (heard_from n wires - units)) (list_all (λ v. is_again_by n wires units (driver n v)) wires) is in
+          let begun : start n wires units ≤ heard_from n wires - units = leb-true (start n wires units) (heard_from n wires - units) parts.0 in
+          let bound : repeats_from f units (end - units) ≤ start n wires units = greatest_bounds (λ v. repeats_from (level n v) units (end - units)) wires w has in
+          repeats_level f units (end - units) t (omega (arith, bound, begun, low)) high
+
+      refused : (repeats n wires units ≡ true → ⊥) → repeats n wires units ≡ false
+      refused no = elim (cases_Bool (repeats n wires units)) as (λ _. repeats n wires units ≡ false) [
+        | inl is ↦ absurd (no is)
+        | inr not_so ↦ not_so
+      ]
+
+      -- so many units before the last change the level is another one
+      pub other_level : (k : ℕ) → k ≤ last → at last - units ≡ at k → level_at k ≢ level_at last → repeats n wires units ≡ false
+      other_level k low here differs =
+          refused (λ is. differs (sym (stays k (at k) low (omega arith) (let up = place_in_run k low in let run = in_run in omega (arith, up, run)) (λ more. rises 0 (f 0) xs k (suc k) (0, 0) are (omega arith) (omega (arith, more, long))))
+          ∙ ap f (sym here) ∙ like_last f units (heard_from n wires) (at last) end short is_late in_run (again is) ∙ last_level))
+
+      -- there is no change so many units before the last one
+      no_change : f (at last - units) ≡ f (at last - units - 1) → repeats n wires units ≡ false
+      no_change still =
+          refused (λ is. since_event f end (at last) time_is (omega (arith, is_late))
+          (sym (like_before f units (heard_from n wires) (at last) end short is_late in_run (again is)) ∙ sym still ∙ like_last f units (heard_from n wires) (at last) end short is_late in_run (again is)))
+
+      -- that time lies between two changes
+      pub between_changes : (k : ℕ) → suc k ≤ last → at last - at (suc k) < units → units < at last - at k → repeats n wires units ≡ false
+      between_changes k low above below =
+          let late_enough = is_late in
+          let t : ℕ = at last - units in
+          let run = in_run in
+          let short_enough = short in
+          no_change (stays k t (omega (arith, low)) (omega (arith, below)) (omega (arith, run)) (λ more. omega (arith, above, late_enough, short_enough))
+          ∙ sym (stays k (t - 1) (omega (arith, low)) (omega (arith, below)) (omega (arith, run)) (λ more. omega (arith, above, late_enough, short_enough))))
+
+      -- that time lies before all changes
+      pub before_changes : at last - at 0 < units → repeats n wires units ≡ false
+      before_changes above =
+          let late_enough = is_late in
+          let t : ℕ = at last - units in
+          let run = in_run in
+          let short_enough = short in
+          let early : t < at 0 = omega (arith, above, late_enough, short_enough) in
+          no_change (sym (same t (omega (arith, run))) ∙ first_stays xs (f 0) t (0, 0) (λ more. early) ∙ sym (first_stays xs (f 0) (t - 1) (0, 0) (λ more. omega (arith, early)))
+          ∙ same (t - 1) (omega (arith, run)))
+
+    -- up to the time from the change at a place to the last one no number of units is a period
+    abbrev pub NoneUpto : ℕ → Type 0
+    NoneUpto k = (units : ℕ) → 1 ≤ units → units ≤ at last - at k → repeats n wires units ≡ false
+
+    pub none_at_last : NoneUpto last
+    none_at_last units some upto = absurd (omega (arith, some, upto))
+
+    -- up to before the time from the change at the place before
+    pub none_below : (k : ℕ) → suc k ≤ last → NoneUpto (suc k) → (units : ℕ) → 1 ≤ units → units ≤ longest_period n wires → units < at last - at k → repeats n wires units ≡ false
+    none_below k low none units some few below = elim (cases_lt (at last - at (suc k)) units) as (λ _. repeats n wires units ≡ false) [
+      | inl above ↦ between_changes units some few k low above below
+      | inr upto ↦ none units some upto
+    ]
+
+    pub none_upto : (k : ℕ) → suc k ≤ last → NoneUpto (suc k) → at last - at k ≤ longest_period n wires → repeats n wires (at last - at k) ≡ false → NoneUpto k
+    none_upto k low none few here units some upto = elim (cases_lt units (at last - at k)) as (λ _. repeats n wires units ≡ false) [
+      | inl below ↦ none_below k low none units some (omega (arith, few, below)) below
+      | inr over ↦ let is : at last - at k ≡ units = omega (arith, over, upto) in subst (λ u. repeats n wires u ≡ false) is here
+    ]
+
+    pub none_at_all : NoneUpto 0 → (units : ℕ) → 1 ≤ units → units ≤ longest_period n wires → repeats n wires units ≡ false
+    none_at_all none units some few = elim (cases_lt (at last - at 0) units) as (λ _. repeats n wires units ≡ false) [
+      | inl above ↦ before_changes units some few above
+      | inr upto ↦ none units some upto
+    ]
+
+-- ---- the least period
+
+find_none : (p : ℕ → Bool) (a k : ℕ) → ((u : ℕ) → a ≤ u → u < a + k → p u ≡ false) → find p (range_with_len a k) ≡ None
+find_none p a zero none = refl
+find_none p a (suc k) none =
+    ap (λ b. cond b (Some a) (find p (range_with_len (a + 1) k))) (none a (omega arith) (omega arith)) ∙ find_none p (a + 1) k (λ u low high. none u (omega (arith, low)) (omega (arith, high)))
+
+find_least : (p : ℕ → Bool) (a k u : ℕ) → a ≤ u → u < a + k → p u ≡ true → ((v : ℕ) → a ≤ v → v < u → p v ≡ false) → find p (range_with_len a k) ≡ Some u
+find_least p a zero u low high is none = absurd (omega (arith, low, high))
+find_least p a (suc k) u low high is none = by (cases_lt a u) (λ past. find_least p (a + 1) k u past (omega (arith, high)) is (λ v first below. none v (omega (arith, first)) below))
+  where
+    by : (a < u) ⊎ (u ≤ a) → (a + 1 ≤ u → find p (range_with_len (a + 1) k) ≡ Some u) → find p (range_with_len a (suc k)) ≡ Some u
+    by (inl past) rest = ap (λ b. cond b (Some a) (find p (range_with_len (a + 1) k))) (none a (omega arith) past) ∙ rest (omega (arith, past))
+    by (inr here) rest =
+        let e : a ≡ u = omega (arith, low, here) in
+        ap (λ b. cond b (Some a) (find p (range_with_len (a + 1) k))) (ap p e ∙ is) ∙ ap (λ k. let o : Option ℕ = Some k in o) e
+
+pub no_period : (n : Circuit) (wires : List ℕ) → ((units : ℕ) → 1 ≤ units → units ≤ longest_period n wires → repeats n wires units ≡ false) → None ≡ period n wires
+unfolding period
+no_period n wires none = sym (find_none (repeats n wires) 1 (longest_period n wires) (λ u low high. none u low (omega (arith, high))))
+
+pub a_period : (n : Circuit) (wires : List ℕ) (units : ℕ) → 1 ≤ units → units ≤ longest_period n wires → repeats n wires units ≡ true → ((v : ℕ) → 1 ≤ v → v < units → repeats n wires v ≡ false)
+    → Some units ≡ period n wires
+unfolding period
+a_period n wires units some few is none = sym (find_least (repeats n wires) 1 (longest_period n wires) units some (omega (arith, few)) is none)
+
+zero_longest : (end d e last set : ℕ) → last ≤ end - d - e → end < last + (d + e) → end - d - e - set ≡ 0
+zero_longest end d e last set low high = omega (arith, low, high)
+
+-- without a guide there is none
+pub no_guide : (n : Circuit) (wires : List ℕ) → is_over n wires ≡ false → last_change n wires ≤ heard_from n wires → None ≡ period n wires
+no_guide n wires moving low =
+    let far = leb-false (last_change n wires + (longest_delay n wires + longest_input_delay n wires)) (last_unit n) moving in
+    let none = zero_longest (last_unit n) (longest_delay n wires) (longest_input_delay n wires) (last_change n wires) (last_set n wires) low far in
+    no_period n wires (λ units some few. absurd (omega (arith, some, few, none)))
+
+-- what is known of a period
+pub period_is : (n : Circuit) (wires : List ℕ) (units : ℕ) → period n wires ≡ Some units → (1 ≤ units) × (units ≤ longest_period n wires)
+unfolding period
+period_is n wires units is = let found = found_within (repeats n wires) 1 (longest_period n wires) units is in (found.0, omega (arith, found.1))
+  where
+    found_within : (p : ℕ → Bool) (a k u : ℕ) → find p (range_with_len a k) ≡ Some u → (a ≤ u) × (u < a + k)
+    found_within p a zero u e = let no : ⊥ = cc in absurd no
+    found_within p a (suc k) u e = by (p a) e (found_within p (a + 1) k u)
+      where
+        by : (b : Bool) → cond b (Some a) (find p (range_with_len (a + 1) k)) ≡ Some u → (find p (range_with_len (a + 1) k) ≡ Some u → (a + 1 ≤ u) × (u < a + 1 + k)) → (a ≤ u) × (u < a + suc k)
+        by true same rest = let here : a ≡ u = cc in (omega (arith, here), omega (arith, here))
+        by false same rest = let later = rest same in (omega (arith, later.0), omega (arith, later.1))
