@@ -134,7 +134,7 @@ reached_more n marks order wire are low new is = record {
   listed = λ w. listed w (cases_eq w wire.0);
   once =
       (let change = sum_by-set (λ (mark : Bool). cond mark 1 0) marks wire.0 true false low in
-      let before : cond (get_or marks wire.0 false) 1 0 ≡ 0 = ap (λ b. cond b 1 0) new in
+      let before : ◌≡◌ {A = ℕ} (cond (get_or marks wire.0 false) 1 0) 0 = ap (λ b. let k : ℕ = cond b 1 0 in k) new in
       omega (arith, change, before, length_push order wire, are.once));
   needed = λ w has. needed w (or_cases (has_wire (numbers order) w) (wire.0 == w) (sym (has_push order wire w) ∙ has));
 }
