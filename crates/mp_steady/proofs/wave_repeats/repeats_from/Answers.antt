@@ -15,6 +15,17 @@ loop-late-init c =
       rest = refl;
     }
 
+pub overflow_add-from : goal.overflow_add-from
+overflow_add-from c =
+    let wave = c.args.wave.now in
+    let kept = c.loop-late.invariant in
+    let late = changes_in c.loop-late.late in
+    let early = changes_in c.loop-late.early in
+    let level : last_from wave.initial late ≡ last_from wave.initial early = sym c.level_after.ensures ∙ c.loop-late-test.true ∙ c.level_after-in-loop-late.ensures in
+    let is : c.max-from.result ≡ max (last_time 0 late - c.args.units) (last_time 0 early) = omega (arith, c.max-from.ensures, c.saturating_sub-late_from.ensures, c.time_of.ensures, c.time_of-in-loop-late.ensures) in
+    let back = same_from wave c.args.units c.loop-late.last c.max-from.result late early c.requires.form kept.late kept.early level is in
+    omega (arith, back.low, kept.low, c.requires.short)
+
 pub before-late-requires : goal.before-late-requires
 before-late-requires c = omega (arith, c.time_of.ensures, c.saturating_sub-late_from.ensures, c.max-from.ensures)
 

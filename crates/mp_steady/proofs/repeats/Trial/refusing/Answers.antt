@@ -6,12 +6,16 @@ use Rattle.std.proofs.lemmas.List.Folds.{list_all-append}
 use Rattle.mp_records.specs.declared.ids.WireId.{WireId}
 use Rattle.mp_steady.specs.Periods.{heard_from}
 use Rattle.mp_steady.specs.WireSets.{numbers}
+use Rattle.mp_steady.proofs.ControlLemmas.{has_stands}
 use Rattle.mp_steady.proofs.ListLemmas.{has_at, numbers_more}
 use Rattle.mp_steady.proofs.TimesLemmas.{is_soon, start_late, start_soon}
 use Rattle.mp_steady.proofs.repeats.Trial.refusing.Goals as goal
 
 abbrev none : WireId
 none = record { 0 = 0 }
+
+pub is_level_again-requires-clause-stands : goal.is_level_again-requires-clause-stands
+is_level_again-requires-clause-stands c = let trial = c.args.self.now in has_stands trial.set.of.netlist.now trial.set.wires.now trial.suspect.0 trial.set.stand trial.one_of_them
 
 pub returns-then-not-is_level_again : goal.returns-then-not-is_level_again
 returns-then-not-is_level_again c =
