@@ -112,62 +112,59 @@ module _ (f : ℕ → ℕ) (units heard last end : ℕ) (few : units ≤ heard) 
       let e : last - units - 1 + units ≡ last - 1 = omega (arith, few, late) in
       again (last - units - 1) (omega (arith, few, late)) (omega (arith, within)) ∙ ap f e
 
--- ---- a guide
+-- ---- a guide, with its changes
 
-module _ (n : Circuit) (wires : List ℕ) (w : ℕ) (has : has_wire wires w ≡ true) (late : heard_from n wires < since (level n w) (last_unit n)) where
+module _ (n : Circuit) (wires : List ℕ) (w : ℕ) (has : has_wire wires w ≡ true) (late : heard_from n wires < since (level n w) (last_unit n)) (changes : List (ℕ × ℕ))
+    (is : changes ≡ changes_after (level n w) 0 (last_unit n)) where
   abbrev f : ℕ → ℕ
   f = level n w
 
   abbrev end : ℕ
   end = last_unit n
 
-  abbrev pub xs : List (ℕ × ℕ)
-  xs = changes_after f 0 end
+  are : AreChanges 0 (f 0) changes
+  are = subst (AreChanges 0 (f 0)) (sym is) (AreChanges-changes_after f 0 end)
 
-  are : AreChanges 0 (f 0) xs
-  are = AreChanges-changes_after f 0 end
+  same : (t : ℕ) → t ≤ end → level_from (f 0) changes t ≡ f t
+  same t upto = ap (λ ys. level_from (f 0) ys t) is ∙ level_from-changes_after f 0 end t (omega arith) (omega (arith, upto))
 
-  same : (t : ℕ) → t ≤ end → level_from (f 0) xs t ≡ f t
-  same t upto = level_from-changes_after f 0 end t (omega arith) (omega (arith, upto))
+  last_is : last_time 0 changes ≡ since f end
+  last_is = ap (last_time 0) is ∙ last_since f end
 
-  -- it has a change
-  pub some_changes : 0 < length xs
-  some_changes = by (length xs) refl
+  -- there is one
+  pub some_changes : 0 < length changes
+  some_changes = by changes last_is
     where
-      by : (k : ℕ) → length xs ≡ k → 0 < length xs
-      by zero none = absurd (no xs none (last_since f end))
-        where
-          no : (ys : List (ℕ × ℕ)) → length ys ≡ 0 → last_time 0 ys ≡ since f end → ⊥
-          no [] long is = omega (arith, is, late)
-          no (y ∷ ys) long is = omega (arith, long)
-      by (suc k) more = omega (arith, more)
+      by : (ys : List (ℕ × ℕ)) → last_time 0 ys ≡ since f end → 0 < length ys
+      by [] e = let none : since f end ≡ 0 = sym e in absurd (omega (arith, none, late))
+      by (y ∷ ys) e = omega arith
 
-  module _ (last : ℕ) (long : length xs ≡ suc last) where
+  module _ (last : ℕ) (long : length changes ≡ suc last) where
     -- the time of the change at a place
     abbrev pub at : ℕ → ℕ
-    at k = (get_or xs k (0, 0)).0
+    at k = (get_or changes k (0, 0)).0
 
     abbrev pub level_at : ℕ → ℕ
-    level_at k = (get_or xs k (0, 0)).1
+    level_at k = (get_or changes k (0, 0)).1
 
     time_is : since f end ≡ at last
-    time_is = sym (last_since f end) ∙ last_place 0 (f 0) xs last (0, 0) long
+    time_is = sym last_is ∙ last_place 0 (f 0) changes last (0, 0) long
 
     -- it is late
     pub is_late : heard_from n wires < at last
     is_late = subst (λ k. heard_from n wires < k) time_is late
 
     in_run : at last ≤ end
-    in_run = let low = last_time-changes_after f 0 end in let is = last_since f end ∙ time_is in omega (arith, low, is)
+    in_run = let low = last_time-changes_after f 0 end in let e = last_since f end ∙ time_is in omega (arith, low, e)
 
     place_in_run : (k : ℕ) → k ≤ last → at k ≤ at last
     place_in_run k low = elim (cases_lt k last) as (λ _. at k ≤ at last) [
-      | inl less ↦ let up = rises 0 (f 0) xs k last (0, 0) are less (omega (arith, long)) in omega (arith, up)
-      | inr over ↦ let e : at k ≡ at last = ap at (let is : k ≡ last = omega (arith, low, over) in is) in omega (arith, e)
+      | inl less ↦ let up = rises 0 (f 0) changes k last (0, 0) are less (omega (arith, long)) in omega (arith, up)
+      | inr over ↦ let here : k ≡ last = omega (arith, low, over) in let e : at k ≡ at last = ap at here in omega (arith, e)
     ]
 
     stays : (k t : ℕ) → k ≤ last → at k ≤ t → t ≤ end → (suc k ≤ last → t < at (suc k)) → f t ≡ level_at k
-    stays k t low from upto until = sym (same t upto) ∙ stays_at 0 (f 0) xs k t (0, 0) are (omega (arith, low, long)) from (λ more. until (omega (arith, more, long)))
+    stays k t low from upto until = sym (same t upto) ∙ stays_at 0 (f 0) changes k t (0, 0) are (omega (arith, low, long)) from (λ more. until (omega (arith, more, long)))
 
     last_level : f (at last) ≡ level_at last
     last_level = stays last (at last) (omega arith) (omega arith) in_run (λ more. absurd (omega (arith, more)))
@@ -193,7 +190,7 @@ module _ (n : Circuit) (wires : List ℕ) (w : ℕ) (has : has_wire wires w ≡ 
       -- so many units before the last change the level is another one
       pub other_level : (k : ℕ) → k ≤ last → at last - units ≡ at k → level_at k ≢ level_at last → repeats n wires units ≡ false
       other_level k low here differs =
-          refused (λ is. differs (sym (stays k (at k) low (omega arith) (let up = place_in_run k low in let run = in_run in omega (arith, up, run)) (λ more. rises 0 (f 0) xs k (suc k) (0, 0) are (omega arith) (omega (arith, more, long))))
+          refused (λ is. differs (sym (stays k (at k) low (omega arith) (let up = place_in_run k low in let run = in_run in omega (arith, up, run)) (λ more. rises 0 (f 0) changes k (suc k) (0, 0) are (omega arith) (omega (arith, more, long))))
           ∙ ap f (sym here) ∙ like_last f units (heard_from n wires) (at last) end short is_late in_run (again is) ∙ last_level))
 
       -- there is no change so many units before the last one
@@ -220,7 +217,7 @@ module _ (n : Circuit) (wires : List ℕ) (w : ℕ) (has : has_wire wires w ≡ 
           let run = in_run in
           let short_enough = short in
           let early : t < at 0 = omega (arith, above, late_enough, short_enough) in
-          no_change (sym (same t (omega (arith, run))) ∙ first_stays xs (f 0) t (0, 0) (λ more. early) ∙ sym (first_stays xs (f 0) (t - 1) (0, 0) (λ more. omega (arith, early)))
+          no_change (sym (same t (omega (arith, run))) ∙ first_stays changes (f 0) t (0, 0) (λ more. early) ∙ sym (first_stays changes (f 0) (t - 1) (0, 0) (λ more. omega (arith, early)))
           ∙ same (t - 1) (omega (arith, run)))
 
     -- up to the time from the change at a place to the last one no number of units is a period
