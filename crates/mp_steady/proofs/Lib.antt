@@ -1,5 +1,8 @@
 pub mod SetLemmas
 pub mod WaveRepeatLemmas
+pub mod ListLemmas
+pub mod ControlLemmas
+pub mod TimesLemmas
 pub mod PeriodLemmas
 pub mod CycleLemmas
 pub mod StateLemmas

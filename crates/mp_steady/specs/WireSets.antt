@@ -41,9 +41,13 @@ numbers wires = map (λ (w : WireId). w.0) wires
 abbrev pub has_wire : List ℕ → ℕ → Bool
 has_wire wires w = list_any (λ v. v == w) wires
 
+-- what a wire depends on is among these
+abbrev pub has_inputs : Circuit → List ℕ → ℕ → Bool
+has_inputs n wires w = list_all (λ (i : Input). has_wire wires i.wire.0) (wire_inputs n w)
+
 -- with each wire of a whole set, the wires that it depends on are in it
 abbrev pub is_whole : Circuit → List ℕ → Bool
-is_whole n wires = list_all (λ w. list_all (λ (i : Input). has_wire wires i.wire.0) (wire_inputs n w)) wires
+is_whole n wires = list_all (has_inputs n wires) wires
 
 -- the numbers of all wires
 abbrev pub all_wires : Circuit → List ℕ
