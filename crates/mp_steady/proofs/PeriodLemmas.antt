@@ -1,9 +1,8 @@
 -- Which numbers of units can be a period: each is the time from an earlier change of a guide to its last one.
-use Rattle.std.proofs.Common.{◌≡◌, ℕ, ◌+◌, ◌-◌, ◌<◌, ◌≤◌, ◌==◌, ◌⊎◌, inl, inr, Bool, true, false, not, cond, List, [], ◌∷◌, ◌++◌, length, get_or, map, take, Option, Some, None, zero, suc, refl, ap, sym, subst, ◌∙◌, arith}
-use Rattle.std.specs.Prelude.{◌≢◌, ◌||◌, max, nat_le, unwrap_or}
-use Rattle.std.specs.List.{Contains, find, fold, list_all, range_with_len}
+use Rattle.std.proofs.Common.{◌≡◌, ℕ, ◌+◌, ◌-◌, ◌<◌, ◌≤◌, ◌==◌, ◌⊎◌, inl, inr, Bool, true, false, not, cond, List, [], ◌∷◌, ◌++◌, length, get_or, Option, Some, None, zero, suc, refl, ap, sym, subst, ◌∙◌, arith}
+use Rattle.std.specs.Prelude.{◌≢◌, ◌||◌, nat_le, unwrap_or}
+use Rattle.std.specs.List.{Contains, find, list_all, range_with_len}
 use Rattle.std.proofs.lemmas.Bool.{cases_Bool, cases_lt, cases_eq, eq-eqb, ne_eqb, leb-true, leb-false, and_parts}
-use Rattle.std.proofs.lemmas.List.{map-append, take_more}
 use Rattle.mp_modules.specs.Histories.{has_event}
 use Rattle.mp_wave.specs.Waveform.{AreChanges, change_after, changes_after, last_time, level_from}
 use Rattle.mp_wave.proofs.WaveformLemmas.{last_time-append, level_from-rest, nat_le-false}
@@ -15,7 +14,7 @@ use Rattle.mp_model.specs.Waves.{level}
 use Rattle.mp_questions.specs.timing.Events.{last_event, since}
 use Rattle.mp_questions.proofs.lemmas.causes.EventLemmas.{last_event_is, no_event_at}
 use Rattle.mp_steady.specs.WireSets.{has_wire, numbers}
-use Rattle.mp_steady.specs.Periods.{greatest, heard_from, is_again_by, is_over, last_change, last_set, last_unit, longest_delay, longest_input_delay, longest_period, period, repeats, repeats_from, start}
+use Rattle.mp_steady.specs.Periods.{heard_from, is_again_by, is_over, last_change, last_set, last_unit, longest_delay, longest_input_delay, longest_period, period, repeats, repeats_from, start}
 use Rattle.mp_steady.proofs.SetLemmas.{greatest_bounds, repeats_level}
 
 -- ---- wires of a set
@@ -31,17 +30,6 @@ has_number (v ∷ vs) w has = by has.0 has.1 has.2
     or_true : (b : Bool) → (b || true) ≡ true
     or_true true = refl
     or_true false = refl
-
-fold_push : (xs : List ℕ) (a x : ℕ) → fold max a (xs ++ x ∷ []) ≡ max (fold max a xs) x
-fold_push [] a x = refl
-fold_push (y ∷ ys) a x = fold_push ys (max a y) x
-
--- the greatest of one wire more
-pub greatest_more : (f : ℕ → ℕ) (wires : List WireId) (i : ℕ) (d : WireId) → i < length wires → greatest f (numbers (take (i + 1) wires)) ≡ max (greatest f (numbers (take i wires))) (f (get_or wires i d).0)
-greatest_more f wires i d low =
-    let more : numbers (take (i + 1) wires) ≡ numbers (take i wires) ++ (get_or wires i d).0 ∷ [] =
-    ap numbers (take_more wires i d low) ∙ map-append (λ (w : WireId). w.0) (take i wires) (get_or wires i d ∷ []) in
-    ap (greatest f) more ∙ ap (fold max 0) (map-append f (numbers (take i wires)) ((get_or wires i d).0 ∷ [])) ∙ fold_push (map f (numbers (take i wires))) 0 (f (get_or wires i d).0)
 
 -- ---- the changes of a level
 
