@@ -1,11 +1,16 @@
 -- What is said of a set of wires, and of what comes behind it.
-use Rattle.std.proofs.Common.{◌≡◌, ℕ, Bool, true, false, not, cond, List, [], ◌∷◌, ◌++◌, append-nil, Option, Some, None, is_some, refl, ap, sym, subst, ◌∙◌}
+use Rattle.std.proofs.Common.{◌≡◌, ℕ, Bool, true, false, not, cond, List, [], ◌∷◌, ◌++◌, append-nil, filter, slice_get, Option, Some, None, is_some, refl, ap, sym, subst, ◌∙◌}
 use Rattle.std.specs.Prelude.{◌||◌, codes}
 use Rattle.std.specs.List.{flat_map}
+use Rattle.std.proofs.lemmas.Option.{same_Some}
 use Rattle.mp_records.specs.declared.ids.WireId.{WireId}
 use Rattle.mp_netlist.specs.Circuit.{Circuit}
+use Rattle.mp_questions.specs.declared.causes.module_share.ModuleShare.{ModuleShare}
+use Rattle.mp_questions.specs.declared.causes.wire_change.WireChange.{WireChange}
+use Rattle.mp_questions.specs.causes.Shares.{by_units, has_steps, shares}
+use Rattle.mp_steady.specs.Cycles.{cycle_length}
 use Rattle.mp_steady.specs.Periods.{is_over, period}
-use Rattle.mp_steady.specs.SteadyLines.{control_text, events_line, none_text, over_text, repeats_text, set_text, steady_text, text_of}
+use Rattle.mp_steady.specs.SteadyLines.{control_text, cycle_line, cycle_text, events_line, module_line, none_text, over_text, repeats_text, set_text, steady_text, text_of}
 use Rattle.mp_steady.specs.WireSets.{all_wires, control, numbers}
 
 -- something is said of these wires
@@ -79,3 +84,17 @@ pub control_is : (n : Circuit) (over word wires : List ℕ) → over ≡ codes "
 control_is n over word [] first second some = absurd (some refl)
 control_is n over word (w ∷ ws) first second some =
     ap (λ x. text_of n x word (w ∷ ws) (none_text n (w ∷ ws))) first ∙ ap (λ x. text_of n (codes "control stands still after ") x (w ∷ ws) (none_text n (w ∷ ws))) second
+
+-- ---- the critical cycle
+
+pub no_critical : (n : Circuit) (found : List WireChange) → slice_get found 0 ≡ None → [] ≡ cycle_text n found
+no_critical n [] none = refl
+no_critical n (c ∷ cs) none = let no : ⊥ = cc in absurd no
+
+pub critical : (n : Circuit) (found : List WireChange) (first : WireChange) (units : ℕ) (list : List ModuleShare) → slice_get found 0 ≡ Some first → units ≡ cycle_length n found
+    → list ≡ by_units (filter has_steps (shares n found)) → cycle_line n first units ++ flat_map (module_line n) list ≡ cycle_text n found
+critical n [] first units list is long of = let no : ⊥ = cc in absurd no
+critical n (c ∷ cs) first units list is long of =
+    let same : c ≡ first = same_Some c first is in
+    ap (λ d. cycle_line n d units ++ flat_map (module_line n) list) (sym same) ∙ ap (λ u. cycle_line n c u ++ flat_map (module_line n) list) long
+    ∙ ap (λ l. cycle_line n c (cycle_length n (c ∷ cs)) ++ flat_map (module_line n) l) of
