@@ -237,6 +237,10 @@ pub found_more : (n : Circuit) (units : ℕ) (before : List WireChange) (count r
 found_more n units before count rest c more new =
     ap (λ k. found_on n units before k (Some c)) more ∙ ap (λ b. cond b (from_place c before) (round_of (before ++ c ∷ []) (way_from n units rest (behind n units c)))) new
 
-pub cycle_is : (n : Circuit) (wires : List ℕ) (units : ℕ) (next : Option WireChange) → next ≡ last_of n (first_wire n units wires) → found_on n units [] 4294967295 next ≡ cycle n wires units
-unfolding cycle most_places
-cycle_is n wires units next is = ap (found_on n units [] 4294967295) is
+pub cycle_is : (n : Circuit) (wires : List ℕ) (units : ℕ) (next : Option WireChange) → next ≡ last_of n (first_wire n units wires) → found_on n units [] (most_places - 0) next ≡ cycle n wires units
+unfolding cycle
+cycle_is n wires units next is = let e : most_places - 0 ≡ most_places = omega arith in ap (λ k. found_on n units [] k next) e ∙ ap (found_on n units [] most_places) is
+
+pub most_are : most_places ≡ 4294967295
+unfolding most_places
+most_are = refl

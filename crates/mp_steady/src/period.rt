@@ -95,7 +95,8 @@ fn least_distance(alloc: Global, mut trial: Trial<'_>) -> Result<Option<u32>, Al
     let longest = trial.times.longest_period();
     let changes = trial.set.wave_of(trial.suspect).changes();
     let last = changes.len() - 1;
-    let (time, level) = (changes.time_at(last), changes.level_at(last));
+    let time = changes.time_at(last);
+    let level = changes.level_at(last);
     for back in 0..last {
         let place = last - 1 - back;
         let units = time - changes.time_at(place);
@@ -105,7 +106,8 @@ fn least_distance(alloc: Global, mut trial: Trial<'_>) -> Result<Option<u32>, Al
         if changes.level_at(place) != level {
             continue;
         }
-        if trial.repeats(alloc, units)? {
+        let found = trial.repeats(alloc, units)?;
+        if found {
             return Ok(Some(units));
         }
     }
