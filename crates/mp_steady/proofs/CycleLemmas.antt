@@ -1,6 +1,6 @@
 -- Ways from cause to cause in the last period, and what comes round.
 use Rattle.std.proofs.Common.{◌≡◌, ℕ, ◌+◌, ◌*◌, ◌-◌, ◌%◌, ◌<◌, ◌≤◌, ◌^◌, ◌==◌, ◌⊎◌, inl, inr, Bool, true, false, not, cond, List, [], ◌∷◌, ◌++◌, length, drop, get_or, map, slice_get, Option, Some, None, option_map, zero, suc, refl, ap, sym, subst, ◌∙◌, arith}
-use Rattle.std.specs.Prelude.{◌||◌, ◌&&◌, nat_lt}
+use Rattle.std.specs.Prelude.{◌||◌, ◌&&◌, IfSome, nat_lt}
 use Rattle.std.specs.List.{All, find, list_any}
 use Rattle.std.specs.Option.{option_or}
 use Rattle.std.proofs.lemmas.Bool.{cases_Bool, cases_lt, eqb-true, eq-eqb, ne_eqb, lt-ltb, and_parts}
@@ -9,7 +9,7 @@ use Rattle.std.proofs.lemmas.List.Elements.{All-nil, All-cons, All-head, All-tai
 use Rattle.std.proofs.lemmas.Option.{same_Some}
 use Rattle.mp_wave.specs.Waveform.{AreChanges, between, changes_after, earlier_than, later_than}
 use Rattle.mp_wave.proofs.ChangesLemmas.{AreChanges-changes_after}
-use Rattle.mp_wave.proofs.PrefixLemmas.{all_later, none_earlier, nat_lt-true, nat_lt-false}
+use Rattle.mp_wave.proofs.PrefixLemmas.{all_later, nat_lt-true, nat_lt-false}
 use Rattle.mp_records.specs.declared.ids.WireId.{WireId}
 use Rattle.mp_netlist.specs.Circuit.{Circuit, IsCircuit}
 use Rattle.mp_model.specs.Waves.{level, wave}
@@ -35,7 +35,7 @@ last_cons x xs = let e : length (x ∷ xs) - 1 ≡ length xs = omega arith in ap
 -- without a last one there is none
 pub none_last : (xs : List (ℕ × ℕ)) → last_in xs ≡ None → length xs ≡ 0
 none_last [] none = refl
-none_last (x ∷ xs) none = let found = some_at x xs in let no : None ≡ Some found.0 = sym none ∙ last_cons x xs ∙ found.1 in cc
+none_last (x ∷ xs) none = let found = some_at x xs in let no = sym none ∙ last_cons x xs ∙ found.1 in cc
 
 pub some_last : (xs : List (ℕ × ℕ)) (x : ℕ × ℕ) → last_in xs ≡ Some x → 0 < length xs
 some_last [] x some = let no : ⊥ = cc in absurd no
@@ -125,6 +125,10 @@ pub record IsWithin (n : Circuit) (c : WireChange) : Type 0 where
 pub last_within : (n : Circuit) (o : Option ℕ) (c : WireChange) → 1 ≤ n.horizon → Some c ≡ last_of n o → IsWithin n c
 last_within n None c low is = let no : ⊥ = cc in absurd no
 last_within n (Some w) c low is = let last = last_change_is n (record { 0 = w }) (last_unit n) c (sym is) in record { from = last.from; within = omega (arith, last.within, low) }
+
+pub all_within : (n : Circuit) (o : Option ℕ) (next : Option WireChange) → 1 ≤ n.horizon → next ≡ last_of n o → IfSome next (IsWithin n)
+all_within n o None low is = tt
+all_within n o (Some c) low is = last_within n o c low is
 
 -- ---- one change behind another
 

@@ -23,13 +23,13 @@ pub has_number : (wires : List WireId) (w : WireId) → Contains wires w → has
 has_number [] w has = absurd (omega (arith, has.1))
 has_number (v ∷ vs) w has = by has.0 has.1 has.2
   where
-    by : (k : ℕ) → k < length (v ∷ vs) → get_or (v ∷ vs) k w ≡ w → has_wire (numbers (v ∷ vs)) w.0 ≡ true
-    by zero low is = ap (λ b. b || has_wire (numbers vs) w.0) (eq-eqb v.0 w.0 (ap (λ (x : WireId). x.0) is))
-    by (suc k) low is = rw (has_number vs w (k, omega (arith, low), is)) (or_true (v.0 == w.0))
-
     or_true : (b : Bool) → (b || true) ≡ true
     or_true true = refl
     or_true false = refl
+
+    by : (k : ℕ) → k < length (v ∷ vs) → get_or (v ∷ vs) k w ≡ w → has_wire (numbers (v ∷ vs)) w.0 ≡ true
+    by zero low is = ap (λ b. b || has_wire (numbers vs) w.0) (eq-eqb v.0 w.0 (ap (λ (x : WireId). x.0) is))
+    by (suc k) low is = ap (λ b. (v.0 == w.0) || b) (has_number vs w (k, omega (arith, low), is)) ∙ or_true (v.0 == w.0)
 
 -- ---- the changes of a level
 
