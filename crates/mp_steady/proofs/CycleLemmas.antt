@@ -101,7 +101,7 @@ not_moving n units narrow w none = ap (λ k. (not narrow || has_events n w) && n
     by false = refl
 
 pub not_counted : (n : Circuit) (units : ℕ) (narrow : Bool) (w : ℕ) → (not narrow || has_events n w) ≡ false → is_moving n units narrow w ≡ false
-not_counted n units narrow w no = ap (λ b. b && nat_lt 0 (events n units w)) no
+not_counted n units narrow w out = ap (λ b. b && nat_lt 0 (events n units w)) out
 
 pub moving : (n : Circuit) (units : ℕ) (narrow : Bool) (w : ℕ) → (not narrow || has_events n w) ≡ true → 0 < events n units w → is_moving n units narrow w ≡ true
 moving n units narrow w counts some = ap (λ b. b && nat_lt 0 (events n units w)) counts ∙ lt-ltb 0 (events n units w) some
@@ -179,14 +179,14 @@ same_key c d low other = by (cases_Bool (is_place c d))
         let wire = eqb-true c.wire.0 d.wire.0 parts.0 in
         let time = eqb-true c.time d.time parts.1 in
         eq-eqb (key c) (key d) (omega (arith, wire, time)) ∙ sym is
-    by (inr no) =
+    by (inr apart) =
         ne_eqb (key c) (key d) (λ same.
         let wire : c.wire.0 ≡ d.wire.0 = omega (arith, same, low, other) in
         let time : c.time ≡ d.time = omega (arith, same, low, other) in
         let is : is_place c d ≡ true = ap (λ b. b && (c.time == d.time)) (eq-eqb c.wire.0 d.wire.0 wire) ∙ eq-eqb c.time d.time time in
-        let none : true ≡ false = sym is ∙ no in
+        let none : true ≡ false = sym is ∙ apart in
         cc)
-        ∙ sym no
+        ∙ sym apart
 
 -- among changes whose wires have small numbers
 pub keyed : (c : WireChange) (changes : List WireChange) → c.wire.0 < 2 ^ 32 → All (λ (d : WireChange). d.wire.0 < 2 ^ 32) changes → has_key (key c) changes ≡ list_any (is_place c) changes

@@ -1,16 +1,16 @@
 -- Which numbers of units can be a period: each is the time from an earlier change of a guide to its last one.
 use Rattle.std.proofs.Common.{◌≡◌, ℕ, ◌+◌, ◌-◌, ◌<◌, ◌≤◌, ◌==◌, ◌⊎◌, inl, inr, Bool, true, false, not, cond, List, [], ◌∷◌, ◌++◌, length, get_or, Option, Some, None, zero, suc, refl, ap, sym, subst, ◌∙◌, arith}
-use Rattle.std.specs.Prelude.{◌≢◌, ◌||◌, nat_le, unwrap_or}
+use Rattle.std.specs.Prelude.{◌≢◌, ◌||◌, IfNone, IfSome, nat_le, unwrap_or}
 use Rattle.std.specs.List.{Contains, find, list_all, range_with_len}
 use Rattle.std.proofs.lemmas.Bool.{cases_Bool, cases_lt, cases_eq, eq-eqb, ne_eqb, leb-true, leb-false, and_parts}
 use Rattle.mp_modules.specs.Histories.{has_event}
-use Rattle.mp_wave.specs.Waveform.{AreChanges, change_after, changes_after, last_time, level_from}
+use Rattle.mp_wave.specs.Waveform.{AreChanges, Waveform, change_after, changes_after, last_time, level_from}
 use Rattle.mp_wave.proofs.WaveformLemmas.{last_time-append, level_from-rest, nat_le-false}
 use Rattle.mp_wave.proofs.ChangesLemmas.{AreChanges-changes_after, level_from-changes_after, last_time-changes_after}
 use Rattle.mp_records.specs.declared.ids.WireId.{WireId}
 use Rattle.mp_netlist.specs.Circuit.{Circuit}
 use Rattle.mp_netlist.specs.Drivers.{driver}
-use Rattle.mp_model.specs.Waves.{level}
+use Rattle.mp_model.specs.Waves.{level, wave}
 use Rattle.mp_questions.specs.timing.Events.{last_event, since}
 use Rattle.mp_questions.proofs.lemmas.causes.EventLemmas.{last_event_is, no_event_at}
 use Rattle.mp_steady.specs.WireSets.{has_wire, numbers}
@@ -19,17 +19,17 @@ use Rattle.mp_steady.proofs.SetLemmas.{greatest_bounds, repeats_level}
 
 -- ---- wires of a set
 
-pub has_number : (wires : List WireId) (w : WireId) → Contains wires w → has_wire (numbers wires) w.0 ≡ true
-has_number [] w has = absurd (omega (arith, has.1))
-has_number (v ∷ vs) w has = by has.0 has.1 has.2
-  where
-    or_true : (b : Bool) → (b || true) ≡ true
-    or_true true = refl
-    or_true false = refl
+or_true : (b : Bool) → (b || true) ≡ true
+or_true true = refl
+or_true false = refl
 
-    by : (k : ℕ) → k < length (v ∷ vs) → get_or (v ∷ vs) k w ≡ w → has_wire (numbers (v ∷ vs)) w.0 ≡ true
-    by zero low is = ap (λ b. b || has_wire (numbers vs) w.0) (eq-eqb v.0 w.0 (ap (λ (x : WireId). x.0) is))
-    by (suc k) low is = ap (λ b. (v.0 == w.0) || b) (has_number vs w (k, omega (arith, low), is)) ∙ or_true (v.0 == w.0)
+pub has_number : (wires : List WireId) (w : WireId) → Contains wires w → has_wire (numbers wires) w.0 ≡ true
+has_number wires w has = at wires has.0 has.1 has.2
+  where
+    at : (vs : List WireId) (k : ℕ) → k < length vs → get_or vs k w ≡ w → has_wire (numbers vs) w.0 ≡ true
+    at [] k low is = absurd (omega (arith, low))
+    at (v ∷ vs) zero low is = ap (λ b. b || has_wire (numbers vs) w.0) (eq-eqb v.0 w.0 (ap (λ (x : WireId). x.0) is))
+    at (v ∷ vs) (suc k) low is = ap (λ b. (v.0 == w.0) || b) (at vs k (omega (arith, low)) is) ∙ or_true (v.0 == w.0)
 
 -- ---- the changes of a level
 
@@ -44,6 +44,9 @@ last_since f (suc t) =
         → last_time (last_time 0 (changes_after f 0 t)) (cond same [] ((suc t, f (suc t)) ∷ [])) ≡ unwrap_or (cond (not same) (Some (suc t)) (last_event f t)) 0
     by true before = before
     by false before = refl
+
+pub late_is : (n : Circuit) (w : ℕ) (v : Waveform) (changes : List (ℕ × ℕ)) → changes ≡ v.changes → v ≡ wave n w → last_time 0 changes ≡ since (level n w) (last_unit n)
+late_is n w v changes are is = ap (last_time 0) are ∙ ap (λ (x : Waveform). last_time 0 x.changes) is ∙ last_since (level n w) (last_unit n)
 
 -- there it changes
 pub since_event : (f : ℕ → ℕ) (end last : ℕ) → since f end ≡ last → 0 < last → f (last - 1) ≢ f last
@@ -99,6 +102,16 @@ module _ (f : ℕ → ℕ) (units heard last end : ℕ) (few : units ≤ heard) 
   like_before =
       let e : last - units - 1 + units ≡ last - 1 = omega (arith, few, late) in
       again (last - units - 1) (omega (arith, few, late)) (omega (arith, within)) ∙ ap f e
+
+-- ---- one that was found, or another
+
+pub none_more : {X : Type 0} (o : Option X) (P Q : Type 0) → (P → Q) → IfNone o P → IfNone o Q
+none_more None P Q more none = more none
+none_more (Some x) P Q more none = tt
+
+pub chosen : {X : Type 0} (P : X → Type 0) (found : Option X) (other one : X) → (one ≡ other) ⊎ (found ≡ Some one) → P other → IfSome found P → P one
+chosen P found other one (inl is) here before = subst P (sym is) here
+chosen P found other one (inr is) here before = subst (λ o. IfSome o P) is before
 
 -- ---- a guide, with its changes and the place of the last one
 
@@ -170,8 +183,8 @@ module _ (n : Circuit) (wires : List ℕ) (w : ℕ) (changes : List (ℕ × ℕ)
         repeats_level f units (end - units) t (omega (arith, bound, begun, low)) high
 
     refused : (repeats n wires units ≡ true → ⊥) → repeats n wires units ≡ false
-    refused no = elim (cases_Bool (repeats n wires units)) as (λ _. repeats n wires units ≡ false) [
-      | inl is ↦ absurd (no is)
+    refused never = elim (cases_Bool (repeats n wires units)) as (λ _. repeats n wires units ≡ false) [
+      | inl is ↦ absurd (never is)
       | inr not_so ↦ not_so
     ]
 

@@ -102,12 +102,7 @@ fn is_state_again(
 }
 
 /// The state of a module at a time. One without memory has it from the levels that it hears then, so nothing before is run.
-fn state_at(
-    alloc: Global,
-    set: WireSet<'_>,
-    id: ModuleId,
-    time: u32,
-) -> Result<Memory, AllocError>
+fn state_at(alloc: Global, set: WireSet<'_>, id: ModuleId, time: u32) -> Result<Memory, AllocError>
     requires stands { IsSome (module_at set.of.netlist.now id.0) }
     requires within { time ≤ last_unit set.of.netlist.now }
     ensures { IfOk result (λ found. found ≡ state set.entry.of.netlist.now id.0 time) }
