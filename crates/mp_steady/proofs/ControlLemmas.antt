@@ -2,9 +2,9 @@
 use Rattle.std.proofs.Common.{◌≡◌, ℕ, ◌+◌, ◌-◌, ◌<◌, ◌≤◌, ◌==◌, ◌&&◌, ◌||◌, ◌⊎◌, inl, inr, Bool, true, false, cond, List, [], ◌∷◌, ◌++◌, length, map, filter, take, drop, set, replicate, get_or, slice_index_or, count_by, Contains, All, Option, Some, None, is_some, IsSome, zero, suc, refl, ap, sym, subst, ◌∙◌, mul-zero, arith}
 use Rattle.std.specs.List.{list_all, list_any, range_with_len}
 use Rattle.std.proofs.lemmas.Bool.{cases_Bool, cases_lt, cases_eq, and_parts, and_from, or_left, or_cases, eq-eqb, ne_eqb, eqb-true, false_from_ne_true, true≢false}
-use Rattle.std.proofs.lemmas.List.{get_or_default, get_or-map, length-map, length-append, take_all, take-append-le, map-append, map_push, get_or_append_left, get_or_past, get_or-set_same, get_or-set_other, length-set, length-replicate, length_push}
+use Rattle.std.proofs.lemmas.List.{get_or_default, length-append, take_all, take-append-le, map-append, map_push, get_or_append_left, get_or_past, get_or-set_same, get_or-set_other, length-set, length-replicate, length_push}
 use Rattle.std.proofs.lemmas.List.Elements.{filter_agree, All-nil, All-take, All-drop}
-use Rattle.std.proofs.lemmas.List.Folds.{list_all-append, list_any-append, list_any_at}
+use Rattle.std.proofs.lemmas.List.Folds.{list_all-append, list_any-append}
 use Rattle.std.proofs.lemmas.List.Sums.{count_by-le-length, sum_by-set, AllPass-from_list_all, list_all-from_AllPass}
 use Rattle.std.proofs.lemmas.List.Folds.{sum_by-replicate}
 use Rattle.mp_records.specs.declared.ids.WireId.{WireId}
@@ -19,7 +19,7 @@ use Rattle.mp_model.proofs.MemberLemmas.{contains_range, range_contains}
 use Rattle.mp_steady.specs.Reaching.{mark_at, IsNeeded, AreReached, HaveEvents, AreFollowed}
 use Rattle.mp_steady.specs.WireSets.{all_wires, control, has_control, has_events, has_inputs, has_wire, inputs_by, inputs_in, is_whole, numbers, passes_on, port_inputs, subsets, wire_inputs}
 use Rattle.mp_steady.proofs.SetLemmas.{of_wire}
-use Rattle.mp_steady.proofs.ListLemmas.{all_weaker, kept_all, kept_still, kept_twice, in_kept, in_wires, kept_passes, wire_in, subset_fails, numbers_more}
+use Rattle.mp_steady.proofs.ListLemmas.{all_weaker, has_at, kept_all, kept_still, kept_twice, in_kept, in_wires, kept_passes, wire_in, subset_fails, numbers_more}
 
 -- ---- wires that exist
 
@@ -162,10 +162,7 @@ has_grown old more new is w has =
 
 -- a wire at a place is needed
 pub listed_at : (n : Circuit) (marks : List Bool) (order : List WireId) → AreReached n marks order → (place : ℕ) (d : WireId) → place < length order → IsNeeded n (get_or order place d).0
-listed_at n marks order are place d low =
-    let w : ℕ = (get_or order place d).0 in
-    are.needed w
-    (list_any_at (λ v. v == w) (numbers order) place 0 (omega (arith, length-map order (λ (v : WireId). v.0), low)) (eq-eqb (get_or (numbers order) place 0) w (get_or-map (λ (v : WireId). v.0) order place d 0 low)))
+listed_at n marks order are place d low = are.needed (get_or order place d).0 (has_at order place d low)
 
 -- one wire more of width 1
 pub events_next : (n : Circuit) (k : ℕ) (old new : List WireId) → HaveEvents n k old → ((w : ℕ) → has_wire (numbers old) w ≡ true → has_wire (numbers new) w ≡ true) → (has_events n k ≡ true → has_wire (numbers new) k ≡ true)

@@ -2,9 +2,9 @@
 use Rattle.std.proofs.Common.{◌≡◌, ℕ, ◌+◌, ◌<◌, ◌≤◌, ◌==◌, ◌&&◌, ◌||◌, ◌⊎◌, inl, inr, Bool, true, false, not, cond, List, [], ◌∷◌, ◌++◌, length, map, max, filter, take, get_or, fold, Contains, zero, suc, refl, ap, sym, subst, ◌∙◌, nat_le, append-nil, arith}
 use Rattle.std.specs.List.{list_all, list_any, range_with_len}
 use Rattle.std.proofs.lemmas.Bool.{cases_Bool, cases_lt, and_parts, and_from, eq-eqb, eqb-true, false_from_ne_true, le-leb, lt-leb, true≢false}
-use Rattle.std.proofs.lemmas.List.{map_more, map_push}
+use Rattle.std.proofs.lemmas.List.{get_or-map, length-map, map_more, map_push}
 use Rattle.std.proofs.lemmas.List.Elements.{filter-append}
-use Rattle.std.proofs.lemmas.List.Folds.{list_all-append, list_all-map}
+use Rattle.std.proofs.lemmas.List.Folds.{list_all-append, list_all-map, list_any_at}
 use Rattle.std.proofs.lemmas.List.Sums.{fold_push}
 use Rattle.mp_records.specs.declared.ids.WireId.{WireId}
 use Rattle.mp_model.proofs.MemberLemmas.{any_passes, passes_any, contains_filter, filter_contains}
@@ -74,6 +74,12 @@ in_kept p wires w has keeps = in_wires (filter p wires) w (contains_filter p w w
 
 pub kept_passes : (p : ℕ → Bool) (wires : List ℕ) (w : ℕ) → has_wire (filter p wires) w ≡ true → p w ≡ true
 kept_passes p wires w has = filter_contains p w wires (wire_in (filter p wires) w has)
+
+-- the number at a place
+pub has_at : (wires : List WireId) (i : ℕ) (d : WireId) → i < length wires → has_wire (numbers wires) (get_or wires i d).0 ≡ true
+has_at wires i d low =
+    list_any_at (λ v. v == (get_or wires i d).0) (numbers wires) i 0 (omega (arith, length-map wires (λ (w : WireId). w.0), low))
+    (eq-eqb (get_or (numbers wires) i 0) (get_or wires i d).0 (get_or-map (λ (w : WireId). w.0) wires i d 0 low))
 
 -- ---- subsets
 

@@ -1,16 +1,14 @@
 -- The levels of a wire of a run, and since when they repeat.
-use Rattle.std.proofs.Common.{◌≡◌, ℕ, ◌+◌, ◌-◌, ◌<◌, ◌≤◌, ◌==◌, ◌⊎◌, inl, inr, Bool, true, false, cond, List, [], ◌∷◌, length, max, map, Contains, get_or, slice_index_or, nat_le, zero, suc, refl, ap, sym, subst, ◌∙◌, arith}
+use Rattle.std.proofs.Common.{◌≡◌, ℕ, ◌+◌, ◌-◌, ◌<◌, ◌≤◌, ◌==◌, ◌⊎◌, inl, inr, Bool, true, false, cond, List, [], ◌∷◌, max, nat_le, zero, suc, refl, ap, sym, subst, ◌∙◌, arith}
 use Rattle.std.specs.List.{list_all}
-use Rattle.std.proofs.lemmas.Bool.{cases_lt, le-leb, lt-leb}
-use Rattle.std.proofs.lemmas.List.{length-map}
-use Rattle.std.proofs.lemmas.List.Folds.{list_all-map, list_all_at}
+use Rattle.std.proofs.lemmas.Bool.{cases_lt, false_from_ne_true, le-leb, lt-leb, true≢false}
 use Rattle.mp_wave.specs.Waveform.{IsWaveform, Waveform, level_of}
 use Rattle.mp_wave.proofs.ChangesLemmas.{form_of_wave, levels_of_wave}
-use Rattle.mp_records.specs.declared.ids.WireId.{WireId}
 use Rattle.mp_netlist.specs.Circuit.{Circuit}
 use Rattle.mp_model.specs.Waves.{level, wave}
 use Rattle.mp_steady.specs.Periods.{last_unit, repeats_from, start}
-use Rattle.mp_steady.specs.WireSets.{numbers}
+use Rattle.mp_steady.specs.WireSets.{has_wire}
+use Rattle.mp_steady.proofs.SetLemmas.{of_wire}
 use Rattle.mp_steady.proofs.ListLemmas.{greatest_within}
 
 repeats_alike : (f g : ℕ → ℕ) (units upto : ℕ) → ((t : ℕ) → t ≤ upto + units → f t ≡ g t) → repeats_from f units upto ≡ repeats_from g units upto
@@ -43,15 +41,12 @@ later_within a b = by (cases_lt b a)
 abbrev pub is_soon : Circuit → ℕ → ℕ → ℕ → Bool
 is_soon n units most w = nat_le (repeats_from (level n w) units (last_unit n - units)) most
 
-start_is : (n : Circuit) (wires : List WireId) (units most : ℕ) → nat_le (start n (numbers wires) units) most ≡ list_all (λ (w : WireId). is_soon n units most w.0) wires
-start_is n wires units most =
-    greatest_within (λ w. repeats_from (level n w) units (last_unit n - units)) (numbers wires) most ∙ list_all-map (is_soon n units most) (λ (w : WireId). w.0) wires
-
 -- one wire refuses
-pub start_late : (n : Circuit) (wires : List WireId) (units most : ℕ) (w : WireId) → Contains wires w → is_soon n units most w.0 ≡ false → nat_le (start n (numbers wires) units) most ≡ false
-start_late n wires units most w in' late =
-    start_is n wires units most ∙ list_all_at (λ (v : WireId). is_soon n units most v.0) wires in'.0 w in'.1 (ap (λ (v : WireId). is_soon n units most v.0) in'.2 ∙ late)
+pub start_late : (n : Circuit) (wires : List ℕ) (units most w : ℕ) → has_wire wires w ≡ true → is_soon n units most w ≡ false → nat_le (start n wires units) most ≡ false
+start_late n wires units most w has late =
+    false_from_ne_true (nat_le (start n wires units) most) (λ all.
+    true≢false (sym (of_wire (is_soon n units most) wires w (sym (greatest_within (λ v. repeats_from (level n v) units (last_unit n - units)) wires most) ∙ all) has) ∙ late))
 
 -- none refuses
-pub start_soon : (n : Circuit) (wires : List WireId) (units most : ℕ) → list_all (λ (w : WireId). is_soon n units most w.0) wires ≡ true → nat_le (start n (numbers wires) units) most ≡ true
-start_soon n wires units most all = start_is n wires units most ∙ all
+pub start_soon : (n : Circuit) (wires : List ℕ) (units most : ℕ) → list_all (is_soon n units most) wires ≡ true → nat_le (start n wires units) most ≡ true
+start_soon n wires units most all = greatest_within (λ v. repeats_from (level n v) units (last_unit n - units)) wires most ∙ all

@@ -72,7 +72,7 @@ impl RunTimes {
 
     /// Whether nothing is on its way any more.
     pub(crate) fn is_over(self) -> bool
-        ensures { (n : Circuit) (wires : List ℕ) → AreTimes n wires self.entry → result ≡ is_over n wires }
+        ensures { (n : Circuit) (wires : List ℕ) → AreTimes n wires self → result ≡ is_over n wires }
     {
         let delays = u64::from(self.longest_delay) + u64::from(self.longest_input_delay);
         u64::from(self.last_change) + delays <= u64::from(self.end)
@@ -80,21 +80,21 @@ impl RunTimes {
 
     /// The last unit of which the wires tell, up to the last unit, what the modules gave.
     pub(crate) fn told_until(self) -> u32
-        ensures { (n : Circuit) (wires : List ℕ) → AreTimes n wires self.entry → result ≡ told_until n wires }
+        ensures { (n : Circuit) (wires : List ℕ) → AreTimes n wires self → result ≡ told_until n wires }
     {
         self.end.saturating_sub(self.longest_delay)
     }
 
     /// The first unit that the modules may still hear at that time.
     pub(crate) fn heard_from(self) -> u32
-        ensures { (n : Circuit) (wires : List ℕ) → AreTimes n wires self.entry → result ≡ heard_from n wires }
+        ensures { (n : Circuit) (wires : List ℕ) → AreTimes n wires self → result ≡ heard_from n wires }
     {
         self.told_until().saturating_sub(self.longest_input_delay)
     }
 
     /// The longest period that is looked for.
     pub(crate) fn longest_period(self) -> u32
-        ensures { (n : Circuit) (wires : List ℕ) → AreTimes n wires self.entry → result ≡ longest_period n wires }
+        ensures { (n : Circuit) (wires : List ℕ) → AreTimes n wires self → result ≡ longest_period n wires }
     {
         self.heard_from().saturating_sub(self.last_set)
     }

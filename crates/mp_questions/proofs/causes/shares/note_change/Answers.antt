@@ -1,6 +1,6 @@
-use Rattle.std.proofs.Common.{◌≡◌, ◌<◌, ◌^◌, slice_index_or, sym, ap, ◌∙◌, arith}
+use Rattle.std.proofs.Common.{◌≡◌, slice_index_or, sym, ap, ◌∙◌, arith}
 use Rattle.mp_netlist.proofs.LimitLemmas.{horizon_within}
-use Rattle.mp_questions.specs.causes.Causes.{cause_of, followed, port_of}
+use Rattle.mp_questions.specs.causes.Causes.{cause_of, followed}
 use Rattle.mp_questions.proofs.lemmas.causes.ChainLemmas.{followed_time}
 use Rattle.mp_questions.proofs.lemmas.causes.ShareLemmas.{room_enough}
 use Rattle.mp_questions.proofs.causes.shares.note_change.Goals as goal

@@ -1,12 +1,11 @@
-use Rattle.std.proofs.Common.{◌≡◌, ◌<◌, ◌^◌, ◌+◌, ℕ, List, filter, length, drop, slice_index_or, sym, ap, subst, ◌∙◌, arith}
-use Rattle.std.specs.List.{All}
+use Rattle.std.proofs.Common.{◌+◌, List, filter, length, drop, slice_index_or, sym, ap, subst, ◌∙◌, arith}
 use Rattle.mp_netlist.proofs.LimitLemmas.{horizon_within}
 use Rattle.mp_netlist.specs.Circuit.{IsCircuit}
 use Rattle.mp_questions.specs.declared.causes.levels.Levels.{Levels}
 use Rattle.mp_questions.specs.declared.causes.wire_change.WireChange.{WireChange}
 use Rattle.mp_questions.specs.declared.causes.module_share.ModuleShare.{ModuleShare}
 use Rattle.mp_questions.specs.causes.Noting.{AreByNumber, noted}
-use Rattle.mp_questions.specs.causes.Shares.{by_units, has_steps, is_step_in, shares, units_of}
+use Rattle.mp_questions.specs.causes.Shares.{by_units, has_steps, is_step_in, units_of}
 use Rattle.mp_questions.proofs.lemmas.causes.ShareLemmas.{IsShareOf, all_noted, noted_next, noted_room}
 use Rattle.mp_questions.proofs.lemmas.causes.OrderLemmas.{shares_by_number}
 use Rattle.mp_questions.proofs.causes.shares.shares_of.Goals as goal

@@ -1,13 +1,12 @@
-use Rattle.std.proofs.Common.{◌≡◌, ℕ, ◌-◌, ◌≤◌, ◌&&◌, true, false, Bool, List, slice_index_or, Contains, ap, sym, subst, ◌∙◌, arith}
+use Rattle.std.proofs.Common.{◌≡◌, ℕ, ◌-◌, true, Bool, List, [], ◌∷◌, slice_index_or, take, refl, ap, sym, ◌∙◌, arith}
 use Rattle.std.specs.List.{list_all}
 use Rattle.std.proofs.lemmas.Bool.{and_from}
 use Rattle.std.proofs.lemmas.List.{take_all}
-use Rattle.std.proofs.lemmas.List.Elements.{Contains-get_or}
-use Rattle.std.proofs.lemmas.List.Folds.{list_all_more}
+use Rattle.std.proofs.lemmas.List.Folds.{list_all-append}
 use Rattle.mp_records.specs.declared.ids.WireId.{WireId}
-use Rattle.mp_netlist.specs.Circuit.{Circuit}
 use Rattle.mp_steady.specs.Periods.{heard_from}
 use Rattle.mp_steady.specs.WireSets.{numbers}
+use Rattle.mp_steady.proofs.ListLemmas.{has_at, numbers_more}
 use Rattle.mp_steady.proofs.TimesLemmas.{is_soon, start_late, start_soon}
 use Rattle.mp_steady.proofs.repeats.Trial.refusing.Goals as goal
 
@@ -18,10 +17,10 @@ pub returns-then-is_level_again : goal.returns-then-is_level_again
 returns-then-is_level_again c =
     let trial = c.args.self.now in
     let n = trial.set.of.netlist.now in
-    let wires = trial.set.wires.now in
+    let wires = numbers trial.set.wires.now in
     record {
       one = trial.one_of_them;
-      value = sym (start_late n wires c.args.units (heard_from n (numbers wires) - c.args.units) trial.suspect trial.one_of_them (sym c.is_level_again.ensures ∙ c.if-is_level_again.false));
+      value = sym (start_late n wires c.args.units (heard_from n wires - c.args.units) trial.suspect.0 trial.one_of_them (sym c.is_level_again.ensures ∙ c.if-is_level_again.false));
     }
 
 pub loop-wire-preserved : goal.loop-wire-preserved
@@ -30,9 +29,10 @@ loop-wire-preserved c =
     let n = trial.set.of.netlist.now in
     let wires = trial.set.wires.now in
     let i = c.loop-wire.wire-index in
-    let soon : WireId → Bool = (λ w. is_soon n c.args.units (heard_from n (numbers wires) - c.args.units) w.0) in
-    list_all_more soon wires i none c.loop-wire-test.true
-    ∙ and_from (list_all soon _) (soon (slice_index_or wires i none)) c.loop-wire.invariant (sym c.is_level_again-in-loop-wire.ensures ∙ c.if-is_level_again-in-loop-wire.true)
+    let soon : ℕ → Bool = is_soon n c.args.units (heard_from n (numbers wires) - c.args.units) in
+    let w : ℕ = (slice_index_or wires i none).0 in
+    ap (list_all soon) (numbers_more wires i none c.loop-wire-test.true) ∙ list_all-append soon (numbers (take i wires)) (w ∷ [])
+    ∙ and_from (list_all soon (numbers (take i wires))) (list_all soon (w ∷ [])) c.loop-wire.invariant (and_from (soon w) true (sym c.is_level_again-in-loop-wire.ensures ∙ c.if-is_level_again-in-loop-wire.true) refl)
 
 pub returns-then-is_level_again-in-loop-wire : goal.returns-then-is_level_again-in-loop-wire
 returns-then-is_level_again-in-loop-wire c =
@@ -40,10 +40,10 @@ returns-then-is_level_again-in-loop-wire c =
     let n = trial.set.of.netlist.now in
     let wires = trial.set.wires.now in
     let i = c.loop-wire.wire-index in
-    let in' = Contains-get_or wires i none c.loop-wire-test.true in
+    let has = has_at wires i none c.loop-wire-test.true in
     record {
-      one = in';
-      value = sym (start_late n wires c.args.units (heard_from n (numbers wires) - c.args.units) (slice_index_or wires i none) in' (sym c.is_level_again-in-loop-wire.ensures ∙ c.if-is_level_again-in-loop-wire.false));
+      one = has;
+      value = sym (start_late n (numbers wires) c.args.units (heard_from n (numbers wires) - c.args.units) (slice_index_or wires i none).0 has (sym c.is_level_again-in-loop-wire.ensures ∙ c.if-is_level_again-in-loop-wire.false));
     }
 
 pub returns-clause-value : goal.returns-clause-value
@@ -52,5 +52,5 @@ returns-clause-value c =
     let n = trial.set.of.netlist.now in
     let wires = trial.set.wires.now in
     let most = heard_from n (numbers wires) - c.args.units in
-    let all = ap (λ (ws : List WireId). list_all (λ (w : WireId). is_soon n c.args.units most w.0) ws) (sym (take_all c.loop-wire.wire-index wires (omega (arith, c.loop-wire-test.false)))) ∙ c.loop-wire.invariant in
-    sym (start_soon n wires c.args.units most all)
+    let all = ap (λ (ws : List WireId). list_all (is_soon n c.args.units most) (numbers ws)) (sym (take_all c.loop-wire.wire-index wires (omega (arith, c.loop-wire-test.false)))) ∙ c.loop-wire.invariant in
+    sym (start_soon n (numbers wires) c.args.units most all)
