@@ -1,12 +1,17 @@
 -- What is said of a set of wires, and of what comes behind it.
-use Rattle.std.proofs.Common.{◌≡◌, ℕ, Bool, true, false, not, cond, List, [], ◌∷◌, ◌++◌, append-nil, Option, Some, None, is_some, refl, ap, sym, subst, ◌∙◌}
-use Rattle.std.specs.Prelude.{◌||◌}
+use Rattle.std.proofs.Common.{◌≡◌, ℕ, Bool, true, false, not, cond, List, [], ◌∷◌, ◌++◌, append-nil, filter, slice_get, Option, Some, None, is_some, refl, ap, sym, subst, ◌∙◌}
+use Rattle.std.specs.Prelude.{◌||◌, codes}
 use Rattle.std.specs.List.{flat_map}
+use Rattle.std.proofs.lemmas.Option.{same_Some}
 use Rattle.mp_records.specs.declared.ids.WireId.{WireId}
 use Rattle.mp_netlist.specs.Circuit.{Circuit}
+use Rattle.mp_questions.specs.declared.causes.module_share.ModuleShare.{ModuleShare}
+use Rattle.mp_questions.specs.declared.causes.wire_change.WireChange.{WireChange}
+use Rattle.mp_questions.specs.causes.Shares.{by_units, has_steps, shares}
+use Rattle.mp_steady.specs.Cycles.{cycle_length}
 use Rattle.mp_steady.specs.Periods.{is_over, period}
-use Rattle.mp_steady.specs.SteadyLines.{events_line, set_text, text_of}
-use Rattle.mp_steady.specs.WireSets.{numbers}
+use Rattle.mp_steady.specs.SteadyLines.{control_text, cycle_line, cycle_text, events_line, module_line, none_text, over_text, repeats_text, set_text, steady_text, text_of}
+use Rattle.mp_steady.specs.WireSets.{all_wires, control, numbers}
 
 -- something is said of these wires
 abbrev pub is_said : Circuit → List ℕ → Bool
@@ -42,3 +47,54 @@ text_unsaid n over word wires other is =
 pub lines_are : (n : Circuit) (units : ℕ) (wires : List WireId) → flat_map (λ (w : WireId). events_line n units w.0) wires ≡ flat_map (events_line n units) (numbers wires)
 lines_are n units [] = refl
 lines_are n units (w ∷ ws) = ap (λ l. events_line n units w.0 ++ l) (lines_are n units ws)
+
+-- ---- what is said of a set
+
+pub text_over : (n : Circuit) (over word wires : List ℕ) → is_over n wires ≡ true → over_text n over wires ≡ text_of n over word wires []
+text_over n over word wires is = sym (ap (λ b. set_text n over word wires b (period n wires) []) is)
+
+pub text_repeats : (n : Circuit) (over word wires : List ℕ) (units : ℕ) → is_over n wires ≡ false → Some units ≡ period n wires → repeats_text n word wires units ≡ text_of n over word wires []
+text_repeats n over word wires units moving is =
+    sym (ap (λ b. set_text n over word wires b (period n wires) []) moving ∙ ap (λ o. set_text n over word wires false o []) (sym is))
+
+pub text_none : (n : Circuit) (over word wires : List ℕ) → is_over n wires ≡ false → None ≡ period n wires → [] ≡ text_of n over word wires []
+text_none n over word wires moving is = sym (ap (λ b. set_text n over word wires b (period n wires) []) moving ∙ ap (λ o. set_text n over word wires false o []) (sym is))
+
+pub said_over : (n : Circuit) (wires : List ℕ) → is_over n wires ≡ true → false ≡ not (is_said n wires)
+said_over n wires is = sym (ap (λ b. not (b || is_some (period n wires))) is)
+
+pub said_repeats : (n : Circuit) (wires : List ℕ) (units : ℕ) → is_over n wires ≡ false → Some units ≡ period n wires → false ≡ not (is_said n wires)
+said_repeats n wires units moving is = sym (ap (λ b. not (b || is_some (period n wires))) moving ∙ ap (λ o. not (is_some o)) (sym is))
+
+pub unsaid : (n : Circuit) (wires : List ℕ) → is_over n wires ≡ false → None ≡ period n wires → true ≡ not (is_said n wires)
+unsaid n wires moving is = sym (ap (λ b. not (b || is_some (period n wires))) moving ∙ ap (λ o. not (is_some o)) (sym is))
+
+-- ---- all wires, and the control
+
+pub steady_is : (n : Circuit) (over word wires : List ℕ) → over ≡ codes "nothing changes after " → word ≡ [] → wires ≡ all_wires n → text_of n over word wires (control_text n (control n)) ≡ steady_text n
+unfolding steady_text
+steady_is n over word wires first second is =
+    ap (λ x. text_of n x word wires (control_text n (control n))) first ∙ ap (λ x. text_of n (codes "nothing changes after ") x wires (control_text n (control n))) second
+    ∙ ap (λ ws. text_of n (codes "nothing changes after ") [] ws (control_text n (control n))) is
+
+pub control_none : (n : Circuit) (wires : List ℕ) → wires ≡ [] → none_text n (all_wires n) ≡ control_text n wires
+control_none n wires is = sym (ap (control_text n) is)
+
+pub control_is : (n : Circuit) (over word wires : List ℕ) → over ≡ codes "control stands still after " → word ≡ codes "control " → (wires ≡ [] → ⊥) → text_of n over word wires (none_text n wires) ≡ control_text n wires
+control_is n over word [] first second some = absurd (some refl)
+control_is n over word (w ∷ ws) first second some =
+    ap (λ x. text_of n x word (w ∷ ws) (none_text n (w ∷ ws))) first ∙ ap (λ x. text_of n (codes "control stands still after ") x (w ∷ ws) (none_text n (w ∷ ws))) second
+
+-- ---- the critical cycle
+
+pub no_critical : (n : Circuit) (found : List WireChange) → slice_get found 0 ≡ None → [] ≡ cycle_text n found
+no_critical n [] none = refl
+no_critical n (c ∷ cs) none = let no : ⊥ = cc in absurd no
+
+pub critical : (n : Circuit) (found : List WireChange) (first : WireChange) (units : ℕ) (list : List ModuleShare) → slice_get found 0 ≡ Some first → units ≡ cycle_length n found
+    → list ≡ by_units (filter has_steps (shares n found)) → cycle_line n first units ++ flat_map (module_line n) list ≡ cycle_text n found
+critical n [] first units list is long of = let no : ⊥ = cc in absurd no
+critical n (c ∷ cs) first units list is long of =
+    let same : c ≡ first = same_Some c first is in
+    ap (λ d. cycle_line n d units ++ flat_map (module_line n) list) (sym same) ∙ ap (λ u. cycle_line n c u ++ flat_map (module_line n) list) long
+    ∙ ap (λ l. cycle_line n c (cycle_length n (c ∷ cs)) ++ flat_map (module_line n) l) of

@@ -1,47 +1,35 @@
 -- Which numbers of units can be a period: each is the time from an earlier change of a guide to its last one.
-use Rattle.std.proofs.Common.{◌≡◌, ℕ, ◌+◌, ◌-◌, ◌<◌, ◌≤◌, ◌==◌, ◌⊎◌, inl, inr, Bool, true, false, not, cond, List, [], ◌∷◌, ◌++◌, length, get_or, map, take, Option, Some, None, zero, suc, refl, ap, sym, subst, ◌∙◌, arith}
-use Rattle.std.specs.Prelude.{◌≢◌, ◌||◌, max, nat_le, unwrap_or}
-use Rattle.std.specs.List.{Contains, find, fold, list_all, range_with_len}
+use Rattle.std.proofs.Common.{◌≡◌, ℕ, ◌+◌, ◌-◌, ◌<◌, ◌≤◌, ◌==◌, ◌⊎◌, inl, inr, Bool, true, false, not, cond, List, [], ◌∷◌, ◌++◌, length, get_or, Option, Some, None, zero, suc, refl, ap, sym, subst, ◌∙◌, arith}
+use Rattle.std.specs.Prelude.{◌≢◌, ◌||◌, IfNone, IfSome, nat_le, unwrap_or}
+use Rattle.std.specs.List.{Contains, find, list_all, range_with_len}
 use Rattle.std.proofs.lemmas.Bool.{cases_Bool, cases_lt, cases_eq, eq-eqb, ne_eqb, leb-true, leb-false, and_parts}
-use Rattle.std.proofs.lemmas.List.{map-append, take_more}
 use Rattle.mp_modules.specs.Histories.{has_event}
-use Rattle.mp_wave.specs.Waveform.{AreChanges, change_after, changes_after, last_time, level_from}
+use Rattle.mp_wave.specs.Waveform.{AreChanges, Waveform, change_after, changes_after, last_time, level_from}
 use Rattle.mp_wave.proofs.WaveformLemmas.{last_time-append, level_from-rest, nat_le-false}
 use Rattle.mp_wave.proofs.ChangesLemmas.{AreChanges-changes_after, level_from-changes_after, last_time-changes_after}
 use Rattle.mp_records.specs.declared.ids.WireId.{WireId}
 use Rattle.mp_netlist.specs.Circuit.{Circuit}
 use Rattle.mp_netlist.specs.Drivers.{driver}
-use Rattle.mp_model.specs.Waves.{level}
+use Rattle.mp_model.specs.Waves.{level, wave}
 use Rattle.mp_questions.specs.timing.Events.{last_event, since}
 use Rattle.mp_questions.proofs.lemmas.causes.EventLemmas.{last_event_is, no_event_at}
 use Rattle.mp_steady.specs.WireSets.{has_wire, numbers}
-use Rattle.mp_steady.specs.Periods.{greatest, heard_from, is_again_by, is_over, last_change, last_set, last_unit, longest_delay, longest_input_delay, longest_period, period, repeats, repeats_from, start}
+use Rattle.mp_steady.specs.Periods.{heard_from, is_again_by, is_over, last_change, last_set, last_unit, longest_delay, longest_input_delay, longest_period, period, repeats, repeats_from, start}
 use Rattle.mp_steady.proofs.SetLemmas.{greatest_bounds, repeats_level}
 
 -- ---- wires of a set
 
+or_true : (b : Bool) → (b || true) ≡ true
+or_true true = refl
+or_true false = refl
+
 pub has_number : (wires : List WireId) (w : WireId) → Contains wires w → has_wire (numbers wires) w.0 ≡ true
-has_number [] w has = absurd (omega (arith, has.1))
-has_number (v ∷ vs) w has = by has.0 has.1 has.2
+has_number wires w has = at wires has.0 has.1 has.2
   where
-    by : (k : ℕ) → k < length (v ∷ vs) → get_or (v ∷ vs) k w ≡ w → has_wire (numbers (v ∷ vs)) w.0 ≡ true
-    by zero low is = ap (λ b. b || has_wire (numbers vs) w.0) (eq-eqb v.0 w.0 (ap (λ (x : WireId). x.0) is))
-    by (suc k) low is = rw (has_number vs w (k, omega (arith, low), is)) (or_true (v.0 == w.0))
-
-    or_true : (b : Bool) → (b || true) ≡ true
-    or_true true = refl
-    or_true false = refl
-
-fold_push : (xs : List ℕ) (a x : ℕ) → fold max a (xs ++ x ∷ []) ≡ max (fold max a xs) x
-fold_push [] a x = refl
-fold_push (y ∷ ys) a x = fold_push ys (max a y) x
-
--- the greatest of one wire more
-pub greatest_more : (f : ℕ → ℕ) (wires : List WireId) (i : ℕ) (d : WireId) → i < length wires → greatest f (numbers (take (i + 1) wires)) ≡ max (greatest f (numbers (take i wires))) (f (get_or wires i d).0)
-greatest_more f wires i d low =
-    let more : numbers (take (i + 1) wires) ≡ numbers (take i wires) ++ (get_or wires i d).0 ∷ [] =
-    ap numbers (take_more wires i d low) ∙ map-append (λ (w : WireId). w.0) (take i wires) (get_or wires i d ∷ []) in
-    ap (greatest f) more ∙ ap (fold max 0) (map-append f (numbers (take i wires)) ((get_or wires i d).0 ∷ [])) ∙ fold_push (map f (numbers (take i wires))) 0 (f (get_or wires i d).0)
+    at : (vs : List WireId) (k : ℕ) → k < length vs → get_or vs k w ≡ w → has_wire (numbers vs) w.0 ≡ true
+    at [] k low is = absurd (omega (arith, low))
+    at (v ∷ vs) zero low is = ap (λ b. b || has_wire (numbers vs) w.0) (eq-eqb v.0 w.0 (ap (λ (x : WireId). x.0) is))
+    at (v ∷ vs) (suc k) low is = ap (λ b. (v.0 == w.0) || b) (at vs k (omega (arith, low)) is) ∙ or_true (v.0 == w.0)
 
 -- ---- the changes of a level
 
@@ -56,6 +44,9 @@ last_since f (suc t) =
         → last_time (last_time 0 (changes_after f 0 t)) (cond same [] ((suc t, f (suc t)) ∷ [])) ≡ unwrap_or (cond (not same) (Some (suc t)) (last_event f t)) 0
     by true before = before
     by false before = refl
+
+pub late_is : (n : Circuit) (w : ℕ) (v : Waveform) (changes : List (ℕ × ℕ)) → changes ≡ v.changes → v ≡ wave n w → last_time 0 changes ≡ since (level n w) (last_unit n)
+late_is n w v changes are is = ap (last_time 0) are ∙ ap (λ (x : Waveform). last_time 0 x.changes) is ∙ last_since (level n w) (last_unit n)
 
 -- there it changes
 pub since_event : (f : ℕ → ℕ) (end last : ℕ) → since f end ≡ last → 0 < last → f (last - 1) ≢ f last
@@ -112,142 +103,151 @@ module _ (f : ℕ → ℕ) (units heard last end : ℕ) (few : units ≤ heard) 
       let e : last - units - 1 + units ≡ last - 1 = omega (arith, few, late) in
       again (last - units - 1) (omega (arith, few, late)) (omega (arith, within)) ∙ ap f e
 
--- ---- a guide
+-- ---- one that was found, or another
 
-module _ (n : Circuit) (wires : List ℕ) (w : ℕ) (has : has_wire wires w ≡ true) (late : heard_from n wires < since (level n w) (last_unit n)) where
+pub none_more : {X : Type 0} (o : Option X) (P Q : Type 0) → (P → Q) → IfNone o P → IfNone o Q
+none_more None P Q more none = more none
+none_more (Some x) P Q more none = tt
+
+pub chosen : {X : Type 0} (P : X → Type 0) (found : Option X) (other one : X) → (one ≡ other) ⊎ (found ≡ Some one) → P other → IfSome found P → P one
+chosen P found other one (inl is) here before = subst P (sym is) here
+chosen P found other one (inr is) here before = subst (λ o. IfSome o P) is before
+
+-- ---- a guide, with its changes and the place of the last one
+
+pub some_changes : (n : Circuit) (wires : List ℕ) (w : ℕ) (changes : List (ℕ × ℕ)) → heard_from n wires < since (level n w) (last_unit n) → changes ≡ changes_after (level n w) 0 (last_unit n) → 0 < length changes
+some_changes n wires w changes late is = by changes (ap (last_time 0) is ∙ last_since (level n w) (last_unit n))
+  where
+    by : (ys : List (ℕ × ℕ)) → last_time 0 ys ≡ since (level n w) (last_unit n) → 0 < length ys
+    by [] e = let none : since (level n w) (last_unit n) ≡ 0 = sym e in absurd (omega (arith, none, late))
+    by (y ∷ ys) e = omega arith
+
+pub record IsGuide (n : Circuit) (wires : List ℕ) (w : ℕ) (changes : List (ℕ × ℕ)) (last : ℕ) : Type 0 where
+  pub has : has_wire wires w ≡ true
+  pub late : heard_from n wires < since (level n w) (last_unit n)
+  pub is : changes ≡ changes_after (level n w) 0 (last_unit n)
+  pub long : length changes ≡ suc last
+
+module _ (n : Circuit) (wires : List ℕ) (w : ℕ) (changes : List (ℕ × ℕ)) (last : ℕ) (guide : IsGuide n wires w changes last) where
   abbrev f : ℕ → ℕ
   f = level n w
 
   abbrev end : ℕ
   end = last_unit n
 
-  abbrev pub xs : List (ℕ × ℕ)
-  xs = changes_after f 0 end
+  are : AreChanges 0 (f 0) changes
+  are = subst (AreChanges 0 (f 0)) (sym guide.is) (AreChanges-changes_after f 0 end)
 
-  are : AreChanges 0 (f 0) xs
-  are = AreChanges-changes_after f 0 end
+  same : (t : ℕ) → t ≤ end → level_from (f 0) changes t ≡ f t
+  same t upto = ap (λ ys. level_from (f 0) ys t) guide.is ∙ level_from-changes_after f 0 end t (omega arith) (omega (arith, upto))
 
-  same : (t : ℕ) → t ≤ end → level_from (f 0) xs t ≡ f t
-  same t upto = level_from-changes_after f 0 end t (omega arith) (omega (arith, upto))
+  -- the time of the change at a place
+  abbrev pub at : ℕ → ℕ
+  at k = (get_or changes k (0, 0)).0
 
-  -- it has a change
-  pub some_changes : 0 < length xs
-  some_changes = by (length xs) refl
-    where
-      by : (k : ℕ) → length xs ≡ k → 0 < length xs
-      by zero none = absurd (no xs none (last_since f end))
-        where
-          no : (ys : List (ℕ × ℕ)) → length ys ≡ 0 → last_time 0 ys ≡ since f end → ⊥
-          no [] long is = omega (arith, is, late)
-          no (y ∷ ys) long is = omega (arith, long)
-      by (suc k) more = omega (arith, more)
+  abbrev pub level_at : ℕ → ℕ
+  level_at k = (get_or changes k (0, 0)).1
 
-  module _ (last : ℕ) (long : length xs ≡ suc last) where
-    -- the time of the change at a place
-    abbrev pub at : ℕ → ℕ
-    at k = (get_or xs k (0, 0)).0
+  time_is : since f end ≡ at last
+  time_is = sym (ap (last_time 0) guide.is ∙ last_since f end) ∙ last_place 0 (f 0) changes last (0, 0) guide.long
 
-    abbrev pub level_at : ℕ → ℕ
-    level_at k = (get_or xs k (0, 0)).1
+  -- it is late
+  is_late : heard_from n wires < at last
+  is_late = subst (λ k. heard_from n wires < k) time_is guide.late
 
-    time_is : since f end ≡ at last
-    time_is = sym (last_since f end) ∙ last_place 0 (f 0) xs last (0, 0) long
+  in_run : at last ≤ end
+  in_run = let low = last_time-changes_after f 0 end in let e = last_since f end ∙ time_is in omega (arith, low, e)
 
-    -- it is late
-    pub is_late : heard_from n wires < at last
-    is_late = subst (λ k. heard_from n wires < k) time_is late
+  pub place_in_run : (k : ℕ) → k ≤ last → at k ≤ at last
+  place_in_run k low = elim (cases_lt k last) as (λ _. at k ≤ at last) [
+    | inl less ↦ let up = rises 0 (f 0) changes k last (0, 0) are less (omega (arith, guide.long)) in omega (arith, up)
+    | inr over ↦ let here : k ≡ last = omega (arith, low, over) in let e : at k ≡ at last = ap at here in omega (arith, e)
+  ]
 
-    in_run : at last ≤ end
-    in_run = let low = last_time-changes_after f 0 end in let is = last_since f end ∙ time_is in omega (arith, low, is)
+  stays : (k t : ℕ) → k ≤ last → at k ≤ t → t ≤ end → (suc k ≤ last → t < at (suc k)) → f t ≡ level_at k
+  stays k t low from upto until = sym (same t upto) ∙ stays_at 0 (f 0) changes k t (0, 0) are (omega (arith, low, guide.long)) from (λ more. until (omega (arith, more, guide.long)))
 
-    place_in_run : (k : ℕ) → k ≤ last → at k ≤ at last
-    place_in_run k low = elim (cases_lt k last) as (λ _. at k ≤ at last) [
-      | inl less ↦ let up = rises 0 (f 0) xs k last (0, 0) are less (omega (arith, long)) in omega (arith, up)
-      | inr over ↦ let e : at k ≡ at last = ap at (let is : k ≡ last = omega (arith, low, over) in is) in omega (arith, e)
+  last_level : f (at last) ≡ level_at last
+  last_level = stays last (at last) (omega arith) (omega arith) in_run (λ more. absurd (omega (arith, more)))
+
+  module _ (units : ℕ) (some : 1 ≤ units) (few : units ≤ longest_period n wires) where
+    short : units ≤ heard_from n wires
+    short = omega (arith, few)
+
+    again : repeats n wires units ≡ true → (t : ℕ) → heard_from n wires - units ≤ t → t ≤ end - units → f t ≡ f (t + units)
+    unfolding repeats
+    again is t low high =
+        let parts = and_parts (nat_le (start n wires units) (heard_from n wires - units)) (list_all (λ v. is_again_by n wires units (driver n v)) wires) is in
+        let begun : start n wires units ≤ heard_from n wires - units = leb-true (start n wires units) (heard_from n wires - units) parts.0 in
+        let bound : repeats_from f units (end - units) ≤ start n wires units = greatest_bounds (λ v. repeats_from (level n v) units (end - units)) wires w guide.has in
+        repeats_level f units (end - units) t (omega (arith, bound, begun, low)) high
+
+    refused : (repeats n wires units ≡ true → ⊥) → repeats n wires units ≡ false
+    refused never = elim (cases_Bool (repeats n wires units)) as (λ _. repeats n wires units ≡ false) [
+      | inl is ↦ absurd (never is)
+      | inr not_so ↦ not_so
     ]
 
-    stays : (k t : ℕ) → k ≤ last → at k ≤ t → t ≤ end → (suc k ≤ last → t < at (suc k)) → f t ≡ level_at k
-    stays k t low from upto until = sym (same t upto) ∙ stays_at 0 (f 0) xs k t (0, 0) are (omega (arith, low, long)) from (λ more. until (omega (arith, more, long)))
+    -- so many units before the last change the level is another one
+    pub other_level : (k : ℕ) → k ≤ last → at last - units ≡ at k → level_at k ≢ level_at last → repeats n wires units ≡ false
+    other_level k low here differs =
+        refused (λ is. differs (sym (stays k (at k) low (omega arith) (let up = place_in_run k low in let run = in_run in omega (arith, up, run)) (λ more. rises 0 (f 0) changes k (suc k) (0, 0) are (omega arith) (omega (arith, more, guide.long))))
+        ∙ ap f (sym here) ∙ like_last f units (heard_from n wires) (at last) end short is_late in_run (again is) ∙ last_level))
 
-    last_level : f (at last) ≡ level_at last
-    last_level = stays last (at last) (omega arith) (omega arith) in_run (λ more. absurd (omega (arith, more)))
+    -- there is no change so many units before the last one
+    no_change : f (at last - units) ≡ f (at last - units - 1) → repeats n wires units ≡ false
+    no_change still =
+        refused (λ is. since_event f end (at last) time_is (let late = is_late in omega (arith, late))
+        (sym (like_before f units (heard_from n wires) (at last) end short is_late in_run (again is)) ∙ sym still ∙ like_last f units (heard_from n wires) (at last) end short is_late in_run (again is)))
 
-    module _ (units : ℕ) (some : 1 ≤ units) (few : units ≤ longest_period n wires) where
-      short : units ≤ heard_from n wires
-      short = omega (arith, few)
+    -- that time lies between two changes
+    pub between_changes : (k : ℕ) → suc k ≤ last → at last - at (suc k) < units → units < at last - at k → repeats n wires units ≡ false
+    between_changes k low above below =
+        let late = is_late in
+        let run = in_run in
+        let few_enough = short in
+        let t : ℕ = at last - units in
+        let from : at k ≤ t - 1 = omega (arith, below) in
+        let until : t < at (suc k) = omega (arith, above, late, few_enough) in
+        let upto : t ≤ end = omega (arith, run) in
+        no_change (stays k t (omega (arith, low)) (omega (arith, from)) upto (λ more. until) ∙ sym (stays k (t - 1) (omega (arith, low)) from (omega (arith, upto)) (λ more. omega (arith, until))))
 
-      again : repeats n wires units ≡ true → (t : ℕ) → heard_from n wires - units ≤ t → t ≤ end - units → f t ≡ f (t + units)
-      unfolding repeats
-      again is t low high =
-          let parts = and_parts (nat_le (start n wires units) (heard_from n wires - units)) (list_all (λ v. is_again_by n wires units (driver n v)) wires) is in
-          let begun : start n wires units ≤ heard_from n wires - units = leb-true (start n wires units) (heard_from n wires - units) parts.0 in
-          let bound : repeats_from f units (end - units) ≤ start n wires units = greatest_bounds (λ v. repeats_from (level n v) units (end - units)) wires w has in
-          repeats_level f units (end - units) t (omega (arith, bound, begun, low)) high
+    -- that time lies before all changes
+    pub before_changes : at last - at 0 < units → repeats n wires units ≡ false
+    before_changes above =
+        let late = is_late in
+        let run = in_run in
+        let few_enough = short in
+        let t : ℕ = at last - units in
+        let early : t < at 0 = omega (arith, above, late, few_enough) in
+        let upto : t ≤ end = omega (arith, run) in
+        no_change (sym (same t upto) ∙ first_stays changes (f 0) t (0, 0) (λ more. early) ∙ sym (first_stays changes (f 0) (t - 1) (0, 0) (λ more. omega (arith, early))) ∙ same (t - 1) (omega (arith, upto)))
 
-      refused : (repeats n wires units ≡ true → ⊥) → repeats n wires units ≡ false
-      refused no = elim (cases_Bool (repeats n wires units)) as (λ _. repeats n wires units ≡ false) [
-        | inl is ↦ absurd (no is)
-        | inr not_so ↦ not_so
-      ]
+  -- up to the time from the change at a place to the last one no number of units is a period
+  abbrev pub NoneUpto : ℕ → Type 0
+  NoneUpto k = (units : ℕ) → 1 ≤ units → units ≤ at last - at k → repeats n wires units ≡ false
 
-      -- so many units before the last change the level is another one
-      pub other_level : (k : ℕ) → k ≤ last → at last - units ≡ at k → level_at k ≢ level_at last → repeats n wires units ≡ false
-      other_level k low here differs =
-          refused (λ is. differs (sym (stays k (at k) low (omega arith) (let up = place_in_run k low in let run = in_run in omega (arith, up, run)) (λ more. rises 0 (f 0) xs k (suc k) (0, 0) are (omega arith) (omega (arith, more, long))))
-          ∙ ap f (sym here) ∙ like_last f units (heard_from n wires) (at last) end short is_late in_run (again is) ∙ last_level))
+  pub none_at_last : NoneUpto last
+  none_at_last units some upto = absurd (omega (arith, some, upto))
 
-      -- there is no change so many units before the last one
-      no_change : f (at last - units) ≡ f (at last - units - 1) → repeats n wires units ≡ false
-      no_change still =
-          refused (λ is. since_event f end (at last) time_is (omega (arith, is_late))
-          (sym (like_before f units (heard_from n wires) (at last) end short is_late in_run (again is)) ∙ sym still ∙ like_last f units (heard_from n wires) (at last) end short is_late in_run (again is)))
+  -- up to before the time from the change at the place before
+  pub none_below : (k : ℕ) → suc k ≤ last → NoneUpto (suc k) → (units : ℕ) → 1 ≤ units → units ≤ longest_period n wires → units < at last - at k → repeats n wires units ≡ false
+  none_below k low none units some few below = elim (cases_lt (at last - at (suc k)) units) as (λ _. repeats n wires units ≡ false) [
+    | inl above ↦ between_changes units some few k low above below
+    | inr upto ↦ none units some upto
+  ]
 
-      -- that time lies between two changes
-      pub between_changes : (k : ℕ) → suc k ≤ last → at last - at (suc k) < units → units < at last - at k → repeats n wires units ≡ false
-      between_changes k low above below =
-          let late_enough = is_late in
-          let t : ℕ = at last - units in
-          let run = in_run in
-          let short_enough = short in
-          no_change (stays k t (omega (arith, low)) (omega (arith, below)) (omega (arith, run)) (λ more. omega (arith, above, late_enough, short_enough))
-          ∙ sym (stays k (t - 1) (omega (arith, low)) (omega (arith, below)) (omega (arith, run)) (λ more. omega (arith, above, late_enough, short_enough))))
+  pub none_upto : (k : ℕ) → suc k ≤ last → NoneUpto (suc k) → at last - at k ≤ longest_period n wires → repeats n wires (at last - at k) ≡ false → NoneUpto k
+  none_upto k low none few here units some upto = elim (cases_lt units (at last - at k)) as (λ _. repeats n wires units ≡ false) [
+    | inl below ↦ none_below k low none units some (omega (arith, few, below)) below
+    | inr over ↦ let is : at last - at k ≡ units = omega (arith, over, upto) in subst (λ u. repeats n wires u ≡ false) is here
+  ]
 
-      -- that time lies before all changes
-      pub before_changes : at last - at 0 < units → repeats n wires units ≡ false
-      before_changes above =
-          let late_enough = is_late in
-          let t : ℕ = at last - units in
-          let run = in_run in
-          let short_enough = short in
-          let early : t < at 0 = omega (arith, above, late_enough, short_enough) in
-          no_change (sym (same t (omega (arith, run))) ∙ first_stays xs (f 0) t (0, 0) (λ more. early) ∙ sym (first_stays xs (f 0) (t - 1) (0, 0) (λ more. omega (arith, early)))
-          ∙ same (t - 1) (omega (arith, run)))
-
-    -- up to the time from the change at a place to the last one no number of units is a period
-    abbrev pub NoneUpto : ℕ → Type 0
-    NoneUpto k = (units : ℕ) → 1 ≤ units → units ≤ at last - at k → repeats n wires units ≡ false
-
-    pub none_at_last : NoneUpto last
-    none_at_last units some upto = absurd (omega (arith, some, upto))
-
-    -- up to before the time from the change at the place before
-    pub none_below : (k : ℕ) → suc k ≤ last → NoneUpto (suc k) → (units : ℕ) → 1 ≤ units → units ≤ longest_period n wires → units < at last - at k → repeats n wires units ≡ false
-    none_below k low none units some few below = elim (cases_lt (at last - at (suc k)) units) as (λ _. repeats n wires units ≡ false) [
-      | inl above ↦ between_changes units some few k low above below
-      | inr upto ↦ none units some upto
-    ]
-
-    pub none_upto : (k : ℕ) → suc k ≤ last → NoneUpto (suc k) → at last - at k ≤ longest_period n wires → repeats n wires (at last - at k) ≡ false → NoneUpto k
-    none_upto k low none few here units some upto = elim (cases_lt units (at last - at k)) as (λ _. repeats n wires units ≡ false) [
-      | inl below ↦ none_below k low none units some (omega (arith, few, below)) below
-      | inr over ↦ let is : at last - at k ≡ units = omega (arith, over, upto) in subst (λ u. repeats n wires u ≡ false) is here
-    ]
-
-    pub none_at_all : NoneUpto 0 → (units : ℕ) → 1 ≤ units → units ≤ longest_period n wires → repeats n wires units ≡ false
-    none_at_all none units some few = elim (cases_lt (at last - at 0) units) as (λ _. repeats n wires units ≡ false) [
-      | inl above ↦ before_changes units some few above
-      | inr upto ↦ none units some upto
-    ]
+  pub none_at_all : NoneUpto 0 → (units : ℕ) → 1 ≤ units → units ≤ longest_period n wires → repeats n wires units ≡ false
+  none_at_all none units some few = elim (cases_lt (at last - at 0) units) as (λ _. repeats n wires units ≡ false) [
+    | inl above ↦ before_changes units some few above
+    | inr upto ↦ none units some upto
+  ]
 
 -- ---- the least period
 

@@ -1,6 +1,8 @@
 -- The states of modules, from what they hear.
-use Rattle.std.proofs.Common.{◌≡◌, ℕ, ◌+◌, ◌-◌, ◌<◌, ◌≤◌, ◌==◌, ◌⊎◌, inl, inr, Bool, true, false, cond, List, Some, zero, suc, refl, ap, sym, subst, ◌∙◌, arith}
+use Rattle.std.proofs.Common.{◌≡◌, ℕ, ◌+◌, ◌-◌, ◌<◌, ◌≤◌, ◌==◌, ◌⊎◌, inl, inr, Bool, true, false, cond, List, length, drop, get_or, ◌&&◌, Some, zero, suc, refl, ap, sym, subst, ◌∙◌, arith}
+use Rattle.std.specs.List.{list_all}
 use Rattle.std.proofs.lemmas.Bool.{cases_Bool, ne_eqb}
+use Rattle.std.proofs.lemmas.List.{at_drop_all, at_drop_more}
 use Rattle.mp_wave.specs.Waveform.{Waveform, between, level_of}
 use Rattle.mp_wave.proofs.PrefixLemmas.{cut_levels}
 use Rattle.mp_wave.proofs.ChangesLemmas.{form_of_wave, levels_of_wave}
@@ -8,6 +10,7 @@ use Rattle.mp_modules.specs.declared.kind.Kind.{Kind}
 use Rattle.mp_modules.specs.declared.kind.Kind.TheVariants as kinds
 use Rattle.mp_modules.specs.declared.memory.Memory.{Memory}
 use Rattle.mp_modules.specs.storage.AnyModules.{any_part_of, settle, start, step}
+use Rattle.mp_records.specs.declared.ids.WireId.{WireId}
 use Rattle.mp_records.specs.declared.module_record.ModuleRecord.{ModuleRecord}
 use Rattle.mp_records.specs.declared.ports.Input.{Input}
 use Rattle.mp_netlist.specs.Circuit.{Circuit, IsCircuit, module_at, module_width}
@@ -25,6 +28,7 @@ use Rattle.mp_model.proofs.lemmas.response.JoinLemmas.{inside_alone}
 use Rattle.mp_model.proofs.lemmas.response.LateLemmas.{late_level_of, IsWaveform-later_by}
 use Rattle.mp_model.proofs.lemmas.response.SpanLemmas.{state_more, state_none}
 use Rattle.mp_questions.specs.late.Sources.{has_memory}
+use Rattle.mp_steady.specs.WireSets.{numbers}
 
 -- what an input hears, cut from its wire's wave
 pub heard_piece : (n : Circuit) → IsCircuit n → (i : Input) (from to : ℕ) (found : Waveform) (piece : InPiece) → found ≡ wave n i.wire.0
@@ -92,3 +96,16 @@ module _ (n : Circuit) (ok : IsCircuit n) (m : ℕ) (r : ModuleRecord) (at : mod
         by (inr none) =
             let e : from ≡ time = is ∙ ap (λ b. cond b 0 time) none in
             run_once none (λ t low high. hears t (omega (arith, e, low)) high) (subst (λ k. IsSpan (built n r) x (start (built n r)) k (time + 1) piece) e span)
+
+-- ---- a test of all wires, one after the other
+
+module _ (p : ℕ → Bool) (wires : List WireId) (i : ℕ) where
+  pub all_later : (d : WireId) → i < length wires → list_all p (numbers (drop i wires)) ≡ list_all p (numbers wires) → p (get_or wires i d).0 ≡ true
+      → list_all p (numbers (drop (i + 1) wires)) ≡ list_all p (numbers wires)
+  all_later d low so_far is = sym (at_drop_more (λ ws. list_all p (numbers ws)) wires i d low ∙ ap (λ b. b && list_all p (numbers (drop (i + 1) wires))) is) ∙ so_far
+
+  pub one_fails : (d : WireId) → i < length wires → list_all p (numbers (drop i wires)) ≡ list_all p (numbers wires) → p (get_or wires i d).0 ≡ false → false ≡ list_all p (numbers wires)
+  one_fails d low so_far not_so = sym (at_drop_more (λ ws. list_all p (numbers ws)) wires i d low ∙ ap (λ b. b && list_all p (numbers (drop (i + 1) wires))) not_so) ∙ so_far
+
+  pub all_over : length wires ≤ i → list_all p (numbers (drop i wires)) ≡ list_all p (numbers wires) → true ≡ list_all p (numbers wires)
+  all_over past so_far = sym (at_drop_all (λ ws. list_all p (numbers ws)) wires i past) ∙ so_far

@@ -38,7 +38,7 @@ cycle_text n (c ∷ cs) = cycle_line n c (cycle_length n (c ∷ cs)) ++ flat_map
 
 -- the first line of wires that repeat, as `repeats from 6 every 18`, behind a word on which these are
 abbrev pub repeats_line : List ℕ → ℕ → ℕ → List ℕ
-repeats_line word from units = word ++ (codes "repeats from " ++ (decimal from ++ (codes " every " ++ (decimal units ++ codes "\n"))))
+repeats_line word from units = (word ++ (codes "repeats from " ++ decimal from)) ++ (codes " every " ++ (decimal units ++ codes "\n"))
 
 -- what is said of wires that repeat
 abbrev pub repeats_text : Circuit → List ℕ → List ℕ → ℕ → List ℕ
@@ -54,7 +54,8 @@ stimuli_text time = if nat_lt 0 time then codes "stimuli until " ++ (decimal tim
 -- what is said where no period is found, as `doesn't repeat before 40: stimuli until 30, no period of up to 6`
 abbrev pub none_text : Circuit → List ℕ → List ℕ
 none_text n wires =
-    codes "doesn't repeat before " ++ (decimal n.horizon ++ (codes ": " ++ (stimuli_text (last_set n wires) ++ (codes "no period of up to " ++ (decimal (longest_period n wires) ++ codes "\n")))))
+    (codes "doesn't repeat before " ++ (decimal n.horizon ++ codes ": "))
+    ++ (stimuli_text (last_set n wires) ++ (codes "no period of up to " ++ (decimal (longest_period n wires) ++ codes "\n")))
 
 -- what is said of a set of wires, or else another text
 abbrev pub set_text : Circuit → List ℕ → List ℕ → List ℕ → Bool → Option ℕ → List ℕ → List ℕ

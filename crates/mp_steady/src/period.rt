@@ -58,10 +58,11 @@ fn guide(set: WireSet<'_>, times: RunTimes) -> Option<WireId>
     let mut found = None;
     for &wire in set.wires {
         let changes = set.wave_of(wire).changes();
-        if time_of(changes) > from {
-            let count = changes.len();
-            found = Some(with_fewer(found, Candidate { wire, count }));
+        if time_of(changes) <= from {
+            continue;
         }
+        let count = changes.len();
+        found = Some(with_fewer(found, Candidate { wire, count }));
     }
     match found {
         Some(candidate) => Some(candidate.wire),
@@ -87,15 +88,15 @@ fn fewer(one: Candidate, other: Candidate) -> Candidate
 
 /// The least time from an earlier change of the suspect to its last one after which the wires repeat. If they do, each period is such a time, since a
 /// change that modules may still hear has its like a period before.
-fn least_distance(alloc: Global, trial: Trial<'_>) -> Result<Option<u32>, AllocError>
+fn least_distance(alloc: Global, mut trial: Trial<'_>) -> Result<Option<u32>, AllocError>
     requires { heard_from trial.set.of.netlist.now (numbers trial.set.wires.now) < since (level trial.set.of.netlist.now trial.suspect.0) (last_unit trial.set.of.netlist.now) }
     ensures { IfOk result (λ found. found ≡ period trial.entry.set.of.netlist.now (numbers trial.entry.set.wires.now)) }
 {
-    let mut trial = trial;
     let longest = trial.times.longest_period();
     let changes = trial.set.wave_of(trial.suspect).changes();
     let last = changes.len() - 1;
-    let (time, level) = (changes.time_at(last), changes.level_at(last));
+    let time = changes.time_at(last);
+    let level = changes.level_at(last);
     for back in 0..last {
         let place = last - 1 - back;
         let units = time - changes.time_at(place);
@@ -105,7 +106,8 @@ fn least_distance(alloc: Global, trial: Trial<'_>) -> Result<Option<u32>, AllocE
         if changes.level_at(place) != level {
             continue;
         }
-        if trial.repeats(alloc, units)? {
+        let found = trial.repeats(alloc, units)?;
+        if found {
             return Ok(Some(units));
         }
     }

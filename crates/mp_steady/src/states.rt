@@ -8,7 +8,7 @@ ghost use Rattle.mp_model.specs.Levels.{input_by};
 ghost use Rattle.mp_model.specs.Waves.{level, state};
 ghost use Rattle.mp_model.specs.response.Pieces.{levels_at, piece_level};
 ghost use Rattle.mp_questions.specs.late.Sources.{has_memory};
-ghost use Rattle.mp_steady.specs.Periods.{is_again_by, is_same_state, is_state_again, last_unit, told_until};
+ghost use Rattle.mp_steady.specs.Periods.{is_again_by, is_again_in, is_same_state, is_state_again, last_unit, told_until};
 ghost use Rattle.mp_steady.specs.RunTimes.{AreTimes};
 ghost use Rattle.mp_steady.specs.WireSets.{numbers};
 
@@ -52,9 +52,25 @@ fn is_again(
     requires few { units ≤ told_until set.of.netlist.now (numbers set.wires.now) }
     ensures { IfOk result (λ is. is ≡ is_again_by set.entry.of.netlist.now (numbers set.entry.wires.now) units driver) }
 {
-    let Driver::Port(id, port) = driver else {
-        return Ok(true);
-    };
+    match driver {
+        Driver::Port(id, port) => is_port_again(alloc, set, times, units, id, port),
+        Driver::Nothing | Driver::Stimulus => Ok(true),
+    }
+}
+
+/// Whether the module of an output has that state, if the output doesn't only pass an input on.
+fn is_port_again(
+    alloc: Global,
+    set: WireSet<'_>,
+    times: RunTimes,
+    units: u32,
+    id: ModuleId,
+    port: u32,
+) -> Result<bool, AllocError>
+    requires times { AreTimes set.of.netlist.now (numbers set.wires.now) times }
+    requires few { units ≤ told_until set.of.netlist.now (numbers set.wires.now) }
+    ensures { IfOk result (λ is. is ≡ is_again_in set.entry.of.netlist.now (numbers set.entry.wires.now) units id.0 port (module_at set.entry.of.netlist.now id.0)) }
+{
     match set.of.netlist.module(id) {
         Some(part) => {
             if passes_on(part.kind, port) {
@@ -86,12 +102,7 @@ fn is_state_again(
 }
 
 /// The state of a module at a time. One without memory has it from the levels that it hears then, so nothing before is run.
-fn state_at(
-    alloc: Global,
-    set: WireSet<'_>,
-    id: ModuleId,
-    time: u32,
-) -> Result<Memory, AllocError>
+fn state_at(alloc: Global, set: WireSet<'_>, id: ModuleId, time: u32) -> Result<Memory, AllocError>
     requires stands { IsSome (module_at set.of.netlist.now id.0) }
     requires within { time ≤ last_unit set.of.netlist.now }
     ensures { IfOk result (λ found. found ≡ state set.entry.of.netlist.now id.0 time) }

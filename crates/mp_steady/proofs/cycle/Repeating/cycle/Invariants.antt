@@ -3,7 +3,7 @@ use Rattle.std.specs.Prelude.{IfSome}
 use Rattle.std.specs.List.{All}
 use Rattle.std.specs.BTreeSet.{contains}
 use Rattle.mp_questions.specs.declared.causes.wire_change.WireChange.{WireChange}
-use Rattle.mp_steady.specs.Cycles.{cycle}
+use Rattle.mp_steady.specs.Cycles.{cycle, most_places}
 use Rattle.mp_steady.specs.WireSets.{numbers}
 use Rattle.mp_steady.proofs.CycleLemmas.{IsWithin, found_on, has_key}
 use Rattle.mp_steady.proofs.cycle.Repeating.cycle.Given as goal
@@ -17,5 +17,5 @@ invariant-loop l = record {
   few : length l.way.items ≡ l.counter;
   within : All (IsWithin l.self.set.of.netlist.now) l.way.items;
   next : IfSome l.next (IsWithin l.self.set.of.netlist.now);
-  found : found_on l.self.set.of.netlist.now l.self.units l.way.items (4294967295 - l.counter) l.next ≡ cycle l.self.set.of.netlist.now (numbers l.self.set.wires.now) l.self.units;
+  found : found_on l.self.set.of.netlist.now l.self.units l.way.items (most_places - l.counter) l.next ≡ cycle l.self.set.of.netlist.now (numbers l.self.set.wires.now) l.self.units;
 }
