@@ -21,3 +21,12 @@ returns-in_err-cycle g c = puts_unmade _ OutOfMemory _ _ c.from_residual-in_err-
 
 pub returns-in_err-shares : goal.returns-in_err-shares
 returns-in_err-shares g c = puts_unmade _ OutOfMemory _ _ c.from_residual-in_err-shares.ensures.1 refl
+
+pub returns-in_err-put_cycle : goal.returns-in_err-put_cycle
+returns-in_err-put_cycle g c = ?
+
+pub returns-in_err-put_modules : goal.returns-in_err-put_modules
+returns-in_err-put_modules g c = ?
+
+pub returns : goal.returns
+returns g c = ?

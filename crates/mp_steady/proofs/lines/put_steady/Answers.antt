@@ -9,3 +9,12 @@ use Rattle.mp_steady.proofs.lines.put_steady.Goals as goal
 
 pub returns-in_err-all : goal.returns-in_err-all
 returns-in_err-all g c = puts_unmade _ OutOfMemory _ _ c.from_residual.ensures.1 refl
+
+pub returns-in_err-times : goal.returns-in_err-times
+returns-in_err-times g c = ?
+
+pub returns-in-Some : goal.returns-in-Some
+returns-in-Some g c = ?
+
+pub returns : goal.returns
+returns g c = ?

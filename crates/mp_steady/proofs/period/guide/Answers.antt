@@ -1,4 +1,4 @@
-use Rattle.std.proofs.Common.{◌≡◌, ◌<◌, ◌≤◌, Some, None, length, take, ap, sym, subst, ◌∙◌, arith}
+use Rattle.std.proofs.Common.{◌≡◌, ◌<◌, ◌≤◌, Some, None, get_or, ◌+◌, length, take, ap, sym, subst, ◌∙◌, arith}
 use Rattle.std.specs.Prelude.{IfNone, IfSome}
 use Rattle.std.specs.List.{Contains}
 use Rattle.std.proofs.lemmas.List.{take_all}
@@ -17,8 +17,8 @@ use Rattle.mp_steady.proofs.period.guide.Goals as goal
 abbrev no_wire : WireId
 no_wire = record { 0 = 0 }
 
-pub loop-wire-preserved-then-time_of : goal.loop-wire-preserved-then-time_of
-loop-wire-preserved-then-time_of c =
+pub loop-wire-preserved-then-time_of-from : goal.loop-wire-preserved-then-time_of-from
+loop-wire-preserved-then-time_of-from c =
     let n = c.args.set.of.netlist.now in
     let wires = c.args.set.wires.now in
     let i = c.loop-wire.wire-index in

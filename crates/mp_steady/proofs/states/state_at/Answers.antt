@@ -4,8 +4,12 @@ use Rattle.mp_model.specs.Levels.{input_by}
 use Rattle.mp_model.specs.Waves.{level}
 use Rattle.mp_model.specs.response.Pieces.{levels_at}
 use Rattle.mp_model.specs.declared.response.in_piece.InPiece.{InPiece}
+use Rattle.mp_model.proofs.BuiltLemmas.{width_of_module}
 use Rattle.mp_steady.proofs.StateLemmas.{state_found}
 use Rattle.mp_steady.proofs.states.state_at.Goals as goal
+
+pub built-part-requires-clause-width : goal.built-part-requires-clause-width
+built-part-requires-clause-width c = width_of_module c.args.set.of.netlist.now c.horizon-horizon.ensures.form c.in-Some.record.now c.in-Some.ensures.form
 
 pub returns : goal.returns
 returns c =
