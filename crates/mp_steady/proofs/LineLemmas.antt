@@ -1,7 +1,9 @@
 -- What is said of a set of wires, and of what comes behind it.
-use Rattle.std.proofs.Common.{◌≡◌, ℕ, Bool, true, false, not, cond, List, [], ◌∷◌, ◌++◌, append-nil, filter, slice_get, Option, Some, None, is_some, refl, ap, sym, subst, ◌∙◌}
+use Rattle.std.proofs.Common.{◌≡◌, ℕ, Bool, true, false, not, cond, List, [], ◌∷◌, ◌++◌, append-nil, filter, length, slice_get, Option, Some, None, is_some, refl, ap, sym, subst, ◌∙◌, ◌==◌, arith}
 use Rattle.std.specs.Prelude.{◌||◌, codes}
 use Rattle.std.specs.List.{flat_map}
+use Rattle.std.proofs.lemmas.Bool.{eqb-false}
+use Rattle.std.proofs.lemmas.List.{length-map}
 use Rattle.std.proofs.lemmas.Option.{same_Some}
 use Rattle.mp_records.specs.declared.ids.WireId.{WireId}
 use Rattle.mp_netlist.specs.Circuit.{Circuit}
@@ -98,3 +100,7 @@ critical n (c ∷ cs) first units list is long of =
     let same : c ≡ first = same_Some c first is in
     ap (λ d. cycle_line n d units ++ flat_map (module_line n) list) (sym same) ∙ ap (λ u. cycle_line n c u ++ flat_map (module_line n) list) long
     ∙ ap (λ l. cycle_line n c (cycle_length n (c ∷ cs)) ++ flat_map (module_line n) l) of
+
+-- a list that isn't empty has numbers
+pub some_wires : (wires : List WireId) (count : ℕ) → length wires ≡ count → (count == 0) ≡ false → numbers wires ≡ [] → ⊥
+some_wires wires count long some none = eqb-false count 0 some (omega (arith, long, ap length none, length-map wires (λ (w : WireId). w.0)))
