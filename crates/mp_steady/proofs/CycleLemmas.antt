@@ -3,6 +3,10 @@ use Rattle.std.proofs.Common.{◌≡◌, ℕ, ◌+◌, ◌*◌, ◌-◌, ◌%◌
 use Rattle.std.specs.Prelude.{◌||◌, ◌&&◌, IfSome, nat_lt}
 use Rattle.std.specs.List.{All, find, list_any}
 use Rattle.std.specs.Option.{option_or}
+use Rattle.std.specs.BTreeSet.{BTreeSet, Updates, contains}
+use Rattle.std.specs.Ordering.{is_eq, nat_cmp}
+use Rattle.std.proofs.lemmas.Bool.Decides.{nat_tests}
+use Rattle.std.proofs.lemmas.List.Folds.{list_any-append}
 use Rattle.std.proofs.lemmas.Bool.{cases_Bool, cases_lt, eqb-true, eq-eqb, ne_eqb, lt-ltb, and_parts}
 use Rattle.std.proofs.lemmas.List.{at_drop_all, at_drop_more, length-map}
 use Rattle.std.proofs.lemmas.List.Elements.{All-nil, All-cons, All-head, All-tail}
@@ -194,6 +198,22 @@ keyed c [] low small = refl
 keyed c (d ∷ ds) low small =
     ap (λ b. b || has_key (key c) ds) (same_key c d low (All-head (λ (e : WireChange). e.wire.0 < 2 ^ 32) d ds small))
     ∙ ap (λ b. is_place c d || b) (keyed c ds low (All-tail (λ (e : WireChange). e.wire.0 < 2 ^ 32) d ds small))
+
+is_same : (a b : ℕ) → is_eq (nat_cmp a b) ≡ (b == a)
+is_same a b = grind (arith, nat_tests)
+
+turned : (t b : Bool) → cond t true b ≡ (b || (t || false))
+turned true true = refl
+turned true false = refl
+turned false true = refl
+turned false false = refl
+
+-- a number more that was seen
+pub keys_more : (old new : BTreeSet ℕ) (k : ℕ) (c : WireChange) (way more : List WireChange) → Updates nat_cmp old new k true → k ≡ key c → more ≡ way ++ c ∷ []
+    → ((q : ℕ) → contains nat_cmp old q ≡ has_key q way) → (q : ℕ) → contains nat_cmp new q ≡ has_key q more
+keys_more old new k c way more updates is grown known q =
+    updates.0 q ∙ ap (λ t. cond t true (contains nat_cmp old q)) (is_same k q) ∙ ap (cond (q == k) true) (known q) ∙ turned (q == k) (has_key q way)
+    ∙ ap (λ j. has_key q way || ((q == j) || false)) is ∙ sym (ap (has_key q) grown ∙ list_any-append (λ (d : WireChange). q == key d) way (c ∷ []))
 
 -- ---- from a change on
 

@@ -1,8 +1,8 @@
 -- What is said of a set of wires, and of what comes behind it.
-use Rattle.std.proofs.Common.{◌≡◌, ℕ, ◌==◌, Bool, true, false, not, cond, List, [], ◌∷◌, ◌++◌, length, arith, append-nil, filter, slice_get, Option, Some, None, is_some, refl, ap, sym, subst, ◌∙◌}
+use Rattle.std.proofs.Common.{◌≡◌, ℕ, Bool, true, false, not, cond, List, [], ◌∷◌, ◌++◌, append-nil, filter, length, slice_get, Option, Some, None, is_some, refl, ap, sym, subst, ◌∙◌, ◌==◌, arith}
 use Rattle.std.specs.Prelude.{◌||◌, codes}
 use Rattle.std.specs.List.{flat_map}
-use Rattle.std.proofs.lemmas.Bool.{eq-eqb, true≢false}
+use Rattle.std.proofs.lemmas.Bool.{eqb-false}
 use Rattle.std.proofs.lemmas.List.{length-map}
 use Rattle.std.proofs.lemmas.Option.{same_Some}
 use Rattle.mp_records.specs.declared.ids.WireId.{WireId}
@@ -101,12 +101,6 @@ critical n (c ∷ cs) first units list is long of =
     ap (λ d. cycle_line n d units ++ flat_map (module_line n) list) (sym same) ∙ ap (λ u. cycle_line n c u ++ flat_map (module_line n) list) long
     ∙ ap (λ l. cycle_line n c (cycle_length n (c ∷ cs)) ++ flat_map (module_line n) l) of
 
-pub critical_text : (n : Circuit) (found seen : List WireChange) (first : WireChange) (units : ℕ) (list : List ModuleShare) (all : List WireChange) → seen ≡ found → slice_get seen 0 ≡ Some first → units ≡ cycle_length n found
-    → list ≡ by_units (filter has_steps (shares n found)) → found ≡ all → cycle_line n first units ++ flat_map (module_line n) list ≡ cycle_text n all
-critical_text n found seen first units list all same is long of whole = critical n found first units list (sym (ap (λ (l : List WireChange). slice_get l 0) same) ∙ is) long of ∙ ap (cycle_text n) whole
-
--- some wires were found
-pub some_wires : (items seen : List WireId) (count : ℕ) → (count == 0) ≡ false → count ≡ length items → seen ≡ items → numbers seen ≡ [] → ⊥
-some_wires items seen count some long same none =
-    let zero : count ≡ 0 = omega (arith, long, ap length same, length-map seen (λ (w : WireId). w.0), ap length none) in
-    true≢false (sym (eq-eqb count 0 zero) ∙ some)
+-- a list that isn't empty has numbers
+pub some_wires : (wires : List WireId) (count : ℕ) → length wires ≡ count → (count == 0) ≡ false → numbers wires ≡ [] → ⊥
+some_wires wires count long some none = eqb-false count 0 some (omega (arith, long, ap length none, length-map wires (λ (w : WireId). w.0)))

@@ -1,14 +1,15 @@
 -- Which numbers of units can be a period: each is the time from an earlier change of a guide to its last one.
 use Rattle.std.proofs.Common.{◌≡◌, ℕ, ◌+◌, ◌-◌, ◌<◌, ◌≤◌, ◌==◌, ◌⊎◌, inl, inr, Bool, true, false, not, cond, List, [], ◌∷◌, ◌++◌, length, get_or, Option, Some, None, zero, suc, refl, ap, sym, subst, ◌∙◌, arith}
-use Rattle.std.specs.Prelude.{◌≢◌, ◌||◌, IfNone, IfSome, nat_le, unwrap_or}
-use Rattle.std.specs.List.{Contains, find, list_all, range_with_len}
-use Rattle.std.proofs.lemmas.Bool.{cases_Bool, cases_lt, cases_eq, eq-eqb, ne_eqb, leb-true, leb-false, and_parts}
+use Rattle.std.specs.Prelude.{◌≢◌, ◌||◌, IfNone, IfSome, IsSome, nat_le, unwrap_or}
+use Rattle.std.specs.List.{All, Contains, find, list_all, range_with_len}
+use Rattle.std.proofs.lemmas.Bool.{cases_Bool, cases_lt, eq-eqb, eqb-true, leb-true, leb-false, and_parts}
+use Rattle.std.proofs.lemmas.List.Elements.{All-head, All-tail}
 use Rattle.mp_modules.specs.Histories.{has_event}
 use Rattle.mp_wave.specs.Waveform.{AreChanges, Waveform, change_after, changes_after, last_time, level_from}
 use Rattle.mp_wave.proofs.WaveformLemmas.{last_time-append, level_from-rest, nat_le-false}
 use Rattle.mp_wave.proofs.ChangesLemmas.{AreChanges-changes_after, level_from-changes_after, last_time-changes_after}
 use Rattle.mp_records.specs.declared.ids.WireId.{WireId}
-use Rattle.mp_netlist.specs.Circuit.{Circuit}
+use Rattle.mp_netlist.specs.Circuit.{Circuit, wire_at}
 use Rattle.mp_netlist.specs.Drivers.{driver}
 use Rattle.mp_model.specs.Waves.{level, wave}
 use Rattle.mp_questions.specs.timing.Events.{last_event, since}
@@ -19,17 +20,27 @@ use Rattle.mp_steady.proofs.SetLemmas.{greatest_bounds, repeats_level}
 
 -- ---- wires of a set
 
-or_true : (b : Bool) → (b || true) ≡ true
-or_true true = refl
-or_true false = refl
-
 pub has_number : (wires : List WireId) (w : WireId) → Contains wires w → has_wire (numbers wires) w.0 ≡ true
 has_number wires w has = at wires has.0 has.1 has.2
   where
+    or_true : (b : Bool) → (b || true) ≡ true
+    or_true true = refl
+    or_true false = refl
+
     at : (vs : List WireId) (k : ℕ) → k < length vs → get_or vs k w ≡ w → has_wire (numbers vs) w.0 ≡ true
     at [] k low is = absurd (omega (arith, low))
     at (v ∷ vs) zero low is = ap (λ b. b || has_wire (numbers vs) w.0) (eq-eqb v.0 w.0 (ap (λ (x : WireId). x.0) is))
     at (v ∷ vs) (suc k) low is = ap (λ b. (v.0 == w.0) || b) (at vs k (omega (arith, low)) is) ∙ or_true (v.0 == w.0)
+
+-- a wire of a set stands
+pub stands_of : (n : Circuit) (wires : List WireId) (w : ℕ) → All (λ (v : WireId). IsSome (wire_at n v.0)) wires → has_wire (numbers wires) w ≡ true → IsSome (wire_at n w)
+stands_of n [] w all has = let no : ⊥ = cc in absurd no
+stands_of n (v ∷ vs) w all has =
+    by (cases_Bool (v.0 == w)) (All-head (λ (x : WireId). IsSome (wire_at n x.0)) v vs all) (stands_of n vs w (All-tail (λ (x : WireId). IsSome (wire_at n x.0)) v vs all))
+  where
+    by : ((v.0 == w) ≡ true) ⊎ ((v.0 == w) ≡ false) → IsSome (wire_at n v.0) → (has_wire (numbers vs) w ≡ true → IsSome (wire_at n w)) → IsSome (wire_at n w)
+    by (inl same) here rest = subst (λ k. IsSome (wire_at n k)) (eqb-true v.0 w same) here
+    by (inr other) here rest = rest (sym (ap (λ b. b || has_wire (numbers vs) w) other) ∙ has)
 
 -- ---- the changes of a level
 
@@ -164,6 +175,9 @@ module _ (n : Circuit) (wires : List ℕ) (w : ℕ) (changes : List (ℕ × ℕ)
     | inr over ↦ let here : k ≡ last = omega (arith, low, over) in let e : at k ≡ at last = ap at here in omega (arith, e)
   ]
 
+  pub earlier : (k : ℕ) → suc k ≤ last → at k < at last
+  earlier k less = rises 0 (f 0) changes k last (0, 0) are less (omega (arith, guide.long))
+
   stays : (k t : ℕ) → k ≤ last → at k ≤ t → t ≤ end → (suc k ≤ last → t < at (suc k)) → f t ≡ level_at k
   stays k t low from upto until = sym (same t upto) ∙ stays_at 0 (f 0) changes k t (0, 0) are (omega (arith, low, guide.long)) from (λ more. until (omega (arith, more, guide.long)))
 
@@ -284,6 +298,66 @@ no_guide n wires moving low =
     let far = leb-false (last_change n wires + (longest_delay n wires + longest_input_delay n wires)) (last_unit n) moving in
     let none = zero_longest (last_unit n) (longest_delay n wires) (longest_input_delay n wires) (last_change n wires) (last_set n wires) low far in
     no_period n wires (λ units some few. absurd (omega (arith, some, few, none)))
+
+-- ---- one change after the other, from the last one back
+
+module _ (n : Circuit) (wires : List ℕ) (w : ℕ) (changes : List (ℕ × ℕ)) (last : ℕ) (guide : IsGuide n wires w changes last) where
+  -- all were looked at
+  pub none_left : (back : ℕ) → last ≤ back → NoneUpto n wires w changes last guide (last - back) → None ≡ period n wires
+  none_left back over none =
+      let e : last - back ≡ 0 = omega (arith, over) in
+      no_period n wires (none_at_all n wires w changes last guide (subst (NoneUpto n wires w changes last guide) e none))
+
+  module _ (back : ℕ) (low : back < last) (none : NoneUpto n wires w changes last guide (last - back)) (time before longest : ℕ) (time_is : time ≡ (get_or changes last (0, 0)).0)
+      (before_is : before ≡ (get_or changes (last - 1 - back) (0, 0)).0) (most : longest ≡ longest_period n wires) where
+    abbrev k : ℕ
+    k = last - 1 - back
+
+    inside : suc k ≤ last
+    inside = omega (arith, low)
+
+    none_behind : NoneUpto n wires w changes last guide (suc k)
+    none_behind = let e : last - back ≡ suc k = omega (arith, low) in subst (NoneUpto n wires w changes last guide) e none
+
+    units_are : time - before ≡ at n wires w changes last guide last - at n wires w changes last guide k
+    units_are = ap (λ x. x - before) time_is ∙ ap (λ x. (get_or changes last (0, 0)).0 - x) before_is
+
+    pub in_order : before ≤ time
+    in_order = let up = place_in_run n wires w changes last guide k (omega (arith, low)) in omega (arith, up, time_is, before_is)
+
+    pub too_long : longest < time - before → None ≡ period n wires
+    too_long above =
+        no_period n wires (λ units some few.
+        let less : units < longest_period n wires + 1 = omega (arith, few) in
+        none_below n wires w changes last guide k inside none_behind units some few (omega (arith, above, units_are, less, most)))
+
+    module _ (short : time - before ≤ longest) where
+      few : at n wires w changes last guide last - at n wires w changes last guide k ≤ longest_period n wires
+      few = subst (λ x. at n wires w changes last guide last - at n wires w changes last guide k ≤ x) most (omega (arith, short, units_are))
+
+      some : 1 ≤ at n wires w changes last guide last - at n wires w changes last guide k
+      some = let up = earlier n wires w changes last guide k inside in omega (arith, up)
+
+      next : repeats n wires (at n wires w changes last guide last - at n wires w changes last guide k) ≡ false → NoneUpto n wires w changes last guide (last - (back + 1))
+      next here =
+          let e : k ≡ last - (back + 1) = omega (arith, low) in
+          subst (NoneUpto n wires w changes last guide) e (none_upto n wires w changes last guide k inside none_behind few here)
+
+      -- the change there is to another level
+      pub next_other : (get_or changes k (0, 0)).1 ≢ (get_or changes last (0, 0)).1 → NoneUpto n wires w changes last guide (last - (back + 1))
+      next_other differs =
+          let up = earlier n wires w changes last guide k inside in
+          next (other_level n wires w changes last guide (at n wires w changes last guide last - at n wires w changes last guide k) some few k (omega (arith, low)) (omega (arith, up)) differs)
+
+      -- the wires don't repeat
+      pub next_none : repeats n wires (time - before) ≡ false → NoneUpto n wires w changes last guide (last - (back + 1))
+      next_none no_repeat = next (sym (ap (repeats n wires) units_are) ∙ no_repeat)
+
+      pub next_found : repeats n wires (time - before) ≡ true → Some (time - before) ≡ period n wires
+      next_found is =
+          ap (λ u. let o : Option ℕ = Some u in o) units_are
+          ∙ a_period n wires (at n wires w changes last guide last - at n wires w changes last guide k) some few (sym (ap (repeats n wires) units_are) ∙ is)
+          (λ v one below. none_below n wires w changes last guide k inside none_behind v one (omega (arith, below, few)) below)
 
 -- what is known of a period
 pub period_is : (n : Circuit) (wires : List ℕ) (units : ℕ) → period n wires ≡ Some units → (1 ≤ units) × (units ≤ longest_period n wires)

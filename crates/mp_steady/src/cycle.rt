@@ -1,5 +1,5 @@
 //! The critical cycle.
-ghost use Rattle.std.specs.Prelude.{◌≡◌, ◌+◌, ◌*◌, ◌<◌, ◌≤◌, IfOk};
+ghost use Rattle.std.specs.Prelude.{◌≡◌, ◌+◌, ◌*◌, ◌^◌, ◌<◌, ◌≤◌, IfOk};
 ghost use Rattle.mp_steady.specs.Cycles.{from_place, is_place};
 ghost use Rattle.mp_steady.specs.RunTimes.{AreTimes};
 ghost use Rattle.mp_steady.specs.WireSets.{numbers};
@@ -165,7 +165,8 @@ impl<'a> Repeating<'a> {
 
 /// A change as a number.
 fn key_of(change: WireChange) -> u64
-    ensures { result ≡ change.time * 4294967296 + change.wire.0 }
+    ensures value { result ≡ change.time * 4294967296 + change.wire.0 }
+    ensures low { change.wire.0 < 2 ^ 32 }
 {
     u64::from(change.time) * WIRES + u64::from(change.wire.0)
 }

@@ -156,9 +156,10 @@ fn put_critical<S: Sink>(
     let netlist = of.set.of.netlist;
     let mut tracer = Tracer::of(alloc, netlist, of.set.of.waves)?;
     let cycle = of.cycle(alloc, &mut tracer)?;
-    let shares = shares_of(alloc, &mut tracer, cycle.as_slice())?;
-    let length = cycle_length(&mut tracer, cycle.as_slice());
-    let Some(&first) = cycle.as_slice().first() else {
+    let changes = cycle.as_slice();
+    let shares = shares_of(alloc, &mut tracer, changes)?;
+    let length = cycle_length(&mut tracer, changes);
+    let Some(&first) = changes.first() else {
         return Ok(());
     };
     put_cycle(out, netlist, first, length)?;

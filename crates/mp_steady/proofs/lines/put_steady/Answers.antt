@@ -1,8 +1,8 @@
-use Rattle.std.proofs.Common.{◌≡◌, ◌++◌, ℕ, List, [], true, false, not, cond, codes, is_some, refl, ap, sym, ◌∙◌}
+use Rattle.std.proofs.Common.{List, [], ℕ, cond, is_some, refl, ap, sym, subst, ◌∙◌, codes}
 use Rattle.mp_streams.proofs.OutLemmas.{puts_as, puts_sooner, puts_then, puts_unmade}
 use Rattle.mp_streams.specs.declared.write_error.WriteError.TheVariants.{OutOfMemory}
 use Rattle.mp_questions.proofs.lemmas.causes.WhyLemmas.{puts_ok, puts_text}
-use Rattle.mp_steady.specs.SteadyLines.{control_text, steady_text, text_of}
+use Rattle.mp_steady.specs.SteadyLines.{control_text}
 use Rattle.mp_steady.specs.WireSets.{control, numbers}
 use Rattle.mp_steady.proofs.LineLemmas.{is_said, steady_is, text_said, text_splits, text_unsaid}
 use Rattle.mp_steady.proofs.lines.put_steady.Goals as goal
@@ -16,28 +16,23 @@ returns-in_err-all g c = puts_unmade _ OutOfMemory _ _ c.from_residual.ensures.1
 pub returns-in_err-times : goal.returns-in_err-times
 returns-in_err-times g c =
     let n = c.args.of.netlist.now in
-    let wires : List ℕ = numbers c.as_slice.result.now in
+    let wires = numbers c.as_slice.result.now in
     let other = control_text n (control n) in
-    let text : text_of n over [] wires [] ++ cond (is_said n wires) [] other ≡ steady_text n =
-    sym (text_splits n over [] wires other) ∙ steady_is n over [] wires refl refl (ap numbers c.as_slice.ensures.value ∙ c.in_ok-all.ensures.value) in
-    puts_as _ c.in_err-times.field-0 c.from_residual-in_err-times.ensures.1 refl (puts_text text (puts_sooner (cond (is_said n wires) [] other) c.in_err-times.ensures.text))
+    let is = steady_is n over [] wires refl refl (ap numbers c.as_slice.ensures.value ∙ c.in_ok-all.ensures.value) in
+    puts_as _ c.in_err-times.field-0.0 c.from_residual-in_err-times.ensures.1 refl
+    (puts_text (sym (text_splits n over [] wires other) ∙ is) (puts_sooner (cond (is_said n wires) [] other) c.in_err-times.ensures.text))
 
 pub returns-in-Some : goal.returns-in-Some
 returns-in-Some g c =
     let n = c.args.of.netlist.now in
-    let wires : List ℕ = numbers c.as_slice.result.now in
-    let other = control_text n (control n) in
-    let told : true ≡ not (is_said n wires) = sym (ap is_some c.in-Some.is) ∙ c.in_ok-times.ensures.found in
-    let text : text_of n over [] wires [] ++ other ≡ steady_text n =
-    text_unsaid n over [] wires other told ∙ steady_is n over [] wires refl refl (ap numbers c.as_slice.ensures.value ∙ c.in_ok-all.ensures.value) in
+    let wires = numbers c.as_slice.result.now in
+    let is = steady_is n over [] wires refl refl (ap numbers c.as_slice.ensures.value ∙ c.in_ok-all.ensures.value) in
+    let text = text_unsaid n over [] wires (control_text n (control n)) (sym (ap is_some c.in-Some.is) ∙ c.in_ok-times.ensures.found) ∙ is in
     puts_text text (puts_then c.in_ok-times.ensures.text c.put_control.ensures)
 
 pub returns : goal.returns
 returns g c =
     let n = c.args.of.netlist.now in
-    let wires : List ℕ = numbers c.as_slice.result.now in
-    let other = control_text n (control n) in
-    let told : false ≡ not (is_said n wires) = sym (ap is_some c.in-None.is) ∙ c.in_ok-times.ensures.found in
-    let text : text_of n over [] wires [] ≡ steady_text n =
-    text_said n over [] wires other told ∙ steady_is n over [] wires refl refl (ap numbers c.as_slice.ensures.value ∙ c.in_ok-all.ensures.value) in
-    puts_ok (puts_text text c.in_ok-times.ensures.text)
+    let wires = numbers c.as_slice.result.now in
+    let is = steady_is n over [] wires refl refl (ap numbers c.as_slice.ensures.value ∙ c.in_ok-all.ensures.value) in
+    puts_text (text_said n over [] wires (control_text n (control n)) (sym (ap is_some c.in-None.is) ∙ c.in_ok-times.ensures.found) ∙ is) (puts_ok c.in_ok-times.ensures.text)

@@ -8,6 +8,9 @@ use Rattle.mp_model.proofs.BuiltLemmas.{width_of_module}
 use Rattle.mp_steady.proofs.StateLemmas.{state_found}
 use Rattle.mp_steady.proofs.states.state_at.Goals as goal
 
+pub built-part-requires-clause-width : goal.built-part-requires-clause-width
+built-part-requires-clause-width c = width_of_module c.args.set.of.netlist.now c.horizon-horizon.ensures.form c.in-Some.record.now c.in-Some.ensures.form
+
 pub returns : goal.returns
 returns c =
     let n = c.args.set.of.netlist.now in

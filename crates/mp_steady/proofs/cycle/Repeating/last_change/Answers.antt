@@ -9,23 +9,12 @@ use Rattle.mp_steady.specs.Periods.{events}
 use Rattle.mp_steady.proofs.CycleLemmas.{count_is, last_moving, moving, none_last, not_counted, not_moving, some_last}
 use Rattle.mp_steady.proofs.cycle.Repeating.last_change.Goals as goal
 
-pub returns-else-counts-clause-none : goal.returns-else-counts-clause-none
-returns-else-counts-clause-none c = not_counted c.args.self.set.of.netlist.now c.args.self.units c.args.narrow c.args.wire.0 (sym c.counts.ensures ∙ c.if-counts.false)
-
 pub returns-in-None-clause-none : goal.returns-in-None-clause-none
 returns-in-None-clause-none c =
     let n = c.args.self.set.of.netlist.now in
     let xs = changes_in c.changes_of.result in
     let count = count_is xs (event_times (level n c.args.wire.0) (n.horizon - c.args.self.units) n.horizon) c.changes_of.ensures.times in
     not_moving n c.args.self.units c.args.narrow c.args.wire.0 (count ∙ none_last xs (sym c.in-None.ensures.value))
-
-pub returns-in-Some-clause-moving : goal.returns-in-Some-clause-moving
-returns-in-Some-clause-moving c =
-    let n = c.args.self.set.of.netlist.now in
-    let xs = changes_in c.changes_of.result in
-    let count = count_is xs (event_times (level n c.args.wire.0) (n.horizon - c.args.self.units) n.horizon) c.changes_of.ensures.times in
-    let some = some_last xs (c.in-Some.time, c.in-Some.level) (sym c.in-Some.ensures.value) in
-    moving n c.args.self.units c.args.narrow c.args.wire.0 (sym c.counts.ensures ∙ c.if-counts.true) (omega (arith, count, some))
 
 pub returns-in-Some-clause-some : goal.returns-in-Some-clause-some
 returns-in-Some-clause-some c =
