@@ -3,7 +3,7 @@ use Rattle.std.proofs.Common.{◌≡◌, ℕ, ◌+◌, ◌-◌, ◌<◌, ◌≤�
 use Rattle.std.specs.List.{list_all, list_any, range_with_len}
 use Rattle.std.proofs.lemmas.Bool.{cases_Bool, cases_lt, cases_eq, and_parts, and_from, or_left, or_cases, eq-eqb, ne_eqb, eqb-true, false_from_ne_true, true≢false}
 use Rattle.std.proofs.lemmas.List.{get_or_default, length-append, take_all, take-append-le, map-append, map_push, get_or_append_left, get_or_past, get_or-set_same, get_or-set_other, length-set, length-replicate, length_push}
-use Rattle.std.proofs.lemmas.List.Elements.{filter_agree, All-nil, All-take, All-drop}
+use Rattle.std.proofs.lemmas.List.Elements.{filter_agree, All-nil, All-head, All-tail, All-take, All-drop}
 use Rattle.std.proofs.lemmas.List.Folds.{list_all-append, list_any-append}
 use Rattle.std.proofs.lemmas.List.Sums.{count_by-le-length, sum_by-set, AllPass-from_list_all, list_all-from_AllPass}
 use Rattle.std.proofs.lemmas.List.Folds.{sum_by-replicate}
@@ -49,6 +49,16 @@ pub all_stand : (n : Circuit) (found : List WireId) → list_all (λ w. is_some 
 all_stand n [] all k d low = absurd (omega (arith, low))
 all_stand n (w ∷ ws) all zero d low = (and_parts (is_some (wire_at n w.0)) (list_all (λ v. is_some (wire_at n v)) (numbers ws)) all).0
 all_stand n (w ∷ ws) all (suc k) d low = all_stand n ws (and_parts (is_some (wire_at n w.0)) (list_all (λ v. is_some (wire_at n v)) (numbers ws)) all).1 k d (omega (arith, low))
+
+-- one of wires that all exist
+pub has_stands : (n : Circuit) (wires : List WireId) (w : ℕ) → All (λ (v : WireId). IsSome (wire_at n v.0)) wires → has_wire (numbers wires) w ≡ true → IsSome (wire_at n w)
+has_stands n [] w all has = absurd (true≢false (sym has))
+has_stands n (v ∷ vs) w all has =
+    by (or_cases (v.0 == w) (has_wire (numbers vs) w) has) (has_stands n vs w (All-tail (λ (u : WireId). IsSome (wire_at n u.0)) v vs all))
+  where
+    by : ((v.0 == w) ≡ true) ⊎ (has_wire (numbers vs) w ≡ true) → (has_wire (numbers vs) w ≡ true → IsSome (wire_at n w)) → IsSome (wire_at n w)
+    by (inl here) rest = subst (λ k. IsSome (wire_at n k)) (eqb-true v.0 w here) (All-head (λ (u : WireId). IsSome (wire_at n u.0)) v vs all)
+    by (inr later) rest = rest later
 
 pub control_stands : (n : Circuit) (found : List WireId) → numbers found ≡ control n → All (λ (w : WireId). IsSome (wire_at n w.0)) found
 unfolding control
@@ -134,7 +144,7 @@ reached_more n marks order wire are low new is = record {
   listed = λ w. listed w (cases_eq w wire.0);
   once =
       (let change = sum_by-set (λ (mark : Bool). cond mark 1 0) marks wire.0 true false low in
-      let before : cond (get_or marks wire.0 false) 1 0 ≡ 0 = ap (λ b. cond b 1 0) new in
+      let before : ◌≡◌ {A = ℕ} (cond (get_or marks wire.0 false) 1 0) 0 = ap (λ b. let k : ℕ = cond b 1 0 in k) new in
       omega (arith, change, before, length_push order wire, are.once));
   needed = λ w has. needed w (or_cases (has_wire (numbers order) w) (wire.0 == w) (sym (has_push order wire w) ∙ has));
 }

@@ -49,7 +49,8 @@ repeats_before f units from last some low same =
 pub repeats_low : (f : ℕ → ℕ) (units from last : ℕ) → from ≤ last → ((s : ℕ) → from ≤ s → s ≤ last → f s ≡ f (s + units)) → repeats_from f units last ≤ from
 repeats_low f units zero last low same = omega (arith, repeats_all f units last (λ s upto. same s (omega arith) upto))
 repeats_low f units (suc from) last low same =
-    omega (arith, repeats_before f units (suc from) last (omega arith) low same, repeats_bound f units from)
+    let e : suc from - 1 ≡ from = omega arith in
+    omega (arith, repeats_before f units (suc from) last (omega arith) low same, ap (repeats_from f units) e, repeats_bound f units from)
 
 -- ---- a wave
 

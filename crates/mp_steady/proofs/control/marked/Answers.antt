@@ -11,7 +11,7 @@ loop-number-preserved c =
     let k = c.loop-number.number in
     let old = c.loop-number.found.items in
     elim c.if-is_marked.branch [
-      | then-is_marked+in_ok-push w ↦ rw w.found-is (kept_one (mark_at marks) k old w.in_ok-push.new.self.items (sym c.is_marked.ensures ∙ w.if-is_marked.true) c.loop-number.invariant w.in_ok-push.ensures.items)
+      | then-is_marked+in_ok-push w ↦ rw w.found-is (kept_one (mark_at marks) k old _ (sym c.is_marked.ensures ∙ w.if-is_marked.true) c.loop-number.invariant w.in_ok-push.ensures.items)
       | else-is_marked w ↦ rw w.found-is (kept_none (mark_at marks) k old (sym c.is_marked.ensures ∙ w.if-is_marked.false) c.loop-number.invariant)
     ]
 

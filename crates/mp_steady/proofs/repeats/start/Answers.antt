@@ -12,9 +12,6 @@ use Rattle.mp_steady.proofs.repeats.start.Goals as goal
 abbrev none : WireId
 none = record { 0 = 0 }
 
-pub overflow_sub-repeats_from : goal.overflow_sub-repeats_from
-overflow_sub-repeats_from c = omega (arith, c.requires.times.end, c.requires.few)
-
 pub repeats_from-from-requires : goal.repeats_from-from-requires
 repeats_from-from-requires c = record {
   form = wave_form c.args.set.of.netlist.now (slice_index_or c.args.set.wires.now c.loop-wire.wire-index none).0 c.wave_of.result.now c.wave_of.ensures;

@@ -15,11 +15,22 @@ loop-late-init c =
       rest = refl;
     }
 
+pub overflow_add-from : goal.overflow_add-from
+overflow_add-from c =
+    let wave = c.args.wave.now in
+    let kept = c.loop-late.invariant in
+    let late = changes_in c.loop-late.late in
+    let early = changes_in c.loop-late.early in
+    let level : last_from wave.initial late ≡ last_from wave.initial early = sym c.level_after.ensures ∙ c.loop-late-test.true ∙ c.level_after-in-loop-late.ensures in
+    let is : c.max-from.result ≡ max (last_time 0 late - c.args.units) (last_time 0 early) = omega (arith, c.max-from.ensures, c.saturating_sub-late_from.ensures, c.time_of.ensures, c.time_of-in-loop-late.ensures) in
+    let back = same_from wave c.args.units c.loop-late.last c.max-from.result late early c.requires.form kept.late kept.early level is in
+    omega (arith, back.low, kept.low, c.requires.short)
+
 pub before-late-requires : goal.before-late-requires
 before-late-requires c = omega (arith, c.time_of.ensures, c.saturating_sub-late_from.ensures, c.max-from.ensures)
 
 pub before-early-requires : goal.before-early-requires
-before-early-requires c = omega (arith, c.time_of-2.ensures, c.max-from.ensures)
+before-early-requires c = omega (arith, c.time_of-in-loop-late.ensures, c.max-from.ensures)
 
 pub loop-late-smaller : goal.loop-late-smaller
 loop-late-smaller c =
@@ -27,8 +38,8 @@ loop-late-smaller c =
     let kept = c.loop-late.invariant in
     let late = changes_in c.loop-late.late in
     let early = changes_in c.loop-late.early in
-    let level : last_from wave.initial late ≡ last_from wave.initial early = sym c.level_after.ensures ∙ c.loop-late-test.true ∙ c.level_after-2.ensures in
-    let is : c.max-from.result ≡ max (last_time 0 late - c.args.units) (last_time 0 early) = omega (arith, c.max-from.ensures, c.saturating_sub-late_from.ensures, c.time_of.ensures, c.time_of-2.ensures) in
+    let level : last_from wave.initial late ≡ last_from wave.initial early = sym c.level_after.ensures ∙ c.loop-late-test.true ∙ c.level_after-in-loop-late.ensures in
+    let is : c.max-from.result ≡ max (last_time 0 late - c.args.units) (last_time 0 early) = omega (arith, c.max-from.ensures, c.saturating_sub-late_from.ensures, c.time_of.ensures, c.time_of-in-loop-late.ensures) in
     let back = same_from wave c.args.units c.loop-late.last c.max-from.result late early c.requires.form kept.late kept.early level is in
     omega (arith, back.low, c.if-from-least.false)
 
@@ -41,8 +52,8 @@ loop-late-preserved c =
     let kept = c.loop-late.invariant in
     let late = changes_in c.loop-late.late in
     let early = changes_in c.loop-late.early in
-    let level : last_from wave.initial late ≡ last_from wave.initial early = sym c.level_after.ensures ∙ c.loop-late-test.true ∙ c.level_after-2.ensures in
-    let is : from ≡ max (last_time 0 late - units) (last_time 0 early) = omega (arith, c.max-from.ensures, c.saturating_sub-late_from.ensures, c.time_of.ensures, c.time_of-2.ensures) in
+    let level : last_from wave.initial late ≡ last_from wave.initial early = sym c.level_after.ensures ∙ c.loop-late-test.true ∙ c.level_after-in-loop-late.ensures in
+    let is : from ≡ max (last_time 0 late - units) (last_time 0 early) = omega (arith, c.max-from.ensures, c.saturating_sub-late_from.ensures, c.time_of.ensures, c.time_of-in-loop-late.ensures) in
     let back = same_from wave units last from late early c.requires.form kept.late kept.early level is in
     let some : 0 < from = omega (arith, c.if-from-least.false) in
     record {
@@ -61,8 +72,8 @@ returns-then-from-least c =
     let kept = c.loop-late.invariant in
     let late = changes_in c.loop-late.late in
     let early = changes_in c.loop-late.early in
-    let level : last_from wave.initial late ≡ last_from wave.initial early = sym c.level_after.ensures ∙ c.loop-late-test.true ∙ c.level_after-2.ensures in
-    let is : from ≡ max (last_time 0 late - units) (last_time 0 early) = omega (arith, c.max-from.ensures, c.saturating_sub-late_from.ensures, c.time_of.ensures, c.time_of-2.ensures) in
+    let level : last_from wave.initial late ≡ last_from wave.initial early = sym c.level_after.ensures ∙ c.loop-late-test.true ∙ c.level_after-in-loop-late.ensures in
+    let is : from ≡ max (last_time 0 late - units) (last_time 0 early) = omega (arith, c.max-from.ensures, c.saturating_sub-late_from.ensures, c.time_of.ensures, c.time_of-in-loop-late.ensures) in
     let back = same_from wave units last from late early c.requires.form kept.late kept.early level is in
     let low : repeats_from (level_of wave) units last ≤ from = repeats_low (level_of wave) units from last back.low back.same in
     let here : c.args.least ≡ max c.args.least (repeats_from (level_of wave) units last) = omega (arith, low, c.if-from-least.true) in
@@ -73,5 +84,5 @@ returns c =
     let wave = c.args.wave.now in
     let kept = c.loop-late.invariant in
     let apart = apart_at wave c.args.units c.loop-late.last (changes_in c.loop-late.late) (changes_in c.loop-late.early) c.requires.form kept.late kept.early
-    (λ same. c.loop-late-test.false (c.level_after.ensures ∙ same ∙ sym c.level_after-2.ensures)) in
+    (λ same. c.loop-late-test.false (c.level_after.ensures ∙ same ∙ sym c.level_after-in-loop-late.ensures)) in
     c.max.ensures ∙ ap (max c.args.least) (sym apart) ∙ kept.rest

@@ -13,7 +13,7 @@ loop-number-preserved c =
     let stands : ℕ → Bool = (λ w. is_some (wire_at n w)) in
     let old = c.loop-number.found.items in
     elim c.if-stands.branch [
-      | then-stands+in_ok-push w ↦ rw w.found-is (kept_one stands k old w.in_ok-push.new.self.items (sym c.stands.ensures ∙ w.if-stands.true) c.loop-number.invariant w.in_ok-push.ensures.items)
+      | then-stands+in_ok-push w ↦ rw w.found-is (kept_one stands k old _ (sym c.stands.ensures ∙ w.if-stands.true) c.loop-number.invariant w.in_ok-push.ensures.items)
       | else-stands w ↦ rw w.found-is (kept_none stands k old (sym c.stands.ensures ∙ w.if-stands.false) c.loop-number.invariant)
     ]
 

@@ -12,11 +12,6 @@ overflow_sub-from c =
     let heard = c.heard_from.ensures trial.set.of.netlist.now (numbers trial.set.wires.now) trial.are_times in
     omega (arith, heard, c.requires.few)
 
-pub overflow_sub-repeats_from : goal.overflow_sub-repeats_from
-overflow_sub-repeats_from c =
-    let trial = c.args.self.now in
-    omega (arith, trial.are_times.end, c.requires.few)
-
 pub repeats_from-requires : goal.repeats_from-requires
 repeats_from-requires c =
     let trial = c.args.self.now in

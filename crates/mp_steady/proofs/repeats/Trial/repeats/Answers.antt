@@ -13,13 +13,13 @@ are_states_again-requires-clause-few c =
     let few : c.args.units ≤ told_until set.of.netlist.now (numbers set.wires.now) = omega (arith, c.requires) in
     subst (λ (s : WireSet). c.args.units ≤ told_until s.of.netlist.now (numbers s.wires.now)) (sym c.are_levels_again.ensures.set) few
 
-pub returns-then-are_levels_again-clause-value : goal.returns-then-are_levels_again-clause-value
+pub returns-then-not-are_levels_again-clause-value : goal.returns-then-not-are_levels_again-clause-value
 unfolding repeats
-returns-then-are_levels_again-clause-value c =
+returns-then-not-are_levels_again-clause-value c =
     let set = c.args.self.now.set in
     let n = set.of.netlist.now in
     let wires = numbers set.wires.now in
-    sym (ap (λ b. b && list_all (λ w. is_again_by n wires c.args.units (driver n w)) wires) (sym c.are_levels_again.ensures.value ∙ c.if-are_levels_again.false))
+    sym (ap (λ b. b && list_all (λ w. is_again_by n wires c.args.units (driver n w)) wires) (sym c.are_levels_again.ensures.value ∙ c.if-not-are_levels_again.true))
 
 pub returns-clause-value : goal.returns-clause-value
 unfolding repeats
@@ -31,5 +31,5 @@ returns-clause-value c =
     IfOk-weaker c.are_states_again.result _ _
     (λ again is.
     is ∙ ap test c.are_levels_again.ensures.set
-    ∙ sym (ap (λ b. b && test set) (sym c.are_levels_again.ensures.value ∙ c.if-are_levels_again.true)))
+    ∙ sym (ap (λ b. b && test set) (sym c.are_levels_again.ensures.value ∙ c.if-not-are_levels_again.false)))
     c.are_states_again.ensures
