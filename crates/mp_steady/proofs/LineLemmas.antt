@@ -1,10 +1,11 @@
 -- What is said of a set of wires, and of what comes behind it.
-use Rattle.std.proofs.Common.{◌≡◌, ℕ, Bool, true, false, not, cond, List, [], ◌∷◌, ◌++◌, append-nil, filter, length, slice_get, Option, Some, None, is_some, refl, ap, sym, subst, ◌∙◌, ◌==◌, arith}
+use Rattle.std.proofs.Common.{◌≡◌, ℕ, Bool, true, false, not, cond, List, [], ◌∷◌, ◌++◌, append-nil, filter, length, slice_get, Option, Some, None, Ok, is_some, refl, ap, sym, subst, ◌∙◌, ◌==◌, arith}
 use Rattle.std.specs.Prelude.{◌||◌, codes}
 use Rattle.std.specs.List.{flat_map}
 use Rattle.std.proofs.lemmas.Bool.{eqb-false}
 use Rattle.std.proofs.lemmas.List.{length-map}
 use Rattle.std.proofs.lemmas.Option.{same_Some}
+use Rattle.mp_streams.specs.Outgoing.{Outgoing, Puts}
 use Rattle.mp_records.specs.declared.ids.WireId.{WireId}
 use Rattle.mp_netlist.specs.Circuit.{Circuit}
 use Rattle.mp_questions.specs.declared.causes.module_share.ModuleShare.{ModuleShare}
@@ -104,3 +105,7 @@ critical n (c ∷ cs) first units list is long of =
 -- a list that isn't empty has numbers
 pub some_wires : (wires : List WireId) (count : ℕ) → length wires ≡ count → (count == 0) ≡ false → numbers wires ≡ [] → ⊥
 some_wires wires count long some none = eqb-false count 0 some (omega (arith, long, ap length none, length-map wires (λ (w : WireId). w.0)))
+
+-- a success is one whatever it returns
+pub puts_done : {S T U E F : Type 0} {f : F → Bool} {g : E → Bool} {done : T} {other : U} {a b : Outgoing S} {xs : List ℕ} → Puts f (Ok done) a b xs → Puts g (Ok other) a b xs
+puts_done puts = record { front = puts.front; lost = puts.lost; taken = puts.taken; held = puts.held; ends = puts.ends }

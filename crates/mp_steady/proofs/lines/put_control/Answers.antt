@@ -6,7 +6,7 @@ use Rattle.mp_questions.proofs.lemmas.causes.WhyLemmas.{puts_ok, puts_text}
 use Rattle.mp_steady.specs.RunTimes.{AreTimes}
 use Rattle.mp_steady.specs.SteadyLines.{control_text, none_text}
 use Rattle.mp_steady.specs.WireSets.{numbers}
-use Rattle.mp_steady.proofs.LineLemmas.{control_is, is_said, some_wires, text_said, text_splits, text_unsaid}
+use Rattle.mp_steady.proofs.LineLemmas.{control_is, is_said, puts_done, some_wires, text_said, text_splits, text_unsaid}
 use Rattle.mp_steady.proofs.lines.put_control.Goals as goal
 
 abbrev over : List ℕ
@@ -53,4 +53,4 @@ returns g c =
     let wires = numbers c.as_slice.result.now in
     let some = some_wires c.as_slice.result.now _ c.as_slice.ensures.len (sym c.is_empty.ensures ∙ c.if-is_empty.false) in
     let is = control_is n over word wires refl refl some ∙ ap (control_text n) (ap numbers c.as_slice.ensures.value ∙ c.in_ok-control.ensures.value) in
-    puts_text (text_said n over word wires (none_text n wires) (sym (ap is_some c.in-None.is) ∙ c.in_ok-times.ensures.found) ∙ is) (puts_ok c.in_ok-times.ensures.text)
+    puts_text (text_said n over word wires (none_text n wires) (sym (ap is_some c.in-None.is) ∙ c.in_ok-times.ensures.found) ∙ is) (puts_done c.in_ok-times.ensures.text)

@@ -1,10 +1,10 @@
 use Rattle.std.proofs.Common.{List, [], ℕ, cond, is_some, refl, ap, sym, subst, ◌∙◌, codes}
 use Rattle.mp_streams.proofs.OutLemmas.{puts_as, puts_sooner, puts_then, puts_unmade}
 use Rattle.mp_streams.specs.declared.write_error.WriteError.TheVariants.{OutOfMemory}
-use Rattle.mp_questions.proofs.lemmas.causes.WhyLemmas.{puts_ok, puts_text}
+use Rattle.mp_questions.proofs.lemmas.causes.WhyLemmas.{puts_text}
 use Rattle.mp_steady.specs.SteadyLines.{control_text}
 use Rattle.mp_steady.specs.WireSets.{control, numbers}
-use Rattle.mp_steady.proofs.LineLemmas.{is_said, steady_is, text_said, text_splits, text_unsaid}
+use Rattle.mp_steady.proofs.LineLemmas.{is_said, puts_done, steady_is, text_said, text_splits, text_unsaid}
 use Rattle.mp_steady.proofs.lines.put_steady.Goals as goal
 
 abbrev over : List ℕ
@@ -35,4 +35,4 @@ returns g c =
     let n = c.args.of.netlist.now in
     let wires = numbers c.as_slice.result.now in
     let is = steady_is n over [] wires refl refl (ap numbers c.as_slice.ensures.value ∙ c.in_ok-all.ensures.value) in
-    puts_text (text_said n over [] wires (control_text n (control n)) (sym (ap is_some c.in-None.is) ∙ c.in_ok-times.ensures.found) ∙ is) (puts_ok c.in_ok-times.ensures.text)
+    puts_text (text_said n over [] wires (control_text n (control n)) (sym (ap is_some c.in-None.is) ∙ c.in_ok-times.ensures.found) ∙ is) (puts_done c.in_ok-times.ensures.text)
