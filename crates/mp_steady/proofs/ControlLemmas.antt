@@ -73,7 +73,7 @@ abbrev InputStands : Circuit → Input → Type 0
 InputStands n i = IsSome (wire_at n i.wire.0)
 
 -- the wires that a wire depends on exist
-inputs_stand : (n : Circuit) → IsCircuit n → (w : ℕ) → All (InputStands n) (wire_inputs n w)
+pub inputs_stand : (n : Circuit) → IsCircuit n → (w : ℕ) → All (InputStands n) (wire_inputs n w)
 inputs_stand n ok w = by (driver n w)
   where
     ports : (b : Bool) (p : ℕ) (inputs : List Input) → All (InputStands n) inputs → All (InputStands n) (cond b (take 1 (drop p inputs)) inputs)
