@@ -12,6 +12,7 @@ pub mod LateDataLemmas
 pub mod ReadLemmas
 pub mod CycleLemmas
 pub mod ForEverLemmas
+pub mod WholeLemmas
 pub mod RepeatLemmas
 pub mod AgainLemmas
 pub mod RoundLemmas

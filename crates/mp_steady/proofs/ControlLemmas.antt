@@ -1,6 +1,6 @@
 -- Wires that are reached from those of width 1 are the control.
-use Rattle.std.proofs.Common.{◌≡◌, ℕ, ◌+◌, ◌-◌, ◌<◌, ◌≤◌, ◌==◌, ◌&&◌, ◌||◌, ◌⊎◌, inl, inr, Bool, true, false, cond, List, [], ◌∷◌, ◌++◌, length, map, filter, take, drop, set, replicate, get_or, slice_index_or, count_by, Contains, All, Option, Some, None, is_some, IsSome, zero, suc, refl, ap, sym, subst, ◌∙◌, mul-zero, arith}
-use Rattle.std.specs.List.{list_all, list_any, range_with_len}
+use Rattle.std.proofs.Common.{◌≡◌, ℕ, ◌+◌, ◌<◌, ◌≤◌, ◌==◌, ◌&&◌, ◌||◌, ◌⊎◌, inl, inr, Bool, true, false, cond, List, [], ◌∷◌, ◌++◌, length, filter, take, drop, set, replicate, get_or, All, Option, Some, None, is_some, IsSome, zero, suc, refl, ap, sym, subst, ◌∙◌, mul-zero, arith}
+use Rattle.std.specs.List.{list_all, range_with_len}
 use Rattle.std.proofs.lemmas.Bool.{cases_Bool, cases_lt, cases_eq, and_parts, and_from, or_left, or_cases, eq-eqb, ne_eqb, eqb-true, false_from_ne_true, true≢false}
 use Rattle.std.proofs.lemmas.List.{get_or_default, length-append, take_all, take-append-le, map-append, map_push, get_or_append_left, get_or_past, get_or-set_same, get_or-set_other, length-set, length-replicate, length_push}
 use Rattle.std.proofs.lemmas.List.Elements.{filter_agree, All-nil, All-head, All-tail, All-take, All-drop}
@@ -15,11 +15,11 @@ use Rattle.mp_netlist.specs.declared.driver.Driver.{Driver}
 use Rattle.mp_netlist.specs.declared.driver.Driver.TheVariants.{Nothing, Stimulus, Port}
 use Rattle.mp_netlist.specs.Circuit.{Circuit, IsCircuit, module_at, wire_at, width_of}
 use Rattle.mp_netlist.specs.Drivers.{driver}
-use Rattle.mp_model.proofs.MemberLemmas.{contains_range, range_contains}
+use Rattle.mp_model.proofs.MemberLemmas.{contains_range}
 use Rattle.mp_steady.specs.Reaching.{mark_at, IsNeeded, AreReached, HaveEvents, AreFollowed}
-use Rattle.mp_steady.specs.WireSets.{all_wires, control, has_control, has_events, has_inputs, has_wire, inputs_by, inputs_in, is_whole, numbers, passes_on, port_inputs, subsets, wire_inputs}
+use Rattle.mp_steady.specs.WireSets.{all_wires, control, has_control, has_events, has_inputs, has_wire, inputs_by, inputs_in, is_whole, numbers, passes_on, subsets, wire_inputs}
 use Rattle.mp_steady.proofs.SetLemmas.{of_wire}
-use Rattle.mp_steady.proofs.ListLemmas.{all_weaker, has_at, kept_all, kept_still, kept_twice, in_kept, in_wires, kept_passes, wire_in, subset_fails, numbers_more}
+use Rattle.mp_steady.proofs.ListLemmas.{all_weaker, has_at, kept_all, kept_still, kept_twice, in_kept, in_wires, kept_passes, subset_fails, numbers_more}
 
 -- ---- wires that exist
 
@@ -73,7 +73,7 @@ abbrev InputStands : Circuit → Input → Type 0
 InputStands n i = IsSome (wire_at n i.wire.0)
 
 -- the wires that a wire depends on exist
-inputs_stand : (n : Circuit) → IsCircuit n → (w : ℕ) → All (InputStands n) (wire_inputs n w)
+pub inputs_stand : (n : Circuit) → IsCircuit n → (w : ℕ) → All (InputStands n) (wire_inputs n w)
 inputs_stand n ok w = by (driver n w)
   where
     ports : (b : Bool) (p : ℕ) (inputs : List Input) → All (InputStands n) inputs → All (InputStands n) (cond b (take 1 (drop p inputs)) inputs)

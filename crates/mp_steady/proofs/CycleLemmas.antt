@@ -1,5 +1,5 @@
 -- Ways from cause to cause in the last period, and what comes round.
-use Rattle.std.proofs.Common.{◌≡◌, ℕ, ◌+◌, ◌*◌, ◌-◌, ◌%◌, ◌<◌, ◌≤◌, ◌^◌, ◌==◌, ◌⊎◌, inl, inr, Bool, true, false, not, cond, List, [], ◌∷◌, ◌++◌, length, drop, get_or, map, slice_get, Option, Some, None, option_map, zero, suc, refl, ap, sym, subst, ◌∙◌, arith}
+use Rattle.std.proofs.Common.{◌≡◌, ℕ, ◌+◌, ◌*◌, ◌-◌, ◌%◌, ◌<◌, ◌≤◌, ◌^◌, ◌==◌, ◌⊎◌, inl, inr, Bool, true, false, not, cond, List, [], ◌∷◌, ◌++◌, length, drop, get_or, slice_get, Option, Some, None, option_map, zero, suc, refl, ap, sym, ◌∙◌, arith}
 use Rattle.std.specs.Prelude.{◌||◌, ◌&&◌, IfSome, nat_lt}
 use Rattle.std.specs.List.{All, find, list_any}
 use Rattle.std.specs.Option.{option_or}
@@ -9,14 +9,14 @@ use Rattle.std.proofs.lemmas.Bool.Decides.{nat_tests}
 use Rattle.std.proofs.lemmas.List.Folds.{list_any-append}
 use Rattle.std.proofs.lemmas.Bool.{cases_Bool, cases_lt, eqb-true, eq-eqb, ne_eqb, lt-ltb, and_parts}
 use Rattle.std.proofs.lemmas.List.{at_drop_all, at_drop_more, length-map}
-use Rattle.std.proofs.lemmas.List.Elements.{All-nil, All-cons, All-head, All-tail}
+use Rattle.std.proofs.lemmas.List.Elements.{All-head, All-tail}
 use Rattle.std.proofs.lemmas.Option.{same_Some}
 use Rattle.mp_wave.specs.Waveform.{AreChanges, between, changes_after, earlier_than, later_than}
 use Rattle.mp_wave.proofs.ChangesLemmas.{AreChanges-changes_after}
 use Rattle.mp_wave.proofs.PrefixLemmas.{all_later, nat_lt-true, nat_lt-false}
 use Rattle.mp_records.specs.declared.ids.WireId.{WireId}
 use Rattle.mp_netlist.specs.Circuit.{Circuit, IsCircuit}
-use Rattle.mp_model.specs.Waves.{level, wave}
+use Rattle.mp_model.specs.Waves.{level}
 use Rattle.mp_questions.specs.declared.causes.wire_change.WireChange.{WireChange}
 use Rattle.mp_questions.specs.causes.Causes.{cause_of, followed}
 use Rattle.mp_questions.specs.causes.Changes.{change_at, last_change}

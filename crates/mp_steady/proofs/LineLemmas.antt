@@ -1,5 +1,5 @@
 -- What is said of a set of wires, and of what comes behind it.
-use Rattle.std.proofs.Common.{◌≡◌, ℕ, Bool, true, false, not, cond, List, [], ◌∷◌, ◌++◌, append-nil, filter, length, slice_get, Option, Some, None, Ok, is_some, refl, ap, sym, subst, ◌∙◌, ◌==◌, arith}
+use Rattle.std.proofs.Common.{◌≡◌, ℕ, Bool, true, false, not, cond, List, [], ◌∷◌, ◌++◌, append-nil, filter, length, slice_get, Option, Some, None, Ok, is_some, refl, ap, sym, ◌∙◌, ◌==◌, arith}
 use Rattle.std.specs.Prelude.{◌||◌, codes}
 use Rattle.std.specs.List.{flat_map}
 use Rattle.std.proofs.lemmas.Bool.{eqb-false}

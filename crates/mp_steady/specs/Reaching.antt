@@ -1,5 +1,5 @@
 -- How the control is reached: from the wires of width 1 on, always what one depends on.
-use Rattle.std.specs.Prelude.{◌≡◌, ℕ, ◌<◌, Bool, true, false, List, All, IsSome, length, count_by, take, slice_index_or}
+use Rattle.std.specs.Prelude.{◌≡◌, ℕ, ◌<◌, Bool, true, false, List, IsSome, length, count_by, take, slice_index_or}
 use Rattle.std.specs.List.{list_all}
 use Rattle.mp_records.specs.declared.ids.WireId.{WireId}
 use Rattle.mp_netlist.specs.Circuit.{Circuit, wire_at}

@@ -1,9 +1,7 @@
-use Rattle.std.proofs.Common.{◌≡◌, ◌++◌, List, Some, filter, refl, ap, sym, ◌∙◌, slice_get}
+use Rattle.std.proofs.Common.{◌≡◌, filter, refl, ap, sym, ◌∙◌}
 use Rattle.std.specs.List.{flat_map}
 use Rattle.mp_streams.proofs.OutLemmas.{puts_as, puts_sooner, puts_then, puts_unmade}
 use Rattle.mp_streams.specs.declared.write_error.WriteError.TheVariants.{WriteFailed, OutOfMemory}
-use Rattle.mp_questions.specs.declared.causes.module_share.ModuleShare.{ModuleShare}
-use Rattle.mp_questions.specs.declared.causes.wire_change.WireChange.{WireChange}
 use Rattle.mp_questions.specs.causes.Shares.{by_units, has_steps, shares}
 use Rattle.mp_questions.proofs.lemmas.causes.WhyLemmas.{puts_ok, puts_text}
 use Rattle.mp_steady.specs.Cycles.{cycle_length}

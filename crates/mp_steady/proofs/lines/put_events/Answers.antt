@@ -1,9 +1,8 @@
-use Rattle.std.proofs.Common.{◌≡◌, List, [], ◌∷◌, ◌++◌, refl, ap, sym, ◌∙◌, arith}
+use Rattle.std.proofs.Common.{ap, ◌∙◌}
 use Rattle.std.specs.List.{flat_map}
 use Rattle.std.proofs.lemmas.List.{take_all}
 use Rattle.mp_streams.proofs.OutLemmas.{puts_next, puts_stopped, writes_failed}
 use Rattle.mp_records.specs.declared.ids.WireId.{WireId}
-use Rattle.mp_netlist.specs.Circuit.{Circuit}
 use Rattle.mp_questions.proofs.lemmas.causes.WhyLemmas.{puts_text}
 use Rattle.mp_steady.specs.SteadyLines.{events_line}
 use Rattle.mp_steady.proofs.LineLemmas.{lines_are}

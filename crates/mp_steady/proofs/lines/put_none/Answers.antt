@@ -1,7 +1,6 @@
 use Rattle.std.proofs.Common.{ℕ, List, ◌++◌, ap, codes}
 use Rattle.std.specs.Fmt.{decimal}
 use Rattle.mp_streams.proofs.OutLemmas.{puts_sooner, puts_then, writes_failed}
-use Rattle.mp_netlist.specs.Circuit.{Circuit}
 use Rattle.mp_questions.proofs.lemmas.causes.WhyLemmas.{puts_text}
 use Rattle.mp_steady.specs.Periods.{last_set, longest_period}
 use Rattle.mp_steady.specs.SteadyLines.{stimuli_text}

@@ -1,4 +1,4 @@
-use Rattle.std.proofs.Common.{◌≡◌, Some, refl, sym, ◌∙◌, arith}
+use Rattle.std.proofs.Common.{refl, sym, ◌∙◌, arith}
 use Rattle.mp_streams.proofs.OutLemmas.{puts_unmade}
 use Rattle.mp_streams.specs.declared.write_error.WriteError.TheVariants.{OutOfMemory}
 use Rattle.mp_steady.specs.WireSets.{numbers}

@@ -1,4 +1,4 @@
-use Rattle.std.proofs.Common.{List, [], ℕ, cond, is_some, refl, ap, sym, subst, ◌∙◌, codes}
+use Rattle.std.proofs.Common.{List, [], ℕ, cond, is_some, refl, ap, sym, ◌∙◌, codes}
 use Rattle.mp_streams.proofs.OutLemmas.{puts_as, puts_sooner, puts_then, puts_unmade}
 use Rattle.mp_streams.specs.declared.write_error.WriteError.TheVariants.{OutOfMemory}
 use Rattle.mp_questions.proofs.lemmas.causes.WhyLemmas.{puts_text}

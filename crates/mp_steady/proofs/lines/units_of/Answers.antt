@@ -1,4 +1,4 @@
-use Rattle.std.proofs.Common.{◌-◌, ap, sym, ◌∙◌, arith}
+use Rattle.std.proofs.Common.{◌-◌, ap, sym, arith}
 use Rattle.mp_questions.specs.causes.Shares.{time_of}
 use Rattle.mp_questions.proofs.lemmas.causes.ChainLemmas.{followed_time}
 use Rattle.std.proofs.Common.{Some}

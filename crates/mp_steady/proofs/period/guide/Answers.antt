@@ -1,7 +1,5 @@
-use Rattle.std.proofs.Common.{◌≡◌, ◌<◌, ◌≤◌, Some, None, get_or, ◌+◌, length, take, ap, sym, subst, ◌∙◌, arith}
-use Rattle.std.specs.Prelude.{IfNone, IfSome}
+use Rattle.std.proofs.Common.{◌<◌, ◌≤◌, get_or, ◌+◌, take, ◌∙◌, arith}
 use Rattle.std.specs.List.{Contains}
-use Rattle.std.proofs.lemmas.List.{take_all}
 use Rattle.std.proofs.lemmas.List.Elements.{Contains-get_or}
 use Rattle.mp_wave.specs.WaveChanges.{changes_in}
 use Rattle.mp_records.specs.declared.ids.WireId.{WireId}

@@ -1,10 +1,10 @@
-use Rattle.std.proofs.Common.{◌≡◌, ◌+◌, ◌-◌, ◌<◌, ◌≤◌, ℕ, List, length, suc, ap, sym, subst, ◌∙◌, arith}
+use Rattle.std.proofs.Common.{◌≡◌, ◌-◌, ◌<◌, ap, sym, ◌∙◌, arith}
 use Rattle.mp_wave.specs.Waveform.{Waveform}
 use Rattle.mp_wave.specs.WaveChanges.{changes_in}
 use Rattle.mp_steady.specs.declared.wire_set.WireSet.{WireSet}
-use Rattle.mp_steady.specs.Periods.{longest_period, repeats}
+use Rattle.mp_steady.specs.Periods.{repeats}
 use Rattle.mp_steady.specs.WireSets.{numbers}
-use Rattle.mp_steady.proofs.PeriodLemmas.{IsGuide, in_order, next_found, next_none, next_other, none_at_last, none_left, some_changes, stands_of, too_long}
+use Rattle.mp_steady.proofs.PeriodLemmas.{IsGuide, in_order, next_found, next_none, next_other, none_left, some_changes, stands_of, too_long}
 use Rattle.mp_steady.proofs.period.least_distance.Goals as goal
 use Rattle.mp_steady.proofs.period.least_distance.Goals.{After-len-last}
 

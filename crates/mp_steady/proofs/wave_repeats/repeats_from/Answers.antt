@@ -1,8 +1,8 @@
 use Rattle.std.proofs.Common.{◌≡◌, ◌+◌, ◌-◌, ◌<◌, ◌≤◌, max, refl, ap, sym, ◌∙◌, arith}
-use Rattle.mp_wave.specs.Waveform.{earlier_than, last_from, last_time, level_of}
+use Rattle.mp_wave.specs.Waveform.{last_from, last_time, level_of}
 use Rattle.mp_wave.specs.WaveChanges.{changes_in}
 use Rattle.mp_steady.specs.Periods.{repeats_from}
-use Rattle.mp_steady.proofs.WaveRepeatLemmas.{IsSameFrom, apart_at, from_start, looked_back, repeats_before, repeats_low, same_from}
+use Rattle.mp_steady.proofs.WaveRepeatLemmas.{apart_at, from_start, looked_back, repeats_before, repeats_low, same_from}
 use Rattle.mp_steady.proofs.wave_repeats.repeats_from.Goals as goal
 
 pub loop-late-init : goal.loop-late-init

@@ -1,4 +1,4 @@
-use Rattle.std.proofs.Common.{◌≡◌, ◌+◌, ℕ, Bool, is_some, filter, length, Vec, Global, ap, sym, ◌∙◌, arith}
+use Rattle.std.proofs.Common.{◌≡◌, ℕ, Bool, is_some, filter, length, ap, sym, ◌∙◌, arith}
 use Rattle.std.specs.List.{list_all, range_with_len}
 use Rattle.mp_netlist.specs.Circuit.{wire_at}
 use Rattle.mp_steady.proofs.ListLemmas.{kept_one, kept_none, kept_all}

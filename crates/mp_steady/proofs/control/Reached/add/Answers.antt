@@ -1,4 +1,4 @@
-use Rattle.std.proofs.Common.{◌≡◌, ◌++◌, ◌∷◌, [], Bool, List, true, false, set, append-nil, get_or, get_or-set_same, sym, ap, subst, ◌∙◌}
+use Rattle.std.proofs.Common.{◌≡◌, ◌∷◌, [], List, true, false, set, append-nil, get_or-set_same, sym, subst, ◌∙◌}
 use Rattle.mp_records.specs.declared.ids.WireId.{WireId}
 use Rattle.mp_steady.specs.Reaching.{AreReached, mark_at}
 use Rattle.mp_steady.proofs.ControlLemmas.{reached_more}

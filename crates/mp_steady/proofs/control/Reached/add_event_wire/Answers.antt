@@ -1,7 +1,6 @@
-use Rattle.std.proofs.Common.{◌≡◌, ℕ, ◌<◌, ◌≤◌, true, inl, inr, ◌⊎◌, ap, sym, subst, ◌∙◌, arith}
-use Rattle.std.proofs.lemmas.Bool.{cases_lt, true≢false}
-use Rattle.mp_steady.specs.Reaching.{HaveEvents}
-use Rattle.mp_steady.specs.WireSets.{has_events, has_wire, numbers}
+use Rattle.std.proofs.Common.{◌≡◌, true, sym, ◌∙◌, arith}
+use Rattle.std.proofs.lemmas.Bool.{true≢false}
+use Rattle.mp_steady.specs.WireSets.{has_events}
 use Rattle.mp_steady.proofs.ControlLemmas.{event_needed, events_next, has_grown}
 use Rattle.mp_steady.proofs.control.Reached.add_event_wire.Goals as goal
 

@@ -1,4 +1,4 @@
-use Rattle.std.proofs.Common.{◌≡◌, ℕ, ◌≤◌, Bool, false, List, [], length, replicate, sym, subst, rules, arith}
+use Rattle.std.proofs.Common.{◌≡◌, ◌≤◌, Bool, false, List, [], length, replicate, sym, subst, rules, arith}
 use Rattle.mp_records.specs.declared.ids.WireId.{WireId}
 use Rattle.mp_steady.specs.Reaching.{AreReached}
 use Rattle.mp_steady.proofs.ControlLemmas.{reached_none}

@@ -1,6 +1,6 @@
-use Rattle.std.proofs.Common.{◌≡◌, ◌+◌, ◌-◌, ◌<◌, ◌^◌, ◌++◌, ◌∷◌, [], length, true, false, Some, nat_cmp, refl, ap, sym, subst, ◌∙◌, arith}
+use Rattle.std.proofs.Common.{◌≡◌, ◌+◌, ◌-◌, ◌<◌, ◌^◌, ◌++◌, ◌∷◌, [], length, true, false, nat_cmp, refl, ap, sym, subst, ◌∙◌, arith}
 use Rattle.std.specs.Prelude.{IfSome}
-use Rattle.std.specs.List.{All, list_any}
+use Rattle.std.specs.List.{list_any}
 use Rattle.std.specs.BTreeSet.{contains}
 use Rattle.std.proofs.lemmas.Bool.{not-false, not-true}
 use Rattle.std.proofs.lemmas.Grind.{common_steps}
@@ -9,7 +9,7 @@ use Rattle.std.proofs.lemmas.List.Elements.{All-nil, All-push, All-same}
 use Rattle.std.proofs.lemmas.Option.{IfSome_then}
 use Rattle.std.proofs.lemmas.Result.{IfOk-weaker}
 use Rattle.mp_questions.specs.declared.causes.wire_change.WireChange.{WireChange}
-use Rattle.mp_steady.specs.Cycles.{behind, first_wire, from_place, is_place, most_places}
+use Rattle.mp_steady.specs.Cycles.{first_wire, from_place, is_place, most_places}
 use Rattle.mp_steady.specs.WireSets.{numbers}
 use Rattle.mp_steady.proofs.CycleLemmas.{IsWithin, all_within, cycle_is, found_end, found_more, found_on, found_out, found_round, from_all, from_few, key, keyed, keys_more, most_are}
 use Rattle.mp_steady.proofs.cycle.Repeating.cycle.Goals as goal

@@ -1,12 +1,9 @@
-use Rattle.std.proofs.Common.{◌≡◌, ◌+◌, ◌-◌, ◌<◌, length, Some, ap, sym, ◌∙◌, arith}
-use Rattle.mp_wave.specs.Waveform.{between, later_than}
-use Rattle.mp_wave.proofs.ChangesLemmas.{AreChanges-changes_after}
-use Rattle.mp_model.specs.Waves.{level, wave}
+use Rattle.std.proofs.Common.{◌-◌, ap, sym, ◌∙◌, arith}
+use Rattle.mp_model.specs.Waves.{level}
 use Rattle.mp_wave.specs.WaveChanges.{changes_in}
 use Rattle.mp_questions.specs.timing.Events.{event_times}
 use Rattle.mp_questions.proofs.lemmas.causes.EventLemmas.{last_of as last_in}
-use Rattle.mp_steady.specs.Periods.{events}
-use Rattle.mp_steady.proofs.CycleLemmas.{count_is, last_moving, moving, none_last, not_counted, not_moving, some_last}
+use Rattle.mp_steady.proofs.CycleLemmas.{count_is, last_moving, none_last, not_moving}
 use Rattle.mp_steady.proofs.cycle.Repeating.last_change.Goals as goal
 
 pub returns-in-None-clause-none : goal.returns-in-None-clause-none

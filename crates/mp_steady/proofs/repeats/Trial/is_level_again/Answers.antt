@@ -1,7 +1,7 @@
-use Rattle.std.proofs.Common.{◌≡◌, ℕ, ◌+◌, ◌-◌, ◌<◌, ◌≤◌, max, nat_le, ap, sym, ◌∙◌, arith}
+use Rattle.std.proofs.Common.{◌≡◌, ℕ, ◌-◌, ◌≤◌, max, nat_le, ap, ◌∙◌, arith}
 use Rattle.mp_wave.specs.Waveform.{level_of}
 use Rattle.mp_model.specs.Waves.{level}
-use Rattle.mp_steady.specs.Periods.{heard_from, last_unit, longest_period, repeats_from}
+use Rattle.mp_steady.specs.Periods.{last_unit, repeats_from}
 use Rattle.mp_steady.specs.WireSets.{numbers}
 use Rattle.mp_steady.proofs.TimesLemmas.{later_within, wave_form, wave_repeats}
 use Rattle.mp_steady.proofs.repeats.Trial.is_level_again.Goals as goal

@@ -1,10 +1,8 @@
-use Rattle.std.proofs.Common.{◌≡◌, ◌++◌, ◌∷◌, [], ℕ, List, max, ap, sym, ◌∙◌, arith}
-use Rattle.mp_records.specs.declared.ports.Input.{Input}
+use Rattle.std.proofs.Common.{ap, ◌∙◌}
 use Rattle.mp_netlist.specs.Drivers.{driver}
-use Rattle.mp_netlist.specs.declared.driver.Driver.{Driver}
 use Rattle.mp_model.specs.Waves.{level}
 use Rattle.mp_questions.specs.timing.Events.{since}
-use Rattle.mp_steady.specs.Periods.{delay_by, greatest, last_unit, longest_input, set_by}
+use Rattle.mp_steady.specs.Periods.{delay_by, last_unit, longest_input, set_by}
 use Rattle.mp_steady.specs.WireSets.{wire_inputs}
 use Rattle.mp_steady.proofs.ListLemmas.{greatest_one_more}
 use Rattle.mp_steady.proofs.run_times.RunTimes.add.Goals as goal

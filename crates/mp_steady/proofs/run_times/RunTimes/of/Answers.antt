@@ -1,9 +1,6 @@
-use Rattle.std.proofs.Common.{◌≡◌, ◌+◌, ◌<◌, ◌≤◌, List, length, slice_index_or, take, subst, sym, ap, ◌∙◌, arith}
+use Rattle.std.proofs.Common.{List, take, subst, sym, arith}
 use Rattle.std.proofs.lemmas.List.{take_all}
 use Rattle.mp_records.specs.declared.ids.WireId.{WireId}
-use Rattle.mp_model.specs.Waves.{level}
-use Rattle.mp_questions.specs.timing.Events.{since}
-use Rattle.mp_steady.specs.Periods.{last_unit}
 use Rattle.mp_steady.specs.RunTimes.{AreTimes}
 use Rattle.mp_steady.specs.WireSets.{numbers}
 use Rattle.mp_steady.proofs.ListLemmas.{numbers_more}
