@@ -31,81 +31,9 @@ use Rattle.mp_steady.specs.WireSets.{all_wires, has_wire, inputs_by as depended,
 use Rattle.mp_steady.specs.Periods.{heard_from, last_unit, longest_period, repeats, start, told_until}
 use Rattle.mp_laws.specs.Repeating.{FindingsRepeatForEver, GoesOnAt, IsBelowHorizon, IsDriving, IsTold}
 use Rattle.mp_laws.proofs.AlikeLemmas.{same_module}
+use Rattle.mp_steady.proofs.ControlLemmas.{in_all}
+use Rattle.mp_laws.proofs.WholeLemmas.{all_whole}
 use Rattle.mp_laws.proofs.RepeatLemmas.{again_for_ever, begun_by, heard_for_ever, same_heard, same_levels, same_states, state_for_ever}
-
--- ---- all wires are a whole set
-
-has_range : (a k w : ℕ) → a ≤ w → w < a + k → has_wire (range_with_len a k) w ≡ true
-has_range a zero w low high = absurd (omega (arith, low, high))
-has_range a (suc k) w low high = by (cases_Bool (a == w)) (λ above. has_range (a + 1) k w above (omega (arith, high)))
-  where
-    by : ((a == w) ≡ true) ⊎ ((a == w) ≡ false) → (a + 1 ≤ w → has_wire (range_with_len (a + 1) k) w ≡ true) → has_wire (range_with_len a (suc k)) w ≡ true
-    by (inl here) rest = ap (λ b. b || has_wire (range_with_len (a + 1) k) w) here
-    by (inr other) rest =
-        let apart = eqb-false a w other in
-        ap (λ b. b || has_wire (range_with_len (a + 1) k) w) other ∙ rest (omega (arith, low, apart))
-
-has_filter : (p : ℕ → Bool) (xs : List ℕ) (w : ℕ) → has_wire xs w ≡ true → p w ≡ true → has_wire (filter p xs) w ≡ true
-has_filter p [] w has passes = has
-has_filter p (x ∷ xs) w has passes = by (cases_Bool (x == w)) (cases_Bool (p x)) (λ here. has_filter p xs w here passes)
-  where
-    by : ((x == w) ≡ true) ⊎ ((x == w) ≡ false) → (p x ≡ true) ⊎ (p x ≡ false) → (has_wire xs w ≡ true → has_wire (filter p xs) w ≡ true) → has_wire (filter p (x ∷ xs)) w ≡ true
-    by (inl here) (inl keeps) rest = ap (λ b. has_wire (cond b (x ∷ filter p xs) (filter p xs)) w) keeps ∙ ap (λ b. b || has_wire (filter p xs) w) here
-    by (inl here) (inr drops) rest = let no : true ≡ false = sym passes ∙ ap p (sym (eqb-true x w here)) ∙ drops in let none : ⊥ = cc in absurd none
-    by (inr other) (inl keeps) rest =
-        ap (λ b. has_wire (cond b (x ∷ filter p xs) (filter p xs)) w) keeps ∙ ap (λ b. b || has_wire (filter p xs) w) other ∙ rest (sym (ap (λ b. b || has_wire xs w) other) ∙ has)
-    by (inr other) (inr drops) rest =
-        ap (λ b. has_wire (cond b (x ∷ filter p xs) (filter p xs)) w) drops ∙ rest (sym (ap (λ b. b || has_wire xs w) other) ∙ has)
-
--- a wire that stands is one of all
-pub in_all : (n : Circuit) (w : ℕ) (r : WireRecord) → wire_at n w ≡ Some r → has_wire (all_wires n) w ≡ true
-in_all n w r at =
-    has_filter (λ v. is_some (wire_at n v)) (range_with_len 0 (length n.wires)) w (has_range 0 (length n.wires) w (omega arith) (omega (arith, slot_within n.wires w r at))) (ap is_some at)
-
-stands_in : (n : Circuit) (w : ℕ) → IsSome (wire_at n w) → has_wire (all_wires n) w ≡ true
-stands_in n w some = by (wire_at n w) refl some
-  where
-    by : (slot : Option WireRecord) → wire_at n w ≡ slot → IsSome slot → has_wire (all_wires n) w ≡ true
-    by None at here = let no : ⊥ = cc in absurd no
-    by (Some r) at here = in_all n w r at
-
-all_of : (p : ℕ → Bool) (xs : List ℕ) → ((w : ℕ) → p w ≡ true) → list_all p xs ≡ true
-all_of p [] each = refl
-all_of p (x ∷ xs) each = ap (λ b. b && list_all p xs) (each x) ∙ all_of p xs each
-
--- the wires at the inputs of a module stand
-reads_stand : (n : Circuit) (r : ModuleRecord) (inputs : List Input) → ((p : ℕ) (d : Input) → p < length inputs → IsSome (wire_at n (slice_index_or inputs p d).wire.0))
-    → list_all (λ (i : Input). has_wire (all_wires n) i.wire.0) inputs ≡ true
-reads_stand n r [] stand = refl
-reads_stand n r (i ∷ is) stand =
-    ap (λ b. b && list_all (λ (j : Input). has_wire (all_wires n) j.wire.0) is) (stands_in n i.wire.0 (stand 0 i (omega arith)))
-    ∙ reads_stand n r is (λ p d low. stand (suc p) d (omega (arith, low)))
-
-some_of : (q : Input → Bool) (xs : List Input) (p : ℕ) → list_all q xs ≡ true → list_all q (take 1 (drop p xs)) ≡ true
-some_of q [] zero all = refl
-some_of q [] (suc p) all = refl
-some_of q (i ∷ is) zero all = ap (λ b. b && true) (and_parts (q i) (list_all q is) all).0
-some_of q (i ∷ is) (suc p) all = some_of q is p (and_parts (q i) (list_all q is) all).1
-
--- an input reads one of all wires
-abbrev inside : Circuit → Input → Bool
-inside n i = has_wire (all_wires n) i.wire.0
-
-all_whole : (n : Circuit) → IsCircuit n → is_whole n (all_wires n) ≡ true
-all_whole n ok = all_of (λ w. list_all (inside n) (wire_inputs n w)) (all_wires n) (λ w. by (driver n w))
-  where
-    at_port : (p : ℕ) (r : ModuleRecord) (passes : Bool) → list_all (inside n) r.inputs ≡ true → list_all (inside n) (cond passes (take 1 (drop p r.inputs)) r.inputs) ≡ true
-    at_port p r true all = some_of (inside n) r.inputs p all
-    at_port p r false all = all
-
-    in_slot : (m p : ℕ) (slot : Option ModuleRecord) → module_at n m ≡ slot → list_all (inside n) (inputs_in p slot) ≡ true
-    in_slot m p None at = refl
-    in_slot m p (Some r) at = at_port p r (passes_on r.kind p) (reads_stand n r r.inputs (λ k d low. ((ok.modules_ok m r at).reads k d low).0))
-
-    by : (d : Driver) → list_all (inside n) (depended n d) ≡ true
-    by Nothing = refl
-    by Stimulus = refl
-    by (Port m p) = in_slot m.0 p (module_at n m.0) refl
 
 -- ---- the levels of a netlist that goes on
 
@@ -116,7 +44,7 @@ module _ (n later : Circuit) (ok : IsCircuit n) (later_ok : IsCircuit later) (wh
     where
       by : (a b : Option WireRecord) → wire_at n w ≡ a → AreSetAlike 0 a b → IsSome b → has_wire (all_wires n) w ≡ true
       by None None at alike here = let no : ⊥ = cc in absurd no
-      by (Some r) b at alike here = in_all n w r at
+      by (Some r) b at alike here = in_all n w (ap is_some at)
       by None (Some s) at alike here = absurd alike
 
   -- the level of a wire so many units later

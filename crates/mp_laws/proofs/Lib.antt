@@ -13,6 +13,7 @@ pub mod ReadLemmas
 pub mod CycleLemmas
 pub mod ForEverLemmas
 pub mod OverRunLemmas
+pub mod WholeLemmas
 pub mod RepeatLemmas
 pub mod AgainLemmas
 pub mod RoundLemmas

@@ -1,12 +1,12 @@
 -- Wires that repeat in a run repeat for ever.
-use Rattle.std.proofs.Common.{◌≡◌, ℕ, ◌+◌, ◌-◌, ◌<◌, ◌≤◌, ◌⊎◌, inl, inr, Bool, true, false, cond, List, drop, map, slice_index, take, Option, Some, None, nat_lt, zero, suc, refl, ap, sym, subst, ◌∙◌, arith}
+use Rattle.std.proofs.Common.{◌≡◌, ℕ, ◌+◌, ◌-◌, ◌<◌, ◌≤◌, ◌⊎◌, inl, inr, Bool, true, false, cond, List, drop, take, Option, Some, None, zero, suc, refl, ap, sym, subst, ◌∙◌, arith}
 use Rattle.std.specs.Prelude.{◌&&◌, ◌||◌, IfSome, IsTrue, nat_le}
 use Rattle.std.specs.List.{list_all}
 use Rattle.std.proofs.lemmas.Bool.{cases_Bool, cases_lt, leb-true, lt-ltb, and_parts}
 use Rattle.mp_modules.specs.declared.kind.Kind.TheVariants as kinds
 use Rattle.mp_modules.specs.declared.memory.Memory.{Memory}
-use Rattle.mp_modules.specs.Memories.{output_of, seen}
-use Rattle.mp_modules.specs.storage.AnyModules.{any_part_of, settle, start as start_state, step}
+use Rattle.mp_modules.specs.Memories.{output_of}
+use Rattle.mp_modules.specs.storage.AnyModules.{any_part_of, settle, step}
 use Rattle.mp_records.specs.declared.ids.ModuleId.{ModuleId}
 use Rattle.mp_records.specs.declared.wire_record.WireRecord.{WireRecord}
 use Rattle.mp_records.specs.declared.module_record.ModuleRecord.{ModuleRecord}
@@ -25,29 +25,14 @@ use Rattle.mp_model.proofs.EvaluationLemmas.{port_level_is}
 use Rattle.mp_model.proofs.HistoryLemmas.{late}
 use Rattle.mp_model.proofs.InputLemmas.{input_is}
 use Rattle.mp_questions.specs.timing.Events.{since}
+use Rattle.mp_check.proofs.QuietLemmas.{from_on}
+use Rattle.mp_check.proofs.StateLemmas.{after_step}
+use Rattle.mp_check.proofs.StillLemmas.{since_still}
 use Rattle.mp_steady.specs.WireSets.{has_wire, inputs_by as depended, inputs_in, is_whole, passes_on, port_inputs, wire_inputs}
 use Rattle.mp_steady.specs.Periods.{delay_by, delay_in, greatest, heard_from, is_again_by, is_again_in, is_same_state, is_state_again, last_set, last_unit, longest_delay, longest_input, longest_input_delay, longest_period, repeats, repeats_from, set_by, start, told_until}
 use Rattle.mp_laws.specs.Repeating.{GoesOnAt, RepeatsForEver}
 use Rattle.mp_laws.proofs.AlikeLemmas.{same_driver, same_module, same_built, same_initial}
-use Rattle.mp_laws.proofs.StillModuleLemmas.{from_on, since_still}
-use Rattle.mp_laws.proofs.StillOutputLemmas.{settle_is}
 use Rattle.mp_steady.proofs.SetLemmas.{of_wire, greatest_bounds, all_same, one_same, passes_reg, reg_passes, both_all, short_all, same_state, repeats_level, stimulus_over}
-
--- ---- a module of a netlist
-
-module _ (n : Circuit) (ok : IsCircuit n) (m : ℕ) (r : ModuleRecord) (at : module_at n m ≡ Some r) where
-  abbrev pub heard_at : ℕ → List ℕ
-  heard_at t = inputs_by n (level n) r t
-
-  abbrev pub out : ℕ → ℕ → ℕ
-  out p t = output_of (state n m t) p
-
-  -- each state is that after a step
-  pub after_step : (t : ℕ) → (s : Memory) × (state n m t ≡ step (built n r) s (heard_at t))
-  after_step zero = (seen (heard_at 0) (start_state (built n r)), (satisfies n ok).settled m r at ∙ settle_is (built n r) (heard_at 0))
-  after_step (suc t) =
-      let e : t + 1 ≡ suc t = omega arith in
-      (state n m t, subst (λ k. state n m k ≡ step (built n r) (state n m t) (heard_at k)) e ((satisfies n ok).stepped m t r at))
 
 -- ---- two netlists with the same modules, or one of them at two times: a wire has the same level if the inputs on which it depends had
 

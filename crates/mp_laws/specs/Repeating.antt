@@ -11,7 +11,7 @@ use Rattle.mp_model.specs.Waves.{level}
 use Rattle.mp_model.specs.Findings.{findings}
 use Rattle.mp_model.specs.declared.finding.Place.{Place}
 use Rattle.mp_model.specs.declared.finding.Place.TheVariants.{Module, Bundle}
-use Rattle.mp_steady.specs.WireSets.{all_wires, has_wire, is_whole, passes_on}
+use Rattle.mp_steady.specs.WireSets.{all_wires, control, has_wire, is_whole, passes_on}
 use Rattle.mp_steady.specs.Periods.{longest_period, repeats, start, told_until}
 use Rattle.mp_laws.specs.Stimuli.{AreAlikeUpto}
 
@@ -26,6 +26,10 @@ abbrev pub RepeatsForEver : Type 0
 RepeatsForEver =
     (n later : Circuit) → IsCircuit n → IsCircuit later → (wires : List ℕ) → is_whole n wires ≡ true → GoesOnAt wires n later → (units : ℕ) → 1 ≤ units
     → units ≤ longest_period n wires → repeats n wires units ≡ true → (w t : ℕ) → has_wire wires w ≡ true → start n wires units ≤ t → level later w (t + units) ≡ level later w t
+
+-- all wires are a whole set, and the control is one
+abbrev pub AreWhole : Type 0
+AreWhole = (n : Circuit) → IsCircuit n → (is_whole n (all_wires n) ≡ true) × (is_whole n (control n) ≡ true)
 
 -- a module drives one of these wires by a port that doesn't only pass an input on
 pub record IsDriving (n : Circuit) (wires : List ℕ) (m : ℕ) : Type 0 where

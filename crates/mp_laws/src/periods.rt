@@ -1,10 +1,15 @@
 //! What a period means for all times.
 ghost use Rattle.mp_laws.specs.CriticalCycles.{CyclesComeRound};
-ghost use Rattle.mp_laws.specs.Repeating.{FindingsRepeatForEver, RepeatsForEver};
+ghost use Rattle.mp_laws.specs.Repeating.{AreWhole, FindingsRepeatForEver, RepeatsForEver};
 
-/// Wires that repeat after some units in a run repeat for ever: in each netlist with the same modules, the same wires, a horizon at least as great,
-/// and the same stimuli of these wires, each of them has at each time from the start on the level that it has so many units later. Stimuli of other
-/// wires may set anything.
+/// All wires of a netlist are a whole set, and so is its control: with each wire they have the wires that it depends on.
+pub fn sets_are_whole()
+    ensures { AreWhole }
+{}
+
+/// Wires of a whole set that repeat after some units in a run repeat for ever: in each netlist with the same modules, the same wires, a horizon at
+/// least as great, and the same stimuli of these wires, each of them has at each time from the start on the level that it has so many units later.
+/// Stimuli of other wires may set anything.
 pub fn repeats_for_ever()
     ensures { RepeatsForEver }
 {}

@@ -1,2 +1,9 @@
 pub mod SetLemmas
 pub mod WaveRepeatLemmas
+pub mod ListLemmas
+pub mod ControlLemmas
+pub mod TimesLemmas
+pub mod PeriodLemmas
+pub mod CycleLemmas
+pub mod StateLemmas
+pub mod LineLemmas

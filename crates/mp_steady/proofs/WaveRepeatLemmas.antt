@@ -1,9 +1,10 @@
 -- Since when a wave repeats, looked for from its last changes back.
-use Rattle.std.proofs.Common.{◌≡◌, ℕ, ◌+◌, ◌-◌, ◌<◌, ◌≤◌, ◌==◌, ◌⊎◌, inl, inr, Bool, true, false, cond, List, [], ◌∷◌, length, take, zero, suc, refl, ap, sym, subst, ◌∙◌, arith}
-use Rattle.std.specs.Prelude.{◌≢◌, ◌&&◌, nat_lt}
+use Rattle.std.proofs.Common.{◌≡◌, ℕ, ◌+◌, ◌-◌, ◌<◌, ◌≤◌, ◌==◌, ◌⊎◌, inl, inr, Bool, true, false, cond, List, [], ◌∷◌, length, max, get_or, slice_get, take, Option, Some, None, zero, suc, refl, ap, sym, subst, ◌∙◌, arith}
+use Rattle.std.specs.Prelude.{◌≢◌}
 use Rattle.std.proofs.lemmas.Bool.{cases_lt, eq-eqb, ne_eqb, lt-ltb, le-ltb}
-use Rattle.mp_wave.specs.Waveform.{AreChanges, IsWaveform, Waveform, earlier_than, last_from, last_time, level_from, level_of}
-use Rattle.mp_wave.proofs.PrefixLemmas.{AreChanges-earlier_than, last_time-earlier_than, level_from-earlier_than, last_from-earlier_than, level_from-over}
+use Rattle.std.proofs.lemmas.Option.{none-some, slice_get-get_or}
+use Rattle.mp_wave.specs.Waveform.{AreChanges, IsWaveform, Waveform, between, earlier_than, last_from, last_time, level_from, level_of}
+use Rattle.mp_wave.proofs.PrefixLemmas.{AreChanges-earlier_than, all_later, last_time-earlier_than, level_from-earlier_than, last_from-earlier_than, level_from-over}
 use Rattle.mp_steady.specs.Periods.{repeats_from}
 
 -- ---- since when a level repeats
@@ -48,7 +49,8 @@ repeats_before f units from last some low same =
 pub repeats_low : (f : ℕ → ℕ) (units from last : ℕ) → from ≤ last → ((s : ℕ) → from ≤ s → s ≤ last → f s ≡ f (s + units)) → repeats_from f units last ≤ from
 repeats_low f units zero last low same = omega (arith, repeats_all f units last (λ s upto. same s (omega arith) upto))
 repeats_low f units (suc from) last low same =
-    omega (arith, repeats_before f units (suc from) last (omega arith) low same, repeats_bound f units from)
+    let e : suc from - 1 ≡ from = omega arith in
+    omega (arith, repeats_before f units (suc from) last (omega arith) low same, ap (repeats_from f units) e, repeats_bound f units from)
 
 -- ---- a wave
 
@@ -88,9 +90,79 @@ all_earlier b before level (x ∷ xs) are low =
     let first : x.0 < b = omega (arith, time_rises x.0 x.1 xs are.2, low) in
     rw (lt-ltb x.0 b first) (ap (λ ys. x ∷ ys) (all_earlier b x.0 x.1 xs are.2 low))
 
-pub last_dropped : (b before level : ℕ) (xs : List (ℕ × ℕ)) → AreChanges before level xs → 0 < length xs → last_time before xs ≡ b → take (length xs - 1) xs ≡ earlier_than b xs
-last_dropped b before level [] are some is = absurd (omega (arith, some))
-last_dropped b before level (x ∷ []) are some is = rw (le-ltb x.0 b (omega (arith, is))) refl
-last_dropped b before level (x ∷ y ∷ ys) are some is =
+pub last_dropped : (b before level : ℕ) (xs : List (ℕ × ℕ)) → AreChanges before level xs → last_time before xs ≡ b → take (length xs - 1) xs ≡ earlier_than b xs
+last_dropped b before level [] are is = refl
+last_dropped b before level (x ∷ []) are is = rw (le-ltb x.0 b (omega (arith, is))) refl
+last_dropped b before level (x ∷ y ∷ ys) are is =
+    let shorter : length (x ∷ y ∷ ys) - 1 ≡ suc (length (y ∷ ys) - 1) = omega arith in
     let first : x.0 < b = omega (arith, time_rises y.0 y.1 ys are.2.2, is, are.2.0) in
-    rw (lt-ltb x.0 b first) (ap (λ zs. x ∷ zs) (last_dropped b x.0 x.1 (y ∷ ys) are.2 (omega arith) is))
+    ap (λ k. take k (x ∷ y ∷ ys)) shorter ∙ ap (λ zs. x ∷ zs) (last_dropped b x.0 x.1 (y ∷ ys) are.2 is)
+    ∙ sym (ap (λ c. cond c (x ∷ earlier_than b (y ∷ ys)) (earlier_than b (y ∷ ys))) (lt-ltb x.0 b first))
+
+-- ---- the last change of a list
+
+same_pair : (x y : ℕ × ℕ) → (let o : Option (ℕ × ℕ) = Some x in o) ≡ Some y → x ≡ y
+same_pair x y same = cc
+
+pub last_from_some : (level : ℕ) (xs : List (ℕ × ℕ)) (x : ℕ × ℕ) → Some x ≡ slice_get xs (length xs - 1) → x.1 ≡ last_from level xs
+last_from_some level [] x is = let no : ⊥ = cc in absurd no
+last_from_some level (y ∷ []) x is = ap (λ (c : ℕ × ℕ). c.1) (same_pair x y is)
+last_from_some level (y ∷ z ∷ zs) x is =
+    let shorter : length (y ∷ z ∷ zs) - 1 ≡ suc (length (z ∷ zs) - 1) = omega arith in
+    last_from_some y.1 (z ∷ zs) x (is ∙ ap (slice_get (y ∷ z ∷ zs)) shorter)
+
+pub last_time_some : (before : ℕ) (xs : List (ℕ × ℕ)) (x : ℕ × ℕ) → Some x ≡ slice_get xs (length xs - 1) → x.0 ≡ last_time before xs
+last_time_some before [] x is = let no : ⊥ = cc in absurd no
+last_time_some before (y ∷ []) x is = ap (λ (c : ℕ × ℕ). c.0) (same_pair x y is)
+last_time_some before (y ∷ z ∷ zs) x is =
+    let shorter : length (y ∷ z ∷ zs) - 1 ≡ suc (length (z ∷ zs) - 1) = omega arith in
+    last_time_some y.0 (z ∷ zs) x (is ∙ ap (slice_get (y ∷ z ∷ zs)) shorter)
+
+pub no_last : (xs : List (ℕ × ℕ)) → (let o : Option (ℕ × ℕ) = None in o) ≡ slice_get xs (length xs - 1) → xs ≡ []
+no_last [] is = refl
+no_last (x ∷ xs) is =
+    absurd (none-some (get_or (x ∷ xs) (length (x ∷ xs) - 1) x) (is ∙ slice_get-get_or (x ∷ xs) (length (x ∷ xs) - 1) x (omega arith)))
+
+-- ---- looking back
+
+-- all changes are later than time 0
+pub from_start : (to : ℕ) (wave : Waveform) → IsWaveform wave → between 0 to wave.changes ≡ earlier_than to wave.changes
+from_start to wave form = ap (earlier_than to) (all_later 0 0 wave.initial wave.changes (omega arith) form)
+
+-- of changes that are those before a time, those before an earlier time
+pub looked_back : (b c d : ℕ) (wave : Waveform) (xs ys : List (ℕ × ℕ)) → IsWaveform wave → xs ≡ earlier_than c wave.changes → b ≤ c → b ≡ d → ((level : ℕ) → AreChanges 0 level xs → ys ≡ earlier_than b xs)
+    → ys ≡ earlier_than d wave.changes
+looked_back b c d wave xs ys form is le same earlier =
+    earlier wave.initial (subst (AreChanges 0 wave.initial) (sym is) (AreChanges-earlier_than c 0 wave.initial wave.changes form)) ∙ ap (earlier_than b) is ∙ earlier_twice b c wave.changes le
+    ∙ ap (λ t. earlier_than t wave.changes) same
+
+-- up to a time, the wave has from another time on the level of so many units later
+pub record IsSameFrom (wave : Waveform) (units last from : ℕ) : Type 0 where
+  pub low : from ≤ last
+  pub same : (s : ℕ) → from ≤ s → s ≤ last → level_of wave s ≡ level_of wave (s + units)
+
+time_low : (wave : Waveform) (last : ℕ) → IsWaveform wave → last_time 0 (earlier_than (last + 1) wave.changes) ≤ last
+time_low wave last form = omega (arith, last_time-earlier_than (last + 1) 0 wave.initial wave.changes (omega arith) form)
+
+-- from the last change up to it, and the last one up to so many units later
+pub same_from : (wave : Waveform) (units last from : ℕ) (late early : List (ℕ × ℕ)) → IsWaveform wave → late ≡ earlier_than (last + units + 1) wave.changes → early ≡ earlier_than (last + 1) wave.changes
+    → last_from wave.initial late ≡ last_from wave.initial early → from ≡ max (last_time 0 late - units) (last_time 0 early) → IsSameFrom wave units last from
+same_from wave units last from late early form is_late is_early level is =
+    let late_low = time_low wave (last + units) form in
+    let early_low = time_low wave last form in
+    let late_is : last_time 0 late ≡ last_time 0 (earlier_than (last + units + 1) wave.changes) = ap (last_time 0) is_late in
+    let early_is : last_time 0 early ≡ last_time 0 (earlier_than (last + 1) wave.changes) = ap (last_time 0) is_early in
+    let here : level_of wave last ≡ level_of wave (last + units) =
+    sym (last_level wave last form) ∙ sym (ap (last_from wave.initial) is_early) ∙ sym level ∙ ap (last_from wave.initial) is_late ∙ last_level wave (last + units) form in
+    record {
+      low = omega (arith, is, late_is, early_is, late_low, early_low);
+      same = λ s past upto.
+          same_since wave last s form (omega (arith, is, early_is, past)) upto ∙ here ∙ sym (same_since wave (last + units) (s + units) form (omega (arith, is, late_is, past)) (omega (arith, upto)));
+    }
+
+-- it has another level so many units later
+pub apart_at : (wave : Waveform) (units last : ℕ) (late early : List (ℕ × ℕ)) → IsWaveform wave → late ≡ earlier_than (last + units + 1) wave.changes → early ≡ earlier_than (last + 1) wave.changes
+    → (last_from wave.initial late ≡ last_from wave.initial early → ⊥) → repeats_from (level_of wave) units last ≡ last + 1
+apart_at wave units last late early form is_late is_early apart =
+    repeats_end (level_of wave) units last (λ same.
+    apart (ap (last_from wave.initial) is_late ∙ last_level wave (last + units) form ∙ sym same ∙ sym (last_level wave last form) ∙ sym (ap (last_from wave.initial) is_early)))

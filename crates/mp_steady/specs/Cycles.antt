@@ -1,8 +1,7 @@
 -- The critical cycle of wires that repeat: the causes that lead round a period.
-use Rattle.std.specs.Prelude.{ℕ, ◌-◌, ◌%◌, Bool, ◌==◌, ◌&&◌, List, [], ◌∷◌, ◌++◌, nat_lt, option_map, Option, Some, None, zero, suc, if◌then◌else◌}
+use Rattle.std.specs.Prelude.{ℕ, ◌-◌, ◌%◌, Bool, true, false, not, ◌==◌, ◌&&◌, ◌||◌, List, [], ◌∷◌, ◌++◌, nat_lt, option_map, Option, Some, None, zero, suc, if◌then◌else◌}
 use Rattle.std.specs.List.{find, list_any, sum_by}
 use Rattle.std.specs.Option.{option_or}
-use Rattle.mp_records.specs.declared.ids.WireId.{WireId}
 use Rattle.mp_netlist.specs.Circuit.{Circuit}
 use Rattle.mp_questions.specs.declared.causes.wire_change.WireChange.{WireChange}
 use Rattle.mp_questions.specs.causes.Causes.{cause_of, followed}
@@ -39,17 +38,20 @@ abbrev pub round_of : List WireChange → List WireChange → List WireChange
 round_of before [] = []
 round_of before (c ∷ way) = if list_any (is_place c) before then from_place c before else round_of (before ++ c ∷ []) way
 
+-- a wire changes in the last period, and where only narrow ones count has width 1
+abbrev pub is_moving : Circuit → ℕ → Bool → ℕ → Bool
+is_moving n units narrow w = (not narrow || has_events n w) && nat_lt 0 (events n units w)
+
 -- the first wire of width 1 with events, where none has the first of any width
 abbrev pub first_wire : Circuit → ℕ → List ℕ → Option ℕ
-first_wire n units wires =
-    option_or (find (λ w. has_events n w && nat_lt 0 (events n units w)) wires) (find (λ w. nat_lt 0 (events n units w)) wires)
+first_wire n units wires = option_or (find (is_moving n units true) wires) (find (is_moving n units false) wires)
 
 abbrev pub last_of : Circuit → Option ℕ → Option WireChange
 last_of n None = None
 last_of n (Some w) = last_change n (record { 0 = w }) (last_unit n)
 
 -- among how many changes a cycle is looked for
-abbrev pub most_places : ℕ
+unfoldable pub most_places : ℕ
 most_places = 4294967295
 
 -- the critical cycle, from the last change of the first wire on

@@ -1,4 +1,5 @@
 pub mod WireSets
+pub mod Reaching
 pub mod Periods
 pub mod RunTimes
 pub mod Cycles

@@ -36,11 +36,13 @@ abbrev pub cycle_text : Circuit → List WireChange → List ℕ
 cycle_text n [] = []
 cycle_text n (c ∷ cs) = cycle_line n c (cycle_length n (c ∷ cs)) ++ flat_map (module_line n) (by_units (filter has_steps (shares n (c ∷ cs))))
 
--- what is said of wires that repeat, as `repeats from 6 every 18`, behind a word on which these are
+-- the first line of wires that repeat, as `repeats from 6 every 18`, behind a word on which these are
+abbrev pub repeats_line : List ℕ → ℕ → ℕ → List ℕ
+repeats_line word from units = (word ++ (codes "repeats from " ++ decimal from)) ++ (codes " every " ++ (decimal units ++ codes "\n"))
+
+-- what is said of wires that repeat
 abbrev pub repeats_text : Circuit → List ℕ → List ℕ → ℕ → List ℕ
-repeats_text n word wires units =
-    (word ++ (codes "repeats from " ++ (decimal (start n wires units) ++ (codes " every " ++ (decimal units ++ codes "\n")))))
-    ++ (flat_map (events_line n units) wires ++ cycle_text n (cycle n wires units))
+repeats_text n word wires units = repeats_line word (start n wires units) units ++ (flat_map (events_line n units) wires ++ cycle_text n (cycle n wires units))
 
 -- what is said of wires that are over
 abbrev pub over_text : Circuit → List ℕ → List ℕ → List ℕ
@@ -52,7 +54,8 @@ stimuli_text time = if nat_lt 0 time then codes "stimuli until " ++ (decimal tim
 -- what is said where no period is found, as `doesn't repeat before 40: stimuli until 30, no period of up to 6`
 abbrev pub none_text : Circuit → List ℕ → List ℕ
 none_text n wires =
-    codes "doesn't repeat before " ++ (decimal n.horizon ++ (codes ": " ++ (stimuli_text (last_set n wires) ++ (codes "no period of up to " ++ (decimal (longest_period n wires) ++ codes "\n")))))
+    (codes "doesn't repeat before " ++ (decimal n.horizon ++ codes ": "))
+    ++ (stimuli_text (last_set n wires) ++ (codes "no period of up to " ++ (decimal (longest_period n wires) ++ codes "\n")))
 
 -- what is said of a set of wires, or else another text
 abbrev pub set_text : Circuit → List ℕ → List ℕ → List ℕ → Bool → Option ℕ → List ℕ → List ℕ

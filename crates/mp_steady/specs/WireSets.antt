@@ -1,5 +1,5 @@
 -- Sets of wires that depend on no others: whole sets, and the control.
-use Rattle.std.specs.Prelude.{ℕ, Bool, true, false, not, ◌&&◌, ◌==◌, List, [], ◌∷◌, ◌++◌, map, filter, length, take, drop, nat_lt, is_some, Option, Some, None, if◌then◌else◌}
+use Rattle.std.specs.Prelude.{ℕ, Bool, false, ◌&&◌, ◌==◌, List, [], ◌∷◌, ◌++◌, map, filter, length, take, drop, nat_lt, is_some, Option, Some, None, if◌then◌else◌}
 use Rattle.std.specs.List.{list_all, list_any, range_with_len}
 use Rattle.mp_modules.specs.declared.kind.Kind.{Kind}
 use Rattle.mp_modules.specs.declared.kind.Kind.TheVariants as kinds
@@ -41,9 +41,13 @@ numbers wires = map (λ (w : WireId). w.0) wires
 abbrev pub has_wire : List ℕ → ℕ → Bool
 has_wire wires w = list_any (λ v. v == w) wires
 
+-- what a wire depends on is among these
+abbrev pub has_inputs : Circuit → List ℕ → ℕ → Bool
+has_inputs n wires w = list_all (λ (i : Input). has_wire wires i.wire.0) (wire_inputs n w)
+
 -- with each wire of a whole set, the wires that it depends on are in it
 abbrev pub is_whole : Circuit → List ℕ → Bool
-is_whole n wires = list_all (λ w. list_all (λ (i : Input). has_wire wires i.wire.0) (wire_inputs n w)) wires
+is_whole n wires = list_all (has_inputs n wires) wires
 
 -- the numbers of all wires
 abbrev pub all_wires : Circuit → List ℕ

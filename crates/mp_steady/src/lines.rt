@@ -1,16 +1,18 @@
 //! What is said of a netlist that repeats, and of one that doesn't.
-ghost use Rattle.std.specs.Prelude.{◌≡◌, ◌<◌, ◌^◌, ◌++◌, ◌||◌, [], ℕ, List, All, IfOk, IfSome, IsSome, is_some, length, not};
+ghost use Rattle.std.specs.Prelude.{◌≡◌, ◌<◌, ◌≤◌, ◌^◌, ◌++◌, ◌||◌, [], ℕ, List, All, IfOk, IfSome, IsSome, codes, is_some, length, not};
+ghost use Rattle.std.specs.Fmt.{decimal};
 ghost use Rattle.std.specs.List.{flat_map};
 ghost use Rattle.mp_streams.specs.Outgoing.{Writes as WritesTo};
 ghost use Rattle.mp_streams.specs.WriteErrors.{Writes};
 ghost use Rattle.mp_records.specs.declared.ids.WireId.{WireId as Id};
 ghost use Rattle.mp_netlist.specs.Circuit.{IsCircuit, wire_at};
+ghost use Rattle.mp_questions.specs.causes.Shares.{units_of};
 ghost use Rattle.mp_questions.specs.declared.causes.wire_change.WireChange.{WireChange as Change};
 ghost use Rattle.mp_steady.specs.Cycles.{cycle, cycle_length};
-ghost use Rattle.mp_steady.specs.Periods.{is_over, period};
+ghost use Rattle.mp_steady.specs.Periods.{is_over, last_unit, longest_period, period, start};
 ghost use Rattle.mp_steady.specs.RunTimes.{AreTimes};
-ghost use Rattle.mp_steady.specs.SteadyLines.{cycle_line, cycle_text, events_line, none_text, steady_text, text_of};
-ghost use Rattle.mp_steady.specs.WireSets.{numbers};
+ghost use Rattle.mp_steady.specs.SteadyLines.{control_text, cycle_line, cycle_text, events_line, module_line, none_text, repeats_line, repeats_text, steady_text, stimuli_text, text_of};
+ghost use Rattle.mp_steady.specs.WireSets.{all_wires, control, numbers};
 
 use crate::control::control;
 use crate::cycle::Repeating;
@@ -19,7 +21,7 @@ use crate::repeats::start;
 use crate::run_times::RunTimes;
 use crate::wire_set::{WireSet, all_wires};
 use mp_netlist::{Netlist, WireId};
-use mp_questions::causes::{Tracer, put_share, shares_of};
+use mp_questions::causes::{ModuleShare, Tracer, put_share, shares_of};
 use mp_questions::{Driven, WireChange};
 use mp_streams::{Failed, Out, Sink, Text, WriteError};
 use mp_text::wire_name;
@@ -44,26 +46,38 @@ pub fn put_steady<S: Sink>(
         over: "nothing changes after ",
         before: "",
     };
-    if put_set(alloc, out, words, of, all.as_slice())?.is_none() {
+    match put_set(alloc, out, words, of, all.as_slice())? {
+        Some(times) => put_control(alloc, out, of, times),
+        None => Ok(()),
+    }
+}
+
+/// Writes what is said of the control, or that no period was found. The times are those of all wires.
+fn put_control<S: Sink>(
+    alloc: Global,
+    out: &mut Out<S>,
+    of: Driven<'_>,
+    times: RunTimes,
+) -> Result<(), WriteError>
+    requires { AreTimes of.netlist.now (all_wires of.netlist.now) times }
+    ensures { Writes result out.old out.new (control_text of.entry.netlist.now (control of.entry.netlist.now)) }
+{
+    let control = control(alloc, of)?;
+    if control.is_empty() {
+        put_none(out, of.netlist, times)?;
         return Ok(());
     }
-    let control = control(alloc, of)?;
     let words = Words {
         over: "control stands still after ",
         before: "control ",
     };
-    if control.is_empty() {
-        let set = WireSet {
-            of,
-            wires: all.as_slice(),
-        };
-        put_none(out, of.netlist, RunTimes::of(set))?;
-        return Ok(());
+    match put_set(alloc, out, words, of, control.as_slice())? {
+        Some(times) => {
+            put_none(out, of.netlist, times)?;
+            Ok(())
+        }
+        None => Ok(()),
     }
-    if let Some(times) = put_set(alloc, out, words, of, control.as_slice())? {
-        put_none(out, of.netlist, times)?;
-    }
-    Ok(())
 }
 
 /// How the first line begins: of wires that are over, and before `repeats`.
@@ -89,41 +103,67 @@ fn put_set<S: Sink>(
     let set = WireSet { of, wires };
     let times = RunTimes::of(set);
     if times.is_over() {
-        (words.over, times.last_change, "\n").put_to(out)?;
+        put_over(out, words, times.last_change)?;
         return Ok(None);
     }
     let Some(units) = period(alloc, set, times)? else {
         return Ok(Some(times));
     };
-    let from = start(set, times, units);
-    let line = (words.before, "repeats from ", from);
-    (line, " every ", (units, "\n")).put_to(out)?;
-    put_repeating(alloc, out, Repeating { set, times, units })?;
+    put_repeating(alloc, out, words, Repeating { set, times, units })?;
     Ok(None)
 }
 
-/// Writes the lines of wires that repeat.
+/// Writes since when nothing changes.
+fn put_over<S: Sink>(out: &mut Out<S>, words: Words, time: u32) -> Result<(), Failed>
+    ensures { WritesTo result out.old out.new (words.over.now ++ (decimal time ++ codes "\n")) }
+{
+    (words.over, time, "\n").put_to(out)
+}
+
+/// Writes what is said of wires that repeat.
 fn put_repeating<S: Sink>(
+    alloc: Global,
+    out: &mut Out<S>,
+    words: Words,
+    of: Repeating<'_>,
+) -> Result<(), WriteError>
+    ensures { Writes result out.old out.new (repeats_text of.entry.set.of.netlist.now words.before.now (numbers of.entry.set.wires.now) of.entry.units) }
+{
+    put_first(out, words, of)?;
+    put_events(out, of)?;
+    put_critical(alloc, out, of)
+}
+
+/// Writes since when wires repeat, and how often.
+fn put_first<S: Sink>(out: &mut Out<S>, words: Words, of: Repeating<'_>) -> Result<(), Failed>
+    ensures { WritesTo result out.old out.new (repeats_line words.before.now (start of.entry.set.of.netlist.now (numbers of.entry.set.wires.now) of.entry.units) of.entry.units) }
+{
+    let from = start(of.set, of.times, of.units);
+    let line = (words.before, "repeats from ", from);
+    (line, " every ", of.units, "\n").put_to(out)
+}
+
+/// Writes the lines of the critical cycle and of its modules; nothing if there is none.
+fn put_critical<S: Sink>(
     alloc: Global,
     out: &mut Out<S>,
     of: Repeating<'_>,
 ) -> Result<(), WriteError>
-    ensures { Writes result out.old out.new (flat_map (events_line of.entry.set.of.netlist.now of.entry.units) (numbers of.entry.set.wires.now) ++ cycle_text of.entry.set.of.netlist.now (cycle of.entry.set.of.netlist.now (numbers of.entry.set.wires.now) of.entry.units)) }
+    ensures { Writes result out.old out.new (cycle_text of.entry.set.of.netlist.now (cycle of.entry.set.of.netlist.now (numbers of.entry.set.wires.now) of.entry.units)) }
 {
-    put_events(out, of)?;
+    // Its contract says that the netlist is well formed.
+    let _horizon = of.set.of.netlist.horizon();
     let netlist = of.set.of.netlist;
     let mut tracer = Tracer::of(alloc, netlist, of.set.of.waves)?;
     let cycle = of.cycle(alloc, &mut tracer)?;
-    let Some(&first) = cycle.as_slice().first() else {
+    let changes = cycle.as_slice();
+    let shares = shares_of(alloc, &mut tracer, changes)?;
+    let length = cycle_length(&mut tracer, changes);
+    let Some(&first) = changes.first() else {
         return Ok(());
     };
-    let shares = shares_of(alloc, &mut tracer, cycle.as_slice())?;
-    let length = cycle_length(&mut tracer, cycle.as_slice());
     put_cycle(out, netlist, first, length)?;
-    for &share in shares.as_slice() {
-        out.put_text("module ")?;
-        put_share(out, netlist, share)?;
-    }
+    put_modules(out, netlist, shares.as_slice())?;
     Ok(())
 }
 
@@ -137,13 +177,23 @@ fn cycle_length(tracer: &mut Tracer<'_>, cycle: &[WireChange]) -> u64
 {
     let mut length = 0;
     for &change in cycle {
-        let sooner = match tracer.followed(change) {
-            Some(found) => found.time,
-            None => 0,
-        };
-        length += u64::from(change.time - sooner);
+        length += u64::from(units_of(tracer, change));
     }
     length
+}
+
+/// How many units a change came after the one that it follows.
+fn units_of(tracer: &mut Tracer<'_>, change: WireChange) -> u32
+    requires form { IsCircuit tracer.old.levels.netlist.now }
+    requires from { 0 < change.time }
+    requires within { change.time < tracer.old.levels.netlist.now.horizon }
+    ensures value { result ≡ units_of tracer.old.levels.netlist.now change }
+    ensures tracer { tracer.new.levels ≡ tracer.old.levels }
+{
+    match tracer.followed(change) {
+        Some(found) => change.time - found.time,
+        None => change.time,
+    }
 }
 
 /// Writes the line of a cycle.
@@ -159,18 +209,52 @@ fn put_cycle<S: Sink>(
     ("cycle ", length, " from ", (name, " ", first.time, "\n")).put_to(out)
 }
 
+/// Writes a line for each share of a module.
+fn put_modules<S: Sink>(
+    out: &mut Out<S>,
+    netlist: &Netlist,
+    shares: &[ModuleShare],
+) -> Result<(), Failed>
+    ensures { WritesTo result out.old out.new (flat_map (module_line netlist.now) shares.now) }
+{
+    for &share in shares {
+        put_module(out, netlist, share)?;
+    }
+    Ok(())
+}
+
+fn put_module<S: Sink>(
+    out: &mut Out<S>,
+    netlist: &Netlist,
+    share: ModuleShare,
+) -> Result<(), Failed>
+    ensures { WritesTo result out.old out.new (module_line netlist.now share) }
+{
+    out.put_text("module ")?;
+    put_share(out, netlist, share)
+}
+
 /// Writes the lines of the wires with events.
 fn put_events<S: Sink>(out: &mut Out<S>, of: Repeating<'_>) -> Result<(), Failed>
     ensures { WritesTo result out.old out.new (flat_map (events_line of.entry.set.of.netlist.now of.entry.units) (numbers of.entry.set.wires.now)) }
 {
     for &wire in of.set.wires {
-        let count = of.changes_of(wire).len();
-        if count > 0 {
-            let name = wire_name(of.set.of.netlist, wire);
-            ("wire ", name, " ", (count as u64, "\n")).put_to(out)?;
-        }
+        put_wire(out, of, wire)?;
     }
     Ok(())
+}
+
+/// Writes the line of a wire; nothing if it has no events.
+fn put_wire<S: Sink>(out: &mut Out<S>, of: Repeating<'_>, wire: WireId) -> Result<(), Failed>
+    requires { IsSome (wire_at of.set.of.netlist.now wire.0) }
+    ensures { WritesTo result out.old out.new (events_line of.entry.set.of.netlist.now of.entry.units wire.0) }
+{
+    let count = of.changes_of(wire).len();
+    if count == 0 {
+        return Ok(());
+    }
+    let name = wire_name(of.set.of.netlist, wire);
+    ("wire ", name, " ", (count as u64, "\n")).put_to(out)
 }
 
 /// Writes that no period was found.
@@ -178,8 +262,16 @@ fn put_none<S: Sink>(out: &mut Out<S>, netlist: &Netlist, times: RunTimes) -> Re
     ensures { (wires : List ℕ) → AreTimes netlist.now wires times → WritesTo result out.old out.new (none_text netlist.now wires) }
 {
     ("doesn't repeat before ", netlist.horizon(), ": ").put_to(out)?;
-    if times.last_set > 0 {
-        ("stimuli until ", times.last_set, ", ").put_to(out)?;
-    }
+    put_stimuli(out, times.last_set)?;
     ("no period of up to ", times.longest_period(), "\n").put_to(out)
+}
+
+/// Writes up to when stimuli change; nothing if they don't.
+fn put_stimuli<S: Sink>(out: &mut Out<S>, time: u32) -> Result<(), Failed>
+    ensures { WritesTo result out.old out.new (stimuli_text time) }
+{
+    if time == 0 {
+        return Ok(());
+    }
+    ("stimuli until ", time, ", ").put_to(out)
 }

@@ -1,9 +1,8 @@
 //! Whether wires repeat after a number of units.
-ghost use Rattle.std.specs.Prelude.{◌≡◌, ◌≤◌};
-ghost use Rattle.std.specs.List.{Contains};
+ghost use Rattle.std.specs.Prelude.{◌≡◌, ◌≤◌, true};
 ghost use Rattle.mp_steady.specs.Periods.{last_unit, start};
 ghost use Rattle.mp_steady.specs.RunTimes.{AreTimes};
-ghost use Rattle.mp_steady.specs.WireSets.{numbers};
+ghost use Rattle.mp_steady.specs.WireSets.{has_wire, numbers};
 
 use crate::run_times::RunTimes;
 use crate::states::are_states_again;
@@ -20,15 +19,15 @@ pub(crate) struct Trial<'a> {
     /// The wire that refused the last number of units.
     pub(crate) suspect: WireId,
     ghost are_times: { AreTimes set.of.netlist.now (numbers set.wires.now) times },
-    ghost one_of_them: { Contains set.wires.now suspect },
+    ghost one_of_them: { has_wire (numbers set.wires.now) suspect.0 ≡ true },
 }
 
 impl<'a> Trial<'a> {
-    ghost use Rattle.std.specs.Prelude.{◌≡◌, ◌-◌, ◌<◌, ◌≤◌, IfOk, IsSome, nat_le};
+    ghost use Rattle.std.specs.Prelude.{◌≡◌, ◌-◌, ◌≤◌, true, IfOk, IfSome, IsSome, is_none, nat_le};
     ghost use Rattle.mp_netlist.specs.Circuit.{wire_at};
     ghost use Rattle.mp_model.specs.Waves.{level};
     ghost use Rattle.mp_steady.specs.Periods.{heard_from, last_unit, longest_period, repeats, repeats_from, start};
-    ghost use Rattle.mp_steady.specs.WireSets.{numbers};
+    ghost use Rattle.mp_steady.specs.WireSets.{has_wire, numbers};
 
     /// Whether the wires repeat after a number of units.
     pub(crate) fn repeats(&mut self, alloc: Global, units: u32) -> Result<bool, AllocError>
@@ -50,16 +49,30 @@ impl<'a> Trial<'a> {
         ensures set { self.new.set ≡ self.old.set }
         ensures times { self.new.times ≡ self.old.times }
     {
+        match self.refusing(units) {
+            Some(wire) => {
+                self.suspect = wire;
+                false
+            }
+            None => true,
+        }
+    }
+
+    /// A wire of which the level doesn't, the suspect if that is one.
+    fn refusing(&self, units: u32) -> Option<WireId>
+        requires { units ≤ longest_period self.now.set.of.netlist.now (numbers self.now.set.wires.now) }
+        ensures one { IfSome result (λ wire. has_wire (numbers self.now.set.wires.now) wire.0 ≡ true) }
+        ensures value { is_none result ≡ nat_le (start self.now.set.of.netlist.now (numbers self.now.set.wires.now) units) (heard_from self.now.set.of.netlist.now (numbers self.now.set.wires.now) - units) }
+    {
         if !self.is_level_again(self.suspect, units) {
-            return false;
+            return Some(self.suspect);
         }
         for &wire in self.set.wires {
             if !self.is_level_again(wire, units) {
-                self.suspect = wire;
-                return false;
+                return Some(wire);
             }
         }
-        true
+        None
     }
 
     /// Whether the level of a wire does.
@@ -68,6 +81,8 @@ impl<'a> Trial<'a> {
         requires stands { IsSome (wire_at self.now.set.of.netlist.now wire.0) }
         ensures { result ≡ nat_le (repeats_from (level self.now.set.of.netlist.now wire.0) units (last_unit self.now.set.of.netlist.now - units)) (heard_from self.now.set.of.netlist.now (numbers self.now.set.wires.now) - units) }
     {
+        // Its contract says how long it is.
+        let _horizon = self.set.of.netlist.horizon();
         let from = self.times.heard_from() - units;
         let wave = self.set.wave_of(wire);
         repeats_from(wave, units, self.times.end - units, from) <= from
@@ -80,6 +95,8 @@ pub(crate) fn start(set: WireSet<'_>, times: RunTimes, units: u32) -> u32
     requires few { units ≤ last_unit set.of.netlist.now }
     ensures { result ≡ start set.entry.of.netlist.now (numbers set.entry.wires.now) units }
 {
+    // Its contract says how long it is.
+    let _horizon = set.of.netlist.horizon();
     let mut from = 0;
     for &wire in set.wires {
         from = repeats_from(set.wave_of(wire), units, times.end - units, from);

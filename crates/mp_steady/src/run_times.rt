@@ -1,11 +1,14 @@
 //! The times of a run on which a period depends.
-ghost use Rattle.std.specs.Prelude.{◌≡◌};
+ghost use Rattle.std.specs.Prelude.{◌≡◌, ℕ};
+ghost use Rattle.mp_model.specs.Waves.{level};
+ghost use Rattle.mp_netlist.specs.Circuit.{Circuit};
+ghost use Rattle.mp_questions.specs.timing.Events.{since};
 ghost use Rattle.mp_records.specs.Outputs.{delay_of};
-ghost use Rattle.mp_steady.specs.Periods.{delay_by, longest_input};
+ghost use Rattle.mp_steady.specs.Periods.{delay_by, last_unit, longest_input, set_by};
 
 use crate::wire_inputs::wire_inputs;
 use crate::wire_set::WireSet;
-use mp_netlist::{Driver, Input, ModuleRecord, WireId};
+use mp_netlist::{Driver, Input, ModuleRecord, Netlist, WireId};
 use mp_questions::timing::WaitMoment;
 
 /// The times of a run on which a period of some wires depends, in units.
@@ -61,17 +64,15 @@ impl RunTimes {
     {
         let driver = set.of.driver_of(wire);
         self.last_change = self.last_change.max(changed);
-        if matches!(driver, Driver::Stimulus) {
-            self.last_set = self.last_set.max(changed);
-        }
-        self.longest_delay = self.longest_delay.max(delay_by(set, driver));
+        self.last_set = self.last_set.max(set_by(driver, changed));
+        self.longest_delay = self.longest_delay.max(delay_by(set.of.netlist, driver));
         let inputs = wire_inputs(set.of, wire);
         self.longest_input_delay = self.longest_input_delay.max(longest_input(inputs));
     }
 
     /// Whether nothing is on its way any more.
     pub(crate) fn is_over(self) -> bool
-        ensures { (n : Circuit) (wires : List ℕ) → AreTimes n wires self.entry → result ≡ is_over n wires }
+        ensures { (n : Circuit) (wires : List ℕ) → AreTimes n wires self → result ≡ is_over n wires }
     {
         let delays = u64::from(self.longest_delay) + u64::from(self.longest_input_delay);
         u64::from(self.last_change) + delays <= u64::from(self.end)
@@ -79,32 +80,42 @@ impl RunTimes {
 
     /// The last unit of which the wires tell, up to the last unit, what the modules gave.
     pub(crate) fn told_until(self) -> u32
-        ensures { (n : Circuit) (wires : List ℕ) → AreTimes n wires self.entry → result ≡ told_until n wires }
+        ensures { (n : Circuit) (wires : List ℕ) → AreTimes n wires self → result ≡ told_until n wires }
     {
         self.end.saturating_sub(self.longest_delay)
     }
 
     /// The first unit that the modules may still hear at that time.
     pub(crate) fn heard_from(self) -> u32
-        ensures { (n : Circuit) (wires : List ℕ) → AreTimes n wires self.entry → result ≡ heard_from n wires }
+        ensures { (n : Circuit) (wires : List ℕ) → AreTimes n wires self → result ≡ heard_from n wires }
     {
         self.told_until().saturating_sub(self.longest_input_delay)
     }
 
     /// The longest period that is looked for.
     pub(crate) fn longest_period(self) -> u32
-        ensures { (n : Circuit) (wires : List ℕ) → AreTimes n wires self.entry → result ≡ longest_period n wires }
+        ensures { (n : Circuit) (wires : List ℕ) → AreTimes n wires self → result ≡ longest_period n wires }
     {
         self.heard_from().saturating_sub(self.last_set)
     }
 }
 
-/// The delay of the port that is a driver, 0 if it is none.
-fn delay_by(set: WireSet<'_>, driver: Driver) -> u32
-    ensures { result ≡ delay_by set.entry.of.netlist.now driver }
+/// The time of a change if the driver is a stimulus, and else 0.
+fn set_by(driver: Driver, changed: u32) -> u32
+    ensures { (n : Circuit) (w : ℕ) → changed ≡ since (level n w) (last_unit n) → result ≡ set_by n w driver }
 {
     match driver {
-        Driver::Port(id, port) => match set.of.netlist.module(id) {
+        Driver::Stimulus => changed,
+        Driver::Nothing | Driver::Port(..) => 0,
+    }
+}
+
+/// The delay of the port that is a driver, 0 if it is none.
+fn delay_by(netlist: &Netlist, driver: Driver) -> u32
+    ensures { result ≡ delay_by netlist.now driver }
+{
+    match driver {
+        Driver::Port(id, port) => match netlist.module(id) {
             Some(part) => delay_of(part, port),
             None => 0,
         },

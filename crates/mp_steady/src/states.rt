@@ -1,14 +1,14 @@
 //! Whether modules come to a state again.
-ghost use Rattle.std.specs.Prelude.{◌≡◌, ◌<◌, ◌≤◌, ℕ, All, IfOk, IsSome, Some, length, map, vec_len};
+ghost use Rattle.std.specs.Prelude.{◌≡◌, ◌<◌, ◌≤◌, ℕ, All, IfOk, IsSome, length, map, vec_len, if◌then◌else◌};
 ghost use Rattle.std.specs.List.{list_all};
 ghost use Rattle.mp_records.specs.declared.ports.Input.{Input as Port};
-ghost use Rattle.mp_netlist.specs.Circuit.{IsModule, module_at, wire_at};
+ghost use Rattle.mp_netlist.specs.Circuit.{module_at, wire_at};
 ghost use Rattle.mp_netlist.specs.Drivers.{driver};
 ghost use Rattle.mp_model.specs.Levels.{input_by};
-ghost use Rattle.mp_model.specs.Waves.{level};
-ghost use Rattle.mp_model.specs.response.Pieces.{levels_at};
+ghost use Rattle.mp_model.specs.Waves.{level, state};
+ghost use Rattle.mp_model.specs.response.Pieces.{levels_at, piece_level};
 ghost use Rattle.mp_questions.specs.late.Sources.{has_memory};
-ghost use Rattle.mp_steady.specs.Periods.{is_again_by, is_same_state, is_state_again, told_until};
+ghost use Rattle.mp_steady.specs.Periods.{is_again_by, is_again_in, is_same_state, is_state_again, last_unit, told_until};
 ghost use Rattle.mp_steady.specs.RunTimes.{AreTimes};
 ghost use Rattle.mp_steady.specs.WireSets.{numbers};
 
@@ -32,7 +32,8 @@ pub(crate) fn are_states_again(
     ensures { IfOk result (λ is. is ≡ list_all (λ w. is_again_by set.entry.of.netlist.now (numbers set.entry.wires.now) units (driver set.entry.of.netlist.now w)) (numbers set.entry.wires.now)) }
 {
     for &wire in set.wires {
-        if !is_again(alloc, set, times, units, set.of.driver_of(wire))? {
+        let again = is_again(alloc, set, times, units, set.of.driver_of(wire))?;
+        if !again {
             return Ok(false);
         }
     }
@@ -51,16 +52,37 @@ fn is_again(
     requires few { units ≤ told_until set.of.netlist.now (numbers set.wires.now) }
     ensures { IfOk result (λ is. is ≡ is_again_by set.entry.of.netlist.now (numbers set.entry.wires.now) units driver) }
 {
-    let Driver::Port(id, port) = driver else {
-        return Ok(true);
-    };
-    match set.of.netlist.module(id) {
-        Some(part) if !passes_on(part.kind, port) => is_state_again(alloc, set, times, units, id),
-        _ => Ok(true),
+    match driver {
+        Driver::Port(id, port) => is_port_again(alloc, set, times, units, id, port),
+        Driver::Nothing | Driver::Stimulus => Ok(true),
     }
 }
 
-/// Whether a module has that state. One without memory has it from the levels that it hears then, so nothing before is run.
+/// Whether the module of an output has that state, if the output doesn't only pass an input on.
+fn is_port_again(
+    alloc: Global,
+    set: WireSet<'_>,
+    times: RunTimes,
+    units: u32,
+    id: ModuleId,
+    port: u32,
+) -> Result<bool, AllocError>
+    requires times { AreTimes set.of.netlist.now (numbers set.wires.now) times }
+    requires few { units ≤ told_until set.of.netlist.now (numbers set.wires.now) }
+    ensures { IfOk result (λ is. is ≡ is_again_in set.entry.of.netlist.now (numbers set.entry.wires.now) units id.0 port (module_at set.entry.of.netlist.now id.0)) }
+{
+    match set.of.netlist.module(id) {
+        Some(part) => {
+            if passes_on(part.kind, port) {
+                return Ok(true);
+            }
+            is_state_again(alloc, set, times, units, id)
+        }
+        None => Ok(true),
+    }
+}
+
+/// Whether a module has that state.
 fn is_state_again(
     alloc: Global,
     set: WireSet<'_>,
@@ -73,37 +95,35 @@ fn is_state_again(
     requires stands { IsSome (module_at set.of.netlist.now id.0) }
     ensures { IfOk result (λ is. is ≡ is_state_again set.entry.of.netlist.now (numbers set.entry.wires.now) units id.0) }
 {
+    let last = times.told_until();
+    let before = state_at(alloc, set, id, last - units)?;
+    let now = state_at(alloc, set, id, last)?;
+    Ok(is_same_state(&before, &now))
+}
+
+/// The state of a module at a time. One without memory has it from the levels that it hears then, so nothing before is run.
+fn state_at(alloc: Global, set: WireSet<'_>, id: ModuleId, time: u32) -> Result<Memory, AllocError>
+    requires stands { IsSome (module_at set.of.netlist.now id.0) }
+    requires within { time ≤ last_unit set.of.netlist.now }
+    ensures { IfOk result (λ found. found ≡ state set.entry.of.netlist.now id.0 time) }
+{
+    // Its contract says that the netlist is well formed.
+    let _horizon = set.of.netlist.horizon();
     let Some(record) = set.of.netlist.module(id) else {
         unreachable!()
     };
     let part = built(set.of.netlist, record);
-    let inputs = record.inputs.as_slice();
-    let last = times.told_until();
-    let first = last - units;
-    let (from, next) = if has_memory(record.kind) {
-        (0, first + 1)
-    } else {
-        (first, last)
-    };
-    let begun = pieces(alloc, set, inputs, from, first + 1)?;
-    let before = respond(
-        alloc,
-        &part,
-        part.start(),
-        begun.as_slice(),
-        from,
-        first + 1,
-    )?;
-    let gone_on = pieces(alloc, set, inputs, next, last + 1)?;
-    let now = respond(
-        alloc,
-        &part,
-        before.memory,
-        gone_on.as_slice(),
-        next,
-        last + 1,
-    )?;
-    Ok(is_same_state(&before.memory, &now.memory))
+    let from = first_heard(record.kind, time);
+    let heard = pieces(alloc, set, record.inputs.as_slice(), from, time + 1)?;
+    let piece = respond(alloc, &part, part.start(), heard.as_slice(), from, time + 1)?;
+    Ok(piece.memory)
+}
+
+/// From when on a module's levels make its state at a time.
+fn first_heard(kind: Kind, time: u32) -> u32
+    ensures { result ≡ (if has_memory kind then 0 else time) }
+{
+    if has_memory(kind) { 0 } else { time }
 }
 
 /// Whether a module of the kind does what it does after what its inputs did before.
@@ -145,8 +165,25 @@ fn pieces(
 {
     let mut pieces = Vec::with_capacity(alloc, inputs.len())?;
     for &input in inputs {
-        let wave = set.wave_of(input.wire);
-        pieces.push(cut_delayed(alloc, wave, input.delay, from, to)?)?;
+        pieces.push(piece(alloc, set, input, from, to)?)?;
     }
     Ok(pieces)
+}
+
+/// The wave at an input, from one time to before another.
+fn piece(
+    alloc: Global,
+    set: WireSet<'_>,
+    input: Input,
+    from: u32,
+    to: u32,
+) -> Result<InPiece, AllocError>
+    requires stands { IsSome (wire_at set.of.netlist.now input.wire.0) }
+    requires some { from < to }
+    requires within { to ≤ set.of.netlist.now.horizon }
+    ensures { IfOk result (λ piece. (t : ℕ) → from ≤ t → t < to → piece_level piece t ≡ input_by set.entry.of.netlist.now (level set.entry.of.netlist.now) input t) }
+{
+    // Its contract says that the netlist is well formed.
+    let _horizon = set.of.netlist.horizon();
+    cut_delayed(alloc, set.wave_of(input.wire), input.delay, from, to)
 }

@@ -40,7 +40,7 @@ fn level_after(wave: &Wave, changes: WaveChanges<'_>) -> u64
 }
 
 /// The time of the last change, 0 if there is none.
-fn time_of(changes: WaveChanges<'_>) -> u32
+pub(crate) fn time_of(changes: WaveChanges<'_>) -> u32
     ensures { result ≡ last_time 0 (changes_in changes.entry) }
 {
     match changes.last() {
@@ -54,10 +54,8 @@ fn before(changes: WaveChanges<'_>, time: u32) -> WaveChanges<'_>
     requires { last_time 0 (changes_in changes) ≤ time }
     ensures { (level : ℕ) → AreChanges 0 level (changes_in changes.entry) → changes_in result ≡ earlier_than time (changes_in changes.entry) }
 {
-    let count = changes.len();
-    if count > 0 && time_of(changes) == time {
-        changes.before_place(count - 1)
-    } else {
-        changes
+    if time_of(changes) < time {
+        return changes;
     }
+    changes.before_place(changes.len().saturating_sub(1))
 }

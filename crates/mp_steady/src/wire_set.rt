@@ -1,5 +1,5 @@
 //! Some wires of a netlist that has run.
-ghost use Rattle.std.specs.Prelude.{◌≡◌, All, IfOk, IsSome};
+ghost use Rattle.std.specs.Prelude.{◌≡◌, All, IfOk, IsSome, is_some};
 ghost use Rattle.mp_netlist.specs.Circuit.{wire_at};
 ghost use Rattle.mp_records.specs.declared.ids.WireId.{WireId as Id};
 ghost use Rattle.mp_steady.specs.WireSets.{all_wires, numbers};
@@ -42,10 +42,19 @@ pub(crate) fn all_wires(alloc: Global, netlist: &Netlist) -> Result<Vec<WireId>,
 {
     let mut found = Vec::new(alloc);
     for number in 0..netlist.wire_slots() {
-        let wire = WireId(number);
-        if netlist.wire(wire).is_some() {
-            found.push(wire)?;
+        if stands(netlist, WireId(number)) {
+            found.push(WireId(number))?;
         }
     }
     Ok(found)
+}
+
+/// Whether there is a wire of this number.
+fn stands(netlist: &Netlist, wire: WireId) -> bool
+    ensures { result ≡ is_some (wire_at netlist.now wire.0) }
+{
+    match netlist.wire(wire) {
+        Some(_) => true,
+        None => false,
+    }
 }
