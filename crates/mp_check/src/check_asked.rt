@@ -1,7 +1,8 @@
 //! What is asked for of a check.
 ghost use Rattle.mp_streams.specs.WriteErrors.{Writes};
 ghost use Rattle.mp_streams.specs.Outgoing.{Writes as WritesTo};
-ghost use Rattle.std.specs.Prelude.{◌++◌};
+ghost use Rattle.std.specs.Prelude.{◌≡◌, ◌++◌, IfErr};
+ghost use Rattle.mp_streams.specs.declared.write_error.WriteError.TheVariants.{OutOfMemory};
 ghost use Rattle.mp_model.specs.Waves.{AreWavesOf};
 ghost use Rattle.mp_check.specs.CheckTexts.{check_text, problem_lines, selected_deadlocks, selected_late, selected_notes, selected_report};
 ghost use Rattle.mp_check.specs.Checks.{IsCheckOf};
@@ -48,7 +49,8 @@ pub fn put_check<S: Sink>(
 ) -> Result<(), WriteError>
     requires waves { AreWavesOf netlist.now waves.now }
     requires check { IsCheckOf netlist.now check.now }
-    ensures { Writes result out.old out.new (check_text netlist.now (selected asked.entry.selection) asked.entry.is_brief) }
+    ensures written { Writes result out.old out.new (check_text netlist.now (selected asked.entry.selection) asked.entry.is_brief) }
+    ensures wanting { IfErr result (λ error. error ≡ OutOfMemory → out.new ≡ out.old) }
 {
     let end = RunEnd::new(netlist, waves, check.drivers.as_slice());
     put_problems(alloc, out, netlist, check, asked)?;
@@ -65,7 +67,8 @@ fn put_problems<S: Sink>(
     asked: CheckAsked<'_>,
 ) -> Result<(), WriteError>
     requires { IsCheckOf netlist.now check.now }
-    ensures { Writes result out.old out.new (problem_lines netlist.now (selected asked.entry.selection) asked.entry.is_brief) }
+    ensures written { Writes result out.old out.new (problem_lines netlist.now (selected asked.entry.selection) asked.entry.is_brief) }
+    ensures wanting { IfErr result (λ error. error ≡ OutOfMemory → out.new ≡ out.old) }
 {
     let selection = asked.selection;
     if asked.is_brief {

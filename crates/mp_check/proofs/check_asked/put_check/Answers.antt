@@ -17,22 +17,22 @@ new-end-requires-clause-drivers g c = subst (λ (list : List Driver). AreDrivers
 pub put_rest-requires : goal.put_rest-requires
 put_rest-requires g c = subst (λ (m : Circuit). IsCheckOf m c.args.check.now) (sym c.new-end.ensures.netlist) c.requires.check
 
-pub returns-in_err-put_problems : goal.returns-in_err-put_problems
+pub returns-in_err-put_problems-clause-written : goal.returns-in_err-put_problems-clause-written
 unfolding check_text
-returns-in_err-put_problems g c =
+returns-in_err-put_problems-clause-written g c =
     let n = c.args.netlist.now in
     let s = selected c.args.asked.selection in
-    puts_as _ _ c.from_residual.ensures.1 refl (puts_sooner (rest_at s n) c.in_err-put_problems.ensures)
+    puts_as _ _ c.from_residual.ensures.1 refl (puts_sooner (rest_at s n) c.in_err-put_problems.ensures.written)
 
-pub returns-in_err-put_rest : goal.returns-in_err-put_rest
+pub returns-in_err-put_rest-clause-written : goal.returns-in_err-put_rest-clause-written
 unfolding check_text
-returns-in_err-put_rest g c =
+returns-in_err-put_rest-clause-written g c =
     let n = c.args.netlist.now in
     let s = selected c.args.asked.selection in
-    puts_as _ WriteFailed c.from_residual-in_err-put_rest.ensures.1 refl (puts_then c.in_ok-put_problems.ensures (puts_text (ap (rest_at s) c.new-end.ensures.netlist) c.in_err-put_rest.ensures))
+    puts_as _ WriteFailed c.from_residual-in_err-put_rest.ensures.1 refl (puts_then c.in_ok-put_problems.ensures.written (puts_text (ap (rest_at s) c.new-end.ensures.netlist) c.in_err-put_rest.ensures))
 
-pub returns : goal.returns
+pub returns-clause-written : goal.returns-clause-written
 unfolding check_text
-returns g c =
+returns-clause-written g c =
     let s = selected c.args.asked.selection in
-    puts_then c.in_ok-put_problems.ensures (puts_ok (puts_text (ap (rest_at s) c.new-end.ensures.netlist) c.in_ok-put_rest.ensures))
+    puts_then c.in_ok-put_problems.ensures.written (puts_ok (puts_text (ap (rest_at s) c.new-end.ensures.netlist) c.in_ok-put_rest.ensures))
