@@ -1,8 +1,6 @@
 -- What is found in a netlist that repeats is found again.
-use Rattle.std.proofs.Common.{◌≡◌, ℕ, ◌+◌, ◌-◌, ◌<◌, ◌≤◌, ◌==◌, ◌⊎◌, inl, inr, Bool, true, false, not, cond, List, [], ◌∷◌, drop, length, filter, take, Option, Some, None, is_some, zero, suc, refl, ap, sym, subst, ◌∙◌, arith}
-use Rattle.std.specs.Prelude.{◌≢◌, ◌||◌, ◌&&◌, IsSome, slice_index_or}
-use Rattle.std.specs.List.{Contains, list_all, range_with_len}
-use Rattle.std.proofs.lemmas.Bool.{cases_Bool, cases_lt, eqb-true, eqb-false, eq-eqb, and_parts}
+use Rattle.std.proofs.Common.{◌≡◌, ℕ, ◌+◌, ◌-◌, ◌<◌, ◌≤◌, true, Option, Some, None, is_some, refl, ap, sym, subst, ◌∙◌, arith}
+use Rattle.std.specs.Prelude.{IsSome}
 use Rattle.std.proofs.lemmas.Option.{same_Some}
 use Rattle.mp_modules.specs.declared.finding_code.FindingCode.{FindingCode}
 use Rattle.mp_modules.specs.declared.finding_code.FindingCode.TheVariants as codes
@@ -13,22 +11,16 @@ use Rattle.mp_records.specs.declared.ids.WireId.{WireId}
 use Rattle.mp_records.specs.declared.wire_record.WireRecord.{WireRecord}
 use Rattle.mp_records.specs.declared.module_record.ModuleRecord.{ModuleRecord}
 use Rattle.mp_records.specs.declared.bundle_record.BundleRecord.{BundleRecord}
-use Rattle.mp_records.specs.declared.ports.Input.{Input}
-use Rattle.mp_netlist.specs.declared.driver.Driver.{Driver}
-use Rattle.mp_netlist.specs.declared.driver.Driver.TheVariants.{Nothing, Stimulus, Port}
-use Rattle.mp_netlist.specs.Circuit.{Circuit, IsCircuit, wire_at, module_at, bundle_at}
-use Rattle.mp_netlist.specs.Drivers.{driver}
+use Rattle.mp_netlist.specs.Circuit.{Circuit, IsCircuit, wire_at, module_at}
 use Rattle.mp_model.specs.Levels.{built, inputs_by}
 use Rattle.mp_model.specs.Waves.{level, state}
-use Rattle.mp_model.specs.Findings.{findings}
 use Rattle.mp_model.specs.FindingLaws.{BundleRule, Changes, IsBusy, IsRequestedSoon, Rule}
 use Rattle.mp_model.specs.declared.finding.Place.{Place}
 use Rattle.mp_model.specs.declared.finding.Place.TheVariants.{Module, Bundle}
 use Rattle.mp_model.proofs.FindingLemmas.{finds_by_rule}
-use Rattle.mp_model.proofs.SlotLemmas.{slot_within}
 use Rattle.mp_laws.specs.Stimuli.{AreSetAlike}
-use Rattle.mp_steady.specs.WireSets.{all_wires, has_wire, inputs_by as depended, inputs_in, is_whole, passes_on, port_inputs, wire_inputs}
-use Rattle.mp_steady.specs.Periods.{heard_from, last_unit, longest_period, repeats, start, told_until}
+use Rattle.mp_steady.specs.WireSets.{all_wires, has_wire, is_whole}
+use Rattle.mp_steady.specs.Periods.{longest_period, repeats, told_until}
 use Rattle.mp_laws.specs.Repeating.{FindingsRepeatForEver, GoesOnAt, IsBelowHorizon, IsDriving, IsTold}
 use Rattle.mp_laws.proofs.AlikeLemmas.{same_module}
 use Rattle.mp_steady.proofs.ControlLemmas.{in_all}

@@ -3,11 +3,9 @@ use Rattle.std.proofs.Common.{◌≡◌, ℕ, ◌+◌, ◌-◌, ◌<◌, ◌≤�
 use Rattle.std.specs.Prelude.{◌&&◌, ◌||◌, IfSome, IsTrue, nat_le}
 use Rattle.std.specs.List.{list_all}
 use Rattle.std.proofs.lemmas.Bool.{cases_Bool, cases_lt, leb-true, lt-ltb, and_parts}
-use Rattle.mp_modules.specs.declared.kind.Kind.TheVariants as kinds
 use Rattle.mp_modules.specs.declared.memory.Memory.{Memory}
 use Rattle.mp_modules.specs.Memories.{output_of}
 use Rattle.mp_modules.specs.storage.AnyModules.{any_part_of, settle, step}
-use Rattle.mp_records.specs.declared.ids.ModuleId.{ModuleId}
 use Rattle.mp_records.specs.declared.wire_record.WireRecord.{WireRecord}
 use Rattle.mp_records.specs.declared.module_record.ModuleRecord.{ModuleRecord}
 use Rattle.mp_records.specs.declared.ports.Input.{Input}
@@ -29,7 +27,7 @@ use Rattle.mp_check.proofs.QuietLemmas.{from_on}
 use Rattle.mp_check.proofs.StateLemmas.{after_step}
 use Rattle.mp_check.proofs.StillLemmas.{since_still}
 use Rattle.mp_steady.specs.WireSets.{has_wire, inputs_by as depended, inputs_in, is_whole, passes_on, port_inputs, wire_inputs}
-use Rattle.mp_steady.specs.Periods.{delay_by, delay_in, greatest, heard_from, is_again_by, is_again_in, is_same_state, is_state_again, last_set, last_unit, longest_delay, longest_input, longest_input_delay, longest_period, repeats, repeats_from, set_by, start, told_until}
+use Rattle.mp_steady.specs.Periods.{delay_by, delay_in, heard_from, is_again_by, is_again_in, is_state_again, last_set, last_unit, longest_delay, longest_input, longest_input_delay, longest_period, repeats, repeats_from, set_by, start, told_until}
 use Rattle.mp_laws.specs.Repeating.{GoesOnAt, RepeatsForEver}
 use Rattle.mp_laws.proofs.AlikeLemmas.{same_driver, same_module, same_built, same_initial}
 use Rattle.mp_steady.proofs.SetLemmas.{of_wire, greatest_bounds, all_same, one_same, passes_reg, reg_passes, both_all, short_all, same_state, repeats_level, stimulus_over}
