@@ -78,6 +78,6 @@ function changed(all, before) {
     else if (row.isChanged) told.push({ line: `${row.name} differs from ${row.differs.first} on`, time: row.differs.first, row });
     if (other && row.isChanged) row.before = other.wave;
   }
-  for (const name of others.keys()) told.push({ line: `${name} is gone`, time: 0, wires: [] });
+  for (const name of others.keys()) told.push({ line: `${name} is gone`, time: 0 });
   return told.sort((one, two) => one.time - two.time);
 }

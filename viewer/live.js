@@ -3,6 +3,7 @@
 // again some times a second while the page is seen. So a page shows each version as soon as it is there, and what differs from the one before.
 
 const LOOKS = 200; // milliseconds from one look to the next
+const MOST_EDITS = 12; // as many edits stand in their list at first, so that other lists are seen too
 const BESIDE = location.href.replace(/[?#].*$/, "").replace(/\.html$/, ""); // what the names of the scripts begin with
 
 /** Runs a script beside the page as it is now, and returns whether it is there. */
@@ -57,24 +58,27 @@ class Live {
   show({ run, version, edits, ...texts }) {
     const before = view.all;
     page.take(texts);
-    if (this.shown !== null) this.list("differences", `Changed since version ${this.shown.version}`, changed(view.all, before));
+    if (this.shown !== null) this.listChanged(changed(view.all, before));
     this.listEdits(edits.split("\n").filter(Boolean), run);
     this.shown = { run, version };
     page.resize();
   }
 
+  listChanged(lines) {
+    this.list("differences", `${lines.length ? "Changed" : "Nothing changed"} since version ${this.shown.version}`, lines);
+  }
+
   /** Lists the edits, the last one first. Those that the version before didn't have are new. */
   listEdits(edits, run) {
     const last = this.shown !== null && this.shown.run === run ? this.shown.version : edits.length;
-    this.list("edits", edits.length ? "Edits" : "No edits", edits.map((line, place) => ({ line, wires: [], isNew: place >= last })).reverse());
+    this.list("edits", edits.length ? "Edits" : "No edits", edits.map((line, place) => ({ line, isNew: place >= last })).reverse(), MOST_EDITS);
   }
 
-  list(id, heading, lines) {
+  list(id, heading, lines, most) {
     const section = element(id);
     section.hidden = false;
     section.querySelector("h2").textContent = heading;
-    const items = lines.length || id === "edits" ? lines : [{ line: "no difference", wires: [] }];
-    fill(section.querySelector("ul"), items, (place) => place.row && page.goTo(place));
+    fill(section.querySelector("ul"), lines, (place) => place.row && page.goTo(place), most);
   }
 
   say(isThere) {
