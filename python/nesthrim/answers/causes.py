@@ -3,7 +3,7 @@
 from __future__ import annotations
 
 import re
-from dataclasses import dataclass
+from dataclasses import dataclass, field
 from typing import Optional, Tuple
 
 from ..errors import AnswerError
@@ -65,7 +65,7 @@ class PathPart:
     module: str
     units: int
     steps: int
-    since: Optional[int] = None
+    since: Optional[int] = field(default=None, repr=False)
 
     def __str__(self) -> str:
         return f"{self.module} {self.units} {self.steps}" if self.since is None else f"- {self.since} {self.units}"
