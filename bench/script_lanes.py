@@ -13,10 +13,10 @@ sys.path.insert(0, f"{TOP}/launcher")
 sys.dont_write_bytecode = True  # (what is installed is a copy of that folder)
 import lanes  # noqa: E402
 
-# a chain of three crates, three beside it, of which one takes as long as seven tenths of it, and the edits of one
+# a chain of three crates, three beside it, of which one takes nearly as long as the chain, and the edits of one
 TASKS = {
     ("low", "proof"): ([], 10, 2e9),
-    ("beside", "proof"): ([], 22, 2e9),
+    ("beside", "proof"): ([], 28, 2e9),
     ("aside", "proof"): ([], 5, 2e9),
     ("middle", "proof"): ([("low", "proof")], 10, 2e9),
     ("top", "proof"): ([("middle", "proof")], 10, 2e9),
@@ -46,13 +46,13 @@ class Done:
 
 
 def expect_lanes():
-    """The longest chains have all processors but one and are served first, others have one job, and memory that isn't there is waited for."""
+    """The longest chain has all processors and is served first, others have one job, and memory that isn't there is waited for."""
     ample = Done(100e9)
     expect("what they gave", {key: f"{key} is done" for key in TASKS}, ample.given)
     for key, (waits, *_) in TASKS.items():
         expect(f"what has ended before {key}", set(), {*waits} - ample.had[key][2])
     jobs = {key: had[0] for key, had in ample.had.items()}
-    expect("their jobs", {key: 3 if key[1] == "proof" and key[0] not in ("aside", "last") else 1 for key in TASKS}, jobs)
+    expect("their jobs", {key: 4 if key[1] == "proof" and key[0] in ("low", "middle", "top") else 1 for key in TASKS}, jobs)
     mine = os.getpriority(os.PRIO_PROCESS, 0)
     nice = {key[0]: had[1] for key, had in ample.had.items() if key[1] == "proof"}
     served = [nice[name] for name in ("low", "beside", "middle", "top", "aside", "last")]
@@ -115,7 +115,7 @@ def expect_builds(copy):
     """A build takes over the tasks of an rt that is as it is known, and leaves all else to rt."""
     known = "([], 1, 1.0, note)"
     for what, form, task, given, wanted in [
-        ("a known rt", "", known, {}, "2 of none"),
+        ("a known rt", "", known, {}, "3 of none"),
         ("a number of jobs", "", known, {"RT_JOBS": "2"}, "its own of 2"),
         ("other tasks", "", "([], note)", {}, "its own of none"),
         ("no function of that name", "del free", known, {}, "its own of N"),

@@ -2,8 +2,9 @@
 
 `rt` proves crates side by side, and each check keeps the number of jobs that it begins with. It thinks of twice the memory that checks take, so it
 begins few, or, if it is told how many, gives each one job. Then processors idle while the longest chain of crates is proved, one after the other.
-Here a crate with one of the longest chains behind it has a job for each processor but one, and the others have one job, which costs less in all; the
-system gives processors to the longest chain first (`nice`). All else is done by `rt`. If it isn't as this file knows it, it does that too.
+Here the crate with the longest chain behind it has a job for each processor, and the others have one job, since a check by several jobs costs a
+quarter to a third more. The system gives processors to the longest chain first (`nice`). All else is done by `rt`. If it isn't as this file knows
+it, it does that too.
 """
 
 from __future__ import annotations
@@ -26,17 +27,16 @@ Task = Tuple[List[Key], int, float, Callable[[Given, int], Any]]
 TAKEN = 0.45  # the part of the memory that rt thinks of which a check by one job takes
 TAKEN_MORE = 0.2  # what each further job takes, as a part of what the first one does
 USED = 0.85  # the part of the free memory that is used
-NEAR = 0.7  # a chain is one of the longest if it is such a part of the longest one at that time
 MOST_JOBS = 8  # more seldom help
 NICEST = 19
 BYTES_OF_A_CHECK = 5_000_000_000  # which no check by one job takes
 
-# the seconds of a processor that the proof of each crate took when docs/PERFORMANCE.md was measured. A line of one takes five times as long as of another
+# the seconds of a processor that the proof of each crate takes by docs/PERFORMANCE.md. A line of one takes five times as long as of another
 SECONDS = {
     "mp_streams": 91, "mp_wave": 168, "mp_modules": 116, "mp_records": 232, "mp_netlist": 466, "mp_model": 237, "mp_kernel": 271, "mp_partition": 316,
     "mp_simulation": 359, "mp_version": 172, "mp_phase": 242, "mp_text": 587, "mp_engine": 553, "mp_depend": 164, "mp_active": 308, "mp_redo": 859,
-    "mp_near": 286, "mp_session": 169, "mp_desk": 674, "mp_report": 142, "mp_questions": 418, "mp_check": 207, "mp_picture": 508, "mp_exports": 416,
-    "mp_seats": 676, "mp_commands": 505, "mp_request": 428, "mpwb": 536,
+    "mp_near": 286, "mp_session": 169, "mp_desk": 674, "mp_report": 142, "mp_questions": 418, "mp_check": 369, "mp_steady": 229, "mp_picture": 508,
+    "mp_exports": 416, "mp_seats": 676, "mp_commands": 505, "mp_request": 428, "mpwb": 536,
 }  # fmt: skip
 SECONDS_OF_A_LINE = 0.17  # of other crates
 
@@ -90,9 +90,8 @@ class Lanes:
 
     def jobs_for(self, key: Key) -> int:
         """The jobs of a task that begins now, 0 where it has to wait for memory or a processor."""
-        longest = max(self.behind[it] for it in [key, *(it for it, _ in self.running.values())])
-        is_long = key[1] != "edits" and self.behind[key] >= NEAR * longest
-        wanted = max(min(self.processors - 1, MOST_JOBS), min(self.processors, 2)) if is_long else 1
+        is_longest = key[1] != "edits" and all(self.behind[key] >= self.behind[it] for it, _ in self.running.values())
+        wanted = min(self.processors, MOST_JOBS) if is_longest else 1
         free = self.memory - sum(taken for _, taken in self.running.values())
         fitting = [it for it in range(1, wanted + 1) if memory_of(self.tasks[key], it) <= free]
         if len(self.running) >= self.processors:
