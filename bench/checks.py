@@ -20,13 +20,7 @@ class Check:
         self.netlist = netlist
         self.levels, self.states, self.at_modules = reference.evaluated(netlist)
         self.causes = Causes(netlist)
-        self.ports = {
-            wire: (number, port, delay)
-            for number, found in enumerate(netlist.modules)
-            if found
-            for port, (wire, delay) in enumerate(found[3])
-            if wire is not None
-        }
+        self.ports = self.causes.ports
         self.end = netlist.horizon - 1
 
     # ---- late data

@@ -18,8 +18,13 @@ class Causes:
     def __init__(self, netlist):
         self.netlist = netlist
         self.levels = reference.evaluated(netlist)[0]
-        self.drivers = {
-            wire: (number, delay) for number, found in enumerate(netlist.modules) if found for wire, delay in found[3] if wire is not None
+        # of each wire that is driven: the module, its output and that one's delay
+        self.ports = {
+            wire: (number, port, delay)
+            for number, found in enumerate(netlist.modules)
+            if found
+            for port, (wire, delay) in enumerate(found[3])
+            if wire is not None
         }
 
     def last_change(self, wire, time):
@@ -42,7 +47,7 @@ class Causes:
         wire, time = change
         if wire in self.netlist.stimuli:
             return None, []
-        number, delay = self.drivers[wire]
+        number, _, delay = self.ports[wire]
         return (number, delay), [] if time == delay else self.events(number, time - delay)
 
     def chain(self, wire, time):

@@ -57,13 +57,7 @@ class Run:
         self.netlist, self.end = netlist, netlist.horizon - 1
         self.causes = questions.Causes(netlist)
         self.levels, self.states, _ = reference.evaluated(netlist)
-        self.ports = {
-            wire: (number, port, delay)
-            for number, found in enumerate(netlist.modules)
-            if found
-            for port, (wire, delay) in enumerate(found[3])
-            if wire is not None
-        }
+        self.ports = self.causes.ports
         self.all = [number for number, wire in enumerate(netlist.wires) if wire]
 
     def passes_on(self, number, port):
