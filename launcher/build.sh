@@ -42,6 +42,7 @@ build() {
     begin_work
     copy_crates
     : >"$log"
+    gate=begins
     (cd "$room/top" && prove) </dev/null >"$log" 2>&1 &
     gate=$!
     while kill -0 "$gate" 2>/dev/null; do

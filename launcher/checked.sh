@@ -13,6 +13,7 @@ tell_checked() {
 }
 
 take_program() {
+    pass_turn
     until find_program >"$room/netlist"; do sleep 0.1; done
 }
 
@@ -25,7 +26,8 @@ find_program() {
 # runs `try` of this rt with these words, on what `in` of the room has
 try_words() {
     local status=0
-    (cd "$top/crates/mpwb" && exec setsid "$1" try "${@:2}") <"$room/in" >"$room/out" 2>"$room/log" &
+    gate=begins
+    (pass_turn && cd "$top/crates/mpwb" && exec setsid "$1" try "${@:2}") <"$room/in" >"$room/out" 2>"$room/log" &
     gate=$!
     wait "$gate" || status=$?
     gate=""
@@ -43,6 +45,7 @@ make_checked() {
     mkdir "$room/tmp"
     mkfifo "$room/netlist"
     : >"$room/in"
+    taker=begins
     take_program &
     taker=$!
     if link_kit; then try_program "$room/kit/bin/rt"; fi
@@ -79,4 +82,25 @@ tell_failed_check() {
         exit 70
         ;;
     esac
+}
+
+# --- the turn to make it, which is a lock of the launcher's folder: so it ends with this process, however that ends
+
+turn=""
+
+# Takes the turn, and waits for it while another process has it. (A system without such locks gives it to everybody.)
+take_turn() {
+    local status said=""
+    { exec {turn}<"$top/launcher"; } 2>/dev/null || return 0
+    while status=0 && { flock -n "$turn" 2>/dev/null || status=$?; } && [ "$status" = 1 ]; do
+        if [ -z "$said" ]; then echo "mpwb: another ./mpwb builds the program without proofs; this one waits for it" >&2; fi
+        said=yes
+        sleep 0.2
+    done
+}
+
+# (what has begun below this process has to do so too, or it would hold the turn longer)
+pass_turn() {
+    if [ -n "$turn" ]; then exec {turn}<&-; fi
+    turn=""
 }

@@ -2,8 +2,8 @@
 # Work of rt. It is done in a room of its own and by a group of processes of its own, so that all of it ends with the script.
 
 room=""
-gate=""  # the process of rt, while it runs
-taker="" # the one that takes the program which rt makes, while it waits
+gate=""  # the process of rt, while it runs; `begins` where its number isn't known yet
+taker="" # the one that takes the program which rt makes, while it waits; `begins` as there
 
 unfinished="" # the file that is written just now, by the name that it has until it is whole
 
@@ -30,10 +30,13 @@ begin_work() {
 # (an interrupt while it ends would leave what it hasn't ended and removed yet)
 end_work() {
     trap '' INT TERM HUP
-    if [ -n "$taker" ]; then end_process "$taker"; fi
-    if [ -n "$gate" ]; then end_group "$gate"; fi
+    if [ -n "$taker" ]; then end_process "$(number_of "$taker")"; fi
+    if [ -n "$gate" ]; then end_group "$(number_of "$gate")"; fi
     rm -rf "$room" "$program.$$" "$checked.$$" ${unfinished:+"$unfinished"}
 }
+
+# the number of a process; of one that begins that of the last one, which it is or will be
+number_of() { if [ "$1" = begins ]; then echo "${!:-}"; else echo "$1"; fi; }
 
 # Ends a process that has nothing to remove. (One that has just begun would take another signal as the script does, and remove the room. One that has
 # ended, as by the same Ctrl-C, isn't waited for: in a trap that may never return.)
