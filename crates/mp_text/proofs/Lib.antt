@@ -17,6 +17,7 @@ pub mod StimulusStageLemmas
 pub mod BundleStageLemmas
 pub mod SameRecordLemmas
 mod PartLemmas
+mod PictureLemmas
 mod LineStartLemmas
 mod GivenLemmas
 pub mod lemmas

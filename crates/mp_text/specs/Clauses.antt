@@ -7,7 +7,8 @@ pub use Rattle.mp_text.specs.Laws.{IsReplay}
 pub use Rattle.mp_text.specs.Limits.{max_first_horizon, max_short_text, max_text}
 pub use Rattle.mp_text.specs.LineStarts.{HasForm, is_begun, question_takes, single_takes, statement_takes, takes}
 pub use Rattle.mp_text.specs.Names.{AreAscii, Circuit, Gives, IsCircuit, OutOfMemory, Writes, after_first, before_first, byte, flat_map, lines_of, max_horizon, slice_split, texts, wire_or_none, words_of}
-pub use Rattle.mp_text.specs.Questions.{chain_question, check_of, lone_word, question_word, range_of, since_question, stated_question, steps_word}
+pub use Rattle.mp_text.specs.PictureWords.{columns_at, columns_behind, form_of, is_option, option_place, options_in, wires_in, words_taken}
+pub use Rattle.mp_text.specs.Questions.{chain_question, check_of, lone_word, picture_question, question_word, range_of, since_question, stated_question}
 pub use Rattle.mp_text.specs.RoundTrips.{IsReadAs, IsReadAsWritten, SameRecords, added_bundle, added_module, bundle_by_name, bundle_edits, edit_for, edits_by_name, input_by_name, module_by_name, module_edits, output_by_name, set_edits, standing, stimulus_edits, wire_edits}
 pub use Rattle.mp_text.specs.ScriptLines.{batch_line, line_at, line_word, question_line, single_line, stated_line}
 pub use Rattle.mp_text.specs.SingleEdits.{port_change, removal, single_edit, single_word}

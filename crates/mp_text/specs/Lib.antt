@@ -7,6 +7,8 @@ pub mod Sizes
 pub mod Texts
 pub mod SingleEdits
 pub mod Batches
+pub mod PictureForms
+pub mod PictureWords
 pub mod Questions
 pub mod ScriptLines
 pub mod LineStarts

@@ -24,3 +24,11 @@ max_steps = 1048576
 -- how many are given where a question names no number of them
 abbrev pub usual_steps : ℕ
 usual_steps = 20
+
+-- how many columns a picture may have
+abbrev pub max_columns : ℕ
+max_columns = 10000
+
+-- how many it has at most where a question names no number of them
+abbrev pub usual_columns : ℕ
+usual_columns = 72

@@ -1,15 +1,11 @@
 -- What a script asks for.
-use Rattle.std.specs.Prelude.{◌&&◌, ◌∷◌, if◌then◌else◌, true, nat_lt}
-use Rattle.mp_text.specs.Names.{bytes_eq, Bool, false, LineError, WordCount, BadNumber, ◌>>=◌, number_word, ℕ, List, [], Option, Some, None, Result, Ok, Err, nat_le, codes, QuestionWord, Wave, Waves, Text, Report, Check, Steady, Dump, Work, Show, Why, Path, Waits, Measure, Graph, Verilog, Version, Edits}
+use Rattle.std.specs.Prelude.{◌∷◌, if◌then◌else◌, true, nat_lt}
+use Rattle.mp_text.specs.Names.{bytes_eq, Bool, false, LineError, WordCount, BadNumber, ◌>>=◌, number_word, ℕ, List, [], Option, Some, None, Result, Ok, Err, codes, QuestionWord, Wave, Waves, Text, Report, Check, Steady, Dump, Work, Show, Why, Path, Waits, Measure, Graph, Verilog, Version, Edits}
 use Rattle.mp_text.specs.declared.question.Question.{Question}
 use Rattle.mp_text.specs.declared.question.Question.TheVariants as questions
+use Rattle.mp_text.specs.lexing.WordLists.{count_word}
+use Rattle.mp_text.specs.PictureWords.{form_of, options_in, wires_in}
 use Rattle.mp_text.specs.Limits.{max_steps, no_end, usual_steps}
-
--- so many steps, of which there may be 1 to 1,048,576
-abbrev pub steps_word : List ℕ → Result ℕ LineError
-steps_word word = do
-  steps ← number_word word
-  (if nat_le 1 steps && nat_le steps max_steps then Ok steps else Err BadNumber)
 
 -- a wire, a time and a number of steps
 abbrev pub chain_question : List ℕ → List ℕ → Result ℕ LineError → Result Question LineError
@@ -50,6 +46,14 @@ abbrev pub check_question : List (List ℕ) → Result Question LineError
 check_question [] = check_of false []
 check_question (word ∷ words) = if bytes_eq word (codes "brief") then check_of true words else check_of false (word ∷ words)
 
+-- the timing diagram from one time to before another, of the wires and in the form that the words behind them say
+abbrev pub picture_question : List ℕ → List ℕ → List (List ℕ) → Result Question LineError
+picture_question from to words = do
+  form ← form_of (options_in words)
+  f ← number_word from
+  t ← number_word to
+  Ok (questions.Show f t (wires_in words) form)
+
 -- the first word of a question that has no words behind it
 abbrev pub lone_word : List ℕ → Option QuestionWord
 lone_word word =
@@ -87,12 +91,9 @@ stated_question Check words = check_question words
 stated_question Steady [] = Ok questions.Steady
 stated_question Dump [] = Ok questions.Dump
 stated_question Work [] = Ok questions.Work
-stated_question Show (from ∷ to ∷ wires) = do
-  f ← number_word from
-  t ← number_word to
-  Ok (questions.Show f t wires)
+stated_question Show (from ∷ to ∷ words) = picture_question from to words
 stated_question Why (wire ∷ time ∷ []) = chain_question wire time (Ok usual_steps)
-stated_question Why (wire ∷ time ∷ steps ∷ []) = chain_question wire time (steps_word steps)
+stated_question Why (wire ∷ time ∷ steps ∷ []) = chain_question wire time (count_word steps max_steps)
 stated_question Path (wire ∷ time ∷ []) = do
   t ← number_word time
   Ok (questions.Path wire t 0)

@@ -18,4 +18,4 @@ pub use spelling::is_text;
 pub use toggle_texts::ToggleTexts;
 pub use wave_line::{ChangeTexts, ShortChanges};
 pub use word::{first_word, name_of, word_at, word_count, words};
-pub use word_list::{Worded, each_word, number_word, wire_or_none};
+pub use word_list::{Worded, count_word, each_word, number_word, wire_or_none};

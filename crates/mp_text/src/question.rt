@@ -1,4 +1,5 @@
 //! The questions of scripts.
+use crate::picture_options::PictureOptions;
 use crate::wire_names::WireNames;
 use mp_netlist::Name;
 
@@ -29,11 +30,13 @@ pub enum Question {
     Dump,
     /// What was computed again for the last edit.
     Work,
-    /// The timing diagram from one time to before another: of the wires of these names, or of all wires if there are no names.
+    /// The timing diagram from one time to before another: of the wires of these names, or of all wires if there are no names, and drawn as the options
+    /// say.
     Show {
         from: u64,
         to: u64,
         wires: WireNames,
+        options: PictureOptions,
     },
     /// Why a wire has its level at a time: the chain of its causes, in at most this number of steps, 1 to `MAX_STEPS`.
     Why {

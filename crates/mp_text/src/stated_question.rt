@@ -1,11 +1,12 @@
 //! The questions of a script's lines.
 ghost use Rattle.std.specs.Prelude.{◌≡◌, []};
 ghost use Rattle.mp_text.specs.declared.question_word.QuestionWord.TheVariants.{Wave, Report, Check, Show, Why, Path, Waits, Measure, Edits};
-ghost use Rattle.mp_text.specs.Clauses.{IfOk, IsAscii, OutOfMemory, Gives, texts, AreAscii, stated_question, range_of, check_of, since_question, steps_word, chain_question};
+ghost use Rattle.mp_text.specs.Clauses.{IfOk, IsAscii, OutOfMemory, Gives, texts, AreAscii, stated_question, range_of, check_of, picture_question, since_question, chain_question};
 
-use crate::lexing::{LineError, is_text, name_of, number_word};
+use crate::lexing::{LineError, count_word, is_text, name_of, number_word};
 use crate::question::Question;
 use crate::question_word::QuestionWord;
+use crate::stated_picture::{options_of, wires_and_options};
 use crate::wire_names::WireNames;
 use std::alloc::{AllocError, Global};
 
@@ -98,19 +99,34 @@ fn range_of(words: &[&[u8]]) -> Result<(u64, u64), LineError>
 }
 
 /// The question that the words after `show` state.
-#[tactic(auto, using(crate::proofs::GivenLemmas::wanting_given, crate::proofs::lemmas::lexing::WordLemmas::rest_ascii))]
 fn show_question(alloc: Global, words: &[&[u8]]) -> Result<Question, LineError>
     requires { AreAscii words.now }
     ensures { Gives OutOfMemory (λ question. question) result (stated_question Show (texts words.now)) }
 {
     match words {
-        [from, to, wires @ ..] => Ok(Question::Show {
-            from: number_word(from)?,
-            to: number_word(to)?,
-            wires: wire_names(alloc, wires)?,
-        }),
+        [from, to, others @ ..] => picture_question(alloc, from, to, others),
         _ => Err(LineError::WordCount),
     }
+}
+
+/// The question about the picture between two times that the words behind them state.
+#[tactic(auto, using(crate::proofs::GivenLemmas::wanting_given))]
+fn picture_question(
+    alloc: Global,
+    from: &[u8],
+    to: &[u8],
+    others: &[&[u8]],
+) -> Result<Question, LineError>
+    requires { AreAscii others.now }
+    ensures { Gives OutOfMemory (λ question. question) result (picture_question from.now to.now (texts others.now)) }
+{
+    let (wires, options) = wires_and_options(others);
+    Ok(Question::Show {
+        options: options_of(options)?,
+        from: number_word(from)?,
+        to: number_word(to)?,
+        wires: wire_names(alloc, wires)?,
+    })
 }
 
 /// The question that the words after `why` state.
@@ -121,7 +137,7 @@ fn why_question(alloc: Global, words: &[&[u8]]) -> Result<Question, LineError>
 {
     match words {
         [wire, time] => chain_question(alloc, wire, time, Ok(USUAL_STEPS)),
-        [wire, time, steps] => chain_question(alloc, wire, time, steps_word(steps)),
+        [wire, time, steps] => chain_question(alloc, wire, time, count_word(steps, MAX_STEPS)),
         _ => Err(LineError::WordCount),
     }
 }
@@ -265,15 +281,4 @@ fn chain_question(
         steps: steps?,
         wire: name_of(alloc, wire)?,
     })
-}
-
-/// The number of steps that the word spells, 1 to `MAX_STEPS`. `BadNumber` comes for any other word.
-fn steps_word(word: &[u8]) -> Result<u32, LineError>
-    ensures { result ≡ steps_word word.now }
-{
-    let steps = number_word(word)?;
-    if steps < 1 || steps > u64::from(MAX_STEPS) {
-        return Err(LineError::BadNumber);
-    }
-    Ok(steps as u32)
 }

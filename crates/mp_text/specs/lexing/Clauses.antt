@@ -11,7 +11,7 @@ pub use Rattle.mp_text.specs.lexing.Lines.{is_allowed, is_line_feed, line_words,
 pub use Rattle.mp_text.specs.lexing.Numbers.{is_slash, name_and_number, number_from, parts_at_equals, parts_at_slash, spelled_number, time_and_value}
 pub use Rattle.mp_text.specs.lexing.Reads.{Gives, with_front, ◌>>=◌}
 pub use Rattle.mp_text.specs.lexing.WaveLines.{change_text, changes_text, pair_text}
-pub use Rattle.mp_text.specs.lexing.WordLists.{change_word, each_word, input_word, number_word, output_word, wire_or_none}
+pub use Rattle.mp_text.specs.lexing.WordLists.{change_word, count_word, each_word, input_word, number_word, output_word, wire_or_none}
 pub use Rattle.mp_text.specs.lexing.Words.{AreAscii, is_gap, is_word, is_word_byte, statement_part, texts, words_of}
 pub use Rattle.mp_text.specs.declared.lexing.line_error.LineError.{LineError}
 pub use Rattle.mp_text.specs.declared.lexing.line_error.LineError.TheVariants.{OutOfMemory}

@@ -1,11 +1,17 @@
 -- What words say, alone and in turn.
-use Rattle.std.specs.Prelude.{◌∷◌, if◌then◌else◌}
-use Rattle.mp_text.specs.lexing.Names.{ℕ, List, [], Option, Some, None, Result, Ok, codes, option_map, ok_or, list_any, bytes_eq, InputName, OutputName, LineError, BadNumber}
+use Rattle.std.specs.Prelude.{◌&&◌, ◌∷◌, if◌then◌else◌, nat_le}
+use Rattle.mp_text.specs.lexing.Names.{ℕ, List, [], Option, Some, None, Result, Ok, Err, codes, option_map, ok_or, list_any, bytes_eq, InputName, OutputName, LineError, BadNumber}
 use Rattle.mp_text.specs.lexing.Numbers.{spelled_number, time_and_value, is_slash, name_and_number}
 use Rattle.mp_text.specs.lexing.Reads.{◌>>=◌}
 
 abbrev pub number_word : List ℕ → Result ℕ LineError
 number_word word = ok_or (spelled_number word) BadNumber
+
+-- so many, of which there may be 1 to the most
+abbrev pub count_word : List ℕ → ℕ → Result ℕ LineError
+count_word word most = do
+  count ← number_word word
+  (if nat_le 1 count && nat_le count most then Ok count else Err BadNumber)
 
 abbrev pub change_word : List ℕ → Result (ℕ × ℕ) LineError
 change_word word = ok_or (time_and_value word) BadNumber

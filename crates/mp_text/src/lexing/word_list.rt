@@ -1,8 +1,8 @@
 //! The meanings of words, one by one.
 #![tactic(auto, unfolding(crate::specs::lexing::WordLists::input_word, crate::specs::lexing::WordLists::output_word))]
 
-ghost use Rattle.std.specs.Prelude.{◌≡◌};
-ghost use Rattle.mp_text.specs.lexing.Clauses.{ℕ, List, Result, All, IfOk, IsAscii, LineError, OutOfMemory, Gives, texts, list_any, is_slash, number_word, change_word, input_word, wire_or_none, output_word, each_word};
+ghost use Rattle.std.specs.Prelude.{◌≡◌, ◌<◌};
+ghost use Rattle.mp_text.specs.lexing.Clauses.{ℕ, List, Result, All, IfOk, IsAscii, LineError, OutOfMemory, Gives, texts, list_any, is_slash, number_word, count_word, change_word, input_word, wire_or_none, output_word, each_word};
 
 use crate::lexing::line_error::LineError;
 use crate::lexing::number::{name_and_number, number, time_and_value};
@@ -16,6 +16,18 @@ pub fn number_word(word: &[u8]) -> Result<u64, LineError>
     ensures { result ≡ number_word word.now }
 {
     number(word).ok_or(LineError::BadNumber)
+}
+
+/// The number from 1 to `most` that a word spells. `BadNumber` comes for any other word.
+pub fn count_word(word: &[u8], most: u32) -> Result<u32, LineError>
+    ensures count { result ≡ count_word word.now most }
+    ensures some { IfOk result (λ count. 0 < count) }
+{
+    let count = number_word(word)?;
+    if count < 1 || count > u64::from(most) {
+        return Err(LineError::BadNumber);
+    }
+    Ok(count as u32)
 }
 
 /// A value that one word states.

@@ -1,5 +1,5 @@
 -- Facts about words that are read in turn.
-use Rattle.mp_text.proofs.lemmas.lexing.Names.{arith, ◌≡◌, ◌+◌, ◌<◌, ◌≤◌, ◌∷◌, ◌++◌, All-get_or, ℕ, List, [], Bor, Result, Ok, Err, append_assoc, length, get_or, take, drop, Bool, not, cond, refl, sym, ap, ◌∙◌, at_drop_more, at_drop_all, append-nil, take-map, drop-map, before_first, after_first, position_or_len, map, LineError, with_front, ◌>>=◌, texts, each_word}
+use Rattle.mp_text.proofs.lemmas.lexing.Names.{arith, ◌≡◌, ◌+◌, ◌<◌, ◌≤◌, ◌∷◌, ◌++◌, All-get_or, ℕ, List, [], Bor, Result, Ok, Err, append_assoc, length, get_or, take, drop, Bool, not, cond, nat_lt, Some, None, refl, sym, ap, ◌∙◌, at_drop_more, at_drop_all, append-nil, take-map, drop-map, before_first, after_first, position, position_or_len, length-map, map, LineError, with_front, ◌>>=◌, texts, each_word}
 
 module _ {W X A : Type 0} (read : W → Result A LineError) (see : X → W) (ws : List X) (i : ℕ) (d : X) (front : List A) where
   abbrev Goes : Type 0
@@ -34,5 +34,13 @@ texts-before_first p ws = sym (ap (λ n. take n (texts ws)) (position_or_len-tex
 
 pub texts-after_first : (p : List ℕ → Bool) (ws : List (Bor (List ℕ))) → texts (after_first (λ w. p w.now) ws) ≡ after_first p (texts ws)
 texts-after_first p ws = sym (ap (λ n. drop (n + 1) (texts ws)) (position_or_len-texts p ws) ∙ drop-map (λ w. w.now) (position_or_len (λ w. p w.now) ws + 1) ws)
+
+pub texts-from_first : (p : List ℕ → Bool) (ws : List (Bor (List ℕ))) → texts (drop (position_or_len (λ w. p w.now) ws) ws) ≡ drop (position_or_len p (texts ws)) (texts ws)
+texts-from_first p ws = sym (ap (λ n. drop n (texts ws)) (position_or_len-texts p ws) ∙ drop-map (λ w. w.now) (position_or_len (λ w. p w.now) ws) ws)
+
+pub position-texts : (p : List ℕ → Bool) (ws : List (Bor (List ℕ))) → position (λ w. p w.now) ws ≡ position p (texts ws)
+position-texts p ws =
+    ap (λ n. cond (nat_lt n (length ws)) (Some n) None) (sym (position_or_len-texts p ws))
+    ∙ ap (λ n. cond (nat_lt (position_or_len p (texts ws)) n) (Some (position_or_len p (texts ws))) None) (sym (length-map ws (λ w. w.now)))
 
 pub ruleset each_steps = (All-get_or, each_err, each_ok, each_end)
