@@ -1,4 +1,3 @@
-pub mod Limits
 pub mod Outputs
 pub mod AskedWires
 pub mod Pictures

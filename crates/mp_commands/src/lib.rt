@@ -39,7 +39,6 @@ pub use script_opening::open_keeper;
 pub use script_session::ScriptSession;
 pub use sessions::Sessions;
 pub use views::{
-    AskedPicture, CausePicture, Charset, CheckAsked, Drawing, Evaluated, MAX_COLUMNS, MeasureLines,
-    Numerals, PathLines, PictureText, Selection, TimeRange, USUAL_COLUMNS, View, WhyLines,
-    put_wave_line, put_wave_lines,
+    AskedPicture, CausePicture, Charset, CheckAsked, Drawing, Evaluated, MeasureLines, Numerals,
+    PathLines, PictureText, Selection, TimeRange, View, WhyLines, put_wave_line, put_wave_lines,
 };

@@ -15,7 +15,7 @@ mod view;
 mod wave_lines;
 mod why_lines;
 
-pub use asked_picture::{AskedPicture, MAX_COLUMNS, USUAL_COLUMNS};
+pub use asked_picture::AskedPicture;
 pub use cause_picture::CausePicture;
 pub use drawing::Drawing;
 pub use evaluated::Evaluated;

@@ -29,7 +29,8 @@ or a question:
   wave WIRE, waves, text, dump, work
   report [FROM TO]                          findings, in a range of times
   check [brief] [FROM TO]                   in groups if it is brief
-  show FROM TO [WIRE ..]                    the timing diagram of these wires
+  show FROM TO [WIRE ..]                    the timing diagram of these wires,
+    [--columns N] [--hex] [--ascii]         with options of `mpwb show`
   why WIRE TIME [STEPS]                     1 to 1048576 steps, by default 20
   path WIRE TIME [FROM]                     only its part after FROM
   waits TIME

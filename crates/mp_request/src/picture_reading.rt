@@ -8,6 +8,7 @@ use crate::picture_words::PictureWords;
 use crate::reading::{from, to, told_by};
 use clap::error::ErrorKind;
 use clap::{ArgMatches, Error};
+use mp_text::USUAL_COLUMNS;
 use std::alloc::{AllocError, Global};
 
 /// The options of a timing diagram.
@@ -26,7 +27,7 @@ pub(crate) fn picture_words<'a>(
         causes,
         from: from(found),
         to: to(found),
-        columns: found.get_one::<u32>("columns").unwrap_or(72),
+        columns: found.get_one::<u32>("columns").unwrap_or(USUAL_COLUMNS),
         ascii: found.get_flag("ascii"),
         hex: found.get_flag("hex"),
         svg: found.get_flag("svg"),

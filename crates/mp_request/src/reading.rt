@@ -12,6 +12,7 @@ use crate::range_words::RangeWords;
 use crate::request::{Command, Request};
 use clap::error::ErrorKind;
 use clap::{ArgMatches, Command as Parser, Error};
+use mp_text::USUAL_STEPS;
 use std::alloc::{AllocError, Global};
 
 /// FILE is this for standard input.
@@ -160,7 +161,7 @@ fn command_with_arguments<'a>(word: &str, found: &ArgMatches<'a>) -> Option<Comm
         "why" => Command::Why {
             wire: wire(found),
             time: time(found),
-            steps: found.get_one::<u32>("steps").unwrap_or(20),
+            steps: found.get_one::<u32>("steps").unwrap_or(USUAL_STEPS),
         },
         "path" => Command::Path {
             wire: wire(found),

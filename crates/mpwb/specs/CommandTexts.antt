@@ -4,7 +4,6 @@ use Rattle.mp_netlist.specs.Circuit.{Circuit}
 use Rattle.mp_commands.specs.answers.Names.{Selected, selected_report, steady_text, dump, graph, verilog, waits, measure_of, waves_text, why_of, path_of, picture_text}
 use Rattle.mp_commands.specs.views.CausePictures.{cause_picture}
 use Rattle.mp_commands.specs.views.Chains.{is_begin}
-use Rattle.mp_commands.specs.views.Limits.{max_columns}
 use Rattle.mp_commands.specs.declared.views.drawing.Drawing.{Drawing}
 use Rattle.mp_commands.specs.declared.views.drawing.Drawing.TheVariants as drawings
 use Rattle.mp_picture.specs.declared.mark.Charset.TheVariants as charsets
@@ -15,7 +14,7 @@ use Rattle.mp_request.specs.declared.range_words.RangeWords.{RangeWords}
 use Rattle.mp_request.specs.declared.request.Command.{Command}
 use Rattle.mp_request.specs.declared.request.Command.TheVariants.{Waves, Report, Check, Dump, Show, Why, Path, Waits, Measure, Steady, Graph, Verilog}
 use Rattle.mp_request.specs.AskedNames.{asked_names}
-use Rattle.mp_text.specs.Limits.{max_steps}
+use Rattle.mp_text.specs.Limits.{max_columns, max_steps}
 
 -- the names that a command speaks of, as they were given
 abbrev pub names_in : Command → List (List ℕ)

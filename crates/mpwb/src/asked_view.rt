@@ -1,8 +1,8 @@
 //! The view that a command writes.
 ghost use Rattle.std.specs.Prelude.{◌≡◌, ◌&&◌, [], IfSome, is_some, nat_le};
 ghost use Rattle.mp_commands.specs.answers.Names.{selected};
-ghost use Rattle.mp_commands.specs.views.Limits.{max_columns};
 ghost use Rattle.mp_commands.specs.views.Views.{view_places, view_text, view_wires};
+ghost use Rattle.mp_text.specs.Limits.{max_columns};
 ghost use Rattle.mpwb.specs.CommandTexts.{drawing_of, has_valid_numbers, names_in, numerals_of, picture_of, places_in, selection_of, text_of, wires_in};
 
 use mp_commands::{

@@ -1,6 +1,6 @@
 -- What questions are answered.
 use Rattle.std.specs.Prelude.{◌+◌, ◌-◌, ◌∷◌, ◌++◌, ◌&&◌, if◌then◌else◌}
-use Rattle.mp_commands.specs.answers.Names.{decimal, Edit, NoSuchWire, Circuit, wire_at, wire_named, Unicode, Decimal, missing_at, usual_columns, ℕ, Bool, List, [], length, Option, Some, None, nat_le, codes, wave, selected_report, Selected, waits, measure_of, dump, BadNumber, check_text, steady_text, Question, Wave, Waves, Text, Report, Check, Steady, Dump, Work, Show, Why, Path, Waits, Measure, Graph, Verilog, Version, Edits, written, graph, verilog, picture_text, why_of, path_of, slot_line, waves_text}
+use Rattle.mp_commands.specs.answers.Names.{decimal, Edit, NoSuchWire, Circuit, wire_at, wire_named, PictureForm, Charset, Ascii, Unicode, Numerals, Decimal, Hex, missing_at, ℕ, Bool, List, [], length, Option, Some, None, nat_le, codes, wave, selected_report, Selected, waits, measure_of, dump, BadNumber, check_text, steady_text, Question, Wave, Waves, Text, Report, Check, Steady, Dump, Work, Show, Why, Path, Waits, Measure, Graph, Verilog, Version, Edits, written, graph, verilog, picture_text, why_of, path_of, slot_line, waves_text}
 use Rattle.mp_commands.specs.declared.views.drawing.Drawing.TheVariants as drawings
 use Rattle.mp_commands.specs.answers.WorkLines.{work_text}
 use Rattle.mp_commands.specs.answers.EditAnswers.{edits_from}
@@ -36,6 +36,16 @@ edits_text edits from = if is_edit_number edits from then edits_from edits (from
 abbrev pub all_between : ℕ → ℕ → Selected
 all_between from to = record { from = from; to = to; names = [] }
 
+-- the characters and the numerals of a picture
+abbrev pub charset_of : PictureForm → Charset
+charset_of form = if form.is_ascii then Ascii else Unicode
+
+abbrev pub numerals_of : PictureForm → Numerals
+numerals_of form = if form.is_hex then Hex else Decimal
+
+abbrev pub shown_text : Circuit → ℕ → ℕ → List (List ℕ) → PictureForm → List ℕ
+shown_text n from to wires form = picture_text n wires from to form.columns (drawings.Text (charset_of form)) (numerals_of form)
+
 -- the answer to a question
 abbrev pub answer_text : Kept → Question → List ℕ
 answer_text kept (Wave name) = wire_text kept.netlist (wire_named kept.netlist name)
@@ -46,7 +56,7 @@ answer_text kept (Check is_brief from to) = check_text kept.netlist (all_between
 answer_text kept Steady = steady_text kept.netlist
 answer_text kept Dump = dump kept.netlist
 answer_text kept Work = work_text kept.netlist kept.work
-answer_text kept (Show from to wires) = asked_text (missing_at kept.netlist wires) (picture_text kept.netlist wires from to usual_columns (drawings.Text Unicode) Decimal)
+answer_text kept (Show from to wires form) = asked_text (missing_at kept.netlist wires) (shown_text kept.netlist from to wires form)
 answer_text kept (Waits time) = waits kept.netlist time
 answer_text kept (Measure from to wires) = asked_text (missing_at kept.netlist wires) (measure_of kept.netlist from to wires)
 answer_text kept (Why wire time steps) = asked_text (missing_at kept.netlist (wire ∷ [])) (why_of kept.netlist wire time steps)

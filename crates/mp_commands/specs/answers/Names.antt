@@ -9,13 +9,16 @@ pub use Rattle.mp_text.specs.edit_lines.EditLines.{edit_text}
 pub use Rattle.mp_model.specs.Waves.{wave}
 pub use Rattle.mp_netlist.specs.Circuit.{Circuit, module_at, wire_at, wire_named}
 pub use Rattle.mp_picture.specs.GraphSections.{graph}
-pub use Rattle.mp_picture.specs.declared.mark.Charset.TheVariants.{Unicode}
-pub use Rattle.mp_picture.specs.declared.numerals.Numerals.TheVariants.{Decimal}
+pub use Rattle.mp_picture.specs.declared.mark.Charset.{Charset}
+pub use Rattle.mp_picture.specs.declared.mark.Charset.TheVariants.{Ascii, Unicode}
+pub use Rattle.mp_picture.specs.declared.numerals.Numerals.{Numerals}
+pub use Rattle.mp_picture.specs.declared.numerals.Numerals.TheVariants.{Decimal, Hex}
 pub use Rattle.mp_records.specs.declared.edit.Edit.{Edit}
 pub use Rattle.mp_records.specs.declared.edit_error.EditError.{EditError}
 pub use Rattle.mp_records.specs.declared.edit_error.EditError.TheVariants.{InBatch, NoSuchWire}
 pub use Rattle.mp_records.specs.declared.module_record.ModuleRecord.{ModuleRecord}
 pub use Rattle.mp_streams.specs.Outgoing.{Writes}
+pub use Rattle.mp_text.specs.PictureForms.{PictureForm}
 pub use Rattle.mp_text.specs.Written.{written}
 pub use Rattle.mp_text.specs.declared.question.Question.{Question}
 pub use Rattle.mp_text.specs.declared.question.Question.TheVariants.{Check, Dump, Edits, Graph, Measure, Path, Report, Show, Steady, Text, Verilog, Version, Waits, Wave, Waves, Why, Work}
@@ -25,7 +28,6 @@ pub use Rattle.mp_exports.specs.verilog.Verilog.{verilog}
 pub use Rattle.mp_version.specs.Stories.{Story, present}
 pub use Rattle.mp_commands.specs.views.AskedWires.{missing_at}
 pub use Rattle.mp_commands.specs.views.Chains.{path_of, why_of}
-pub use Rattle.mp_commands.specs.views.Limits.{usual_columns}
 pub use Rattle.mp_commands.specs.views.Measured.{measure_of}
 pub use Rattle.mp_commands.specs.views.Outputs.{slot_line, waves_text}
 pub use Rattle.mp_commands.specs.views.Pictures.{picture_text}

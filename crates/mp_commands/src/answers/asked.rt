@@ -1,17 +1,16 @@
 //! What a question asks for.
 ghost use Rattle.std.specs.Prelude.{◌≡◌, []};
-ghost use Rattle.mp_commands.specs.answers.Names.{Unicode, Decimal, usual_columns};
 ghost use Rattle.mp_commands.specs.declared.views.drawing.Drawing.TheVariants.{Text};
-ghost use Rattle.mp_commands.specs.answers.Answers.{answer_text, asked_answer};
+ghost use Rattle.mp_commands.specs.answers.Answers.{answer_text, asked_answer, charset_of, numerals_of};
 
 use crate::views::{
-    AskedPicture, CheckAsked, Drawing, MeasureLines, PathLines, PictureText, Selection,
-    USUAL_COLUMNS, View, WhyLines,
+    AskedPicture, CheckAsked, Drawing, MeasureLines, PathLines, PictureText, Selection, View,
+    WhyLines,
 };
 use mp_netlist::Name;
 use mp_picture::{Charset, Numerals};
 use mp_questions::TimeRange;
-use mp_text::{Question, WireNames};
+use mp_text::{PictureOptions, Question, WireNames};
 
 /// What a question asks for: a view, or a text that is none.
 #[derive(Clone, Copy)]
@@ -49,9 +48,12 @@ impl<'a> AskedAnswer<'a> {
             Question::Dump => AskedAnswer::View(View::Dump),
             Question::Graph => AskedAnswer::View(View::Graph),
             Question::Verilog => AskedAnswer::View(View::Verilog),
-            Question::Show { from, to, wires } => {
-                AskedAnswer::View(View::Picture(shown(*from, *to, wires)))
-            }
+            Question::Show {
+                from,
+                to,
+                wires,
+                options,
+            } => AskedAnswer::View(View::Picture(shown(*from, *to, wires, options))),
             Question::Waits { time } => AskedAnswer::View(View::Waits { time: *time }),
             Question::Measure { from, to, wires } => {
                 AskedAnswer::View(View::Measure(measured(*from, *to, wires)))
@@ -105,19 +107,41 @@ fn measured(from: u64, to: u64, wires: &WireNames) -> MeasureLines<'_>
 }
 
 /// The picture that a script asks for.
-fn shown(from: u64, to: u64, wires: &WireNames) -> PictureText<'_>
+fn shown<'a>(from: u64, to: u64, wires: &'a WireNames, options: &PictureOptions) -> PictureText<'a>
     ensures wires { result.asked.wires.now ≡ wires.now }
     ensures range { (result.asked.from ≡ from) × (result.asked.to ≡ to) }
-    ensures usual { (result.asked.columns ≡ usual_columns) × (result.drawing ≡ Text Unicode) × (result.numerals ≡ Decimal) }
+    ensures columns { result.asked.columns ≡ options.now.columns }
+    ensures drawing { result.drawing ≡ Text (charset_of options.now) }
+    ensures numerals { result.numerals ≡ numerals_of options.now }
 {
     PictureText {
         asked: AskedPicture {
             wires: wires.as_slice(),
             from,
             to,
-            columns: USUAL_COLUMNS,
+            columns: options.columns,
         },
-        drawing: Drawing::Text(Charset::Unicode),
-        numerals: Numerals::Decimal,
+        drawing: Drawing::Text(charset_of(options)),
+        numerals: numerals_of(options),
+    }
+}
+
+fn charset_of(options: &PictureOptions) -> Charset
+    ensures { result ≡ charset_of options.now }
+{
+    if options.is_ascii {
+        Charset::Ascii
+    } else {
+        Charset::Unicode
+    }
+}
+
+fn numerals_of(options: &PictureOptions) -> Numerals
+    ensures { result ≡ numerals_of options.now }
+{
+    if options.is_hex {
+        Numerals::Hex
+    } else {
+        Numerals::Decimal
     }
 }

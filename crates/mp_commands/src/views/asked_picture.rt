@@ -2,12 +2,7 @@
 ghost use Rattle.std.specs.Prelude.{◌<◌};
 
 use mp_netlist::Name;
-
-/// The greatest number of columns that may be asked for.
-pub const MAX_COLUMNS: u32 = 10_000;
-
-/// The number of columns that is asked for if none is given.
-pub const USUAL_COLUMNS: u32 = 72;
+use mp_text::MAX_COLUMNS;
 
 /// The picture that is asked for: the wires of these names, or all if there are no names, from the time `from` to before the time `to`, in at most
 /// `columns` columns. Times are in units from 0, and may be at or above the horizon.
@@ -22,7 +17,7 @@ pub struct AskedPicture<'a> {
 
 impl<'a> AskedPicture<'a> {
     ghost use Rattle.std.specs.Prelude.{◌≡◌, ◌&&◌, nat_le, is_some, IfSome};
-    ghost use Rattle.mp_commands.specs.views.Limits.{max_columns};
+    ghost use Rattle.mp_text.specs.Limits.{max_columns};
 
     /// This picture, if `columns` is 1 to `MAX_COLUMNS`.
     pub fn new(wires: &'a [Name], from: u64, to: u64, columns: u32) -> Option<AskedPicture<'a>>

@@ -48,6 +48,8 @@ pub(crate) const WORD_COUNT: Entry = Entry {
   meaning:
     too few or too many words, or a `module` without `:`, `>`, an input or an
       output
+    in a script: behind the wires of `show` stands a word that is no option,
+      or an option twice
   example, read by `mpwb waves`:
     horizon 20
     wire b 1
@@ -69,6 +71,7 @@ pub(crate) const BAD_NUMBER: Entry = Entry {
     in a netlist: a horizon that isn't 1 to 65,536, or with `format 2` 1 to
       1,048,576, or with `format 4` 1 to 1,073,741,824
     in a script: the steps of `why` aren't 1 to 1,048,576
+    in a script: the columns of `show` aren't 1 to 10,000
     in a script: the number after `edits` is 0, or greater than that of the
       next edit
   example, read by `mpwb waves`:
