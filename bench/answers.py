@@ -122,7 +122,7 @@ class Keeper:
         if question[0] == "work":
             return "".join(f"{self.circuit.module_names[module]} {start} {end}\n" for module, start, end in self.work)
         if question[0] == "show":
-            return self.shown(*question[1:3], question[3:] or None)
+            return self.shown(*question[1:])
         if question[0] == "graph":
             return pictures.graph(self.circuit)
         if question[0] == "verilog":
@@ -148,10 +148,9 @@ class Keeper:
         """An answer about the wires of these names, if all stand."""
         return "refused 3 NoSuchWire\n" if None in map(self.circuit.wire, names) else answer()
 
-    def shown(self, begin, end, names):
-        if names and None in map(self.circuit.wire, names):
-            return "refused 3 NoSuchWire\n"
-        return pictures.show(self.circuit, begin, end, names=names)
+    def shown(self, begin, end, names, columns, is_hex, is_ascii):
+        marks, digits = pictures.ASCII if is_ascii else pictures.UNICODE, pictures.hex_digits if is_hex else pictures.decimal
+        return self.of_wires(names, lambda: pictures.show(self.circuit, begin, end, columns, names or None, marks, digits))
 
     def reply(self, line, lacks_memory):
         """The reply to a line of a script. Where memory is lacking for an edit that would be accepted, or for a batch whose edits are judged,

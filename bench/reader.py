@@ -15,6 +15,9 @@ QUESTIONS |= {"wave": (range(1, 2), []), "waits": (range(1, 2), [1]), "path": (r
 QUESTIONS |= {word: (range(0, 3, 2), [1, 2]) for word in ["report", "check"]}
 QUESTIONS |= {word: (range(2, 1 << 22), [1, 2]) for word in ["measure", "show"]}
 MOST_STEPS = 1048576
+# the options of `show`, and how many words each is
+OPTIONS = {"--columns": 2, "--hex": 1, "--ascii": 1}
+MOST_COLUMNS, USUAL_COLUMNS = 10_000, 72
 # the edits that stand in netlist texts, too
 STATEMENTS = ["wire", "module", "stim", "bundle"]
 EDITS = [*STATEMENTS, "remove", "input", "output", "indelay", "delay", "clear"]
@@ -125,12 +128,32 @@ def is_allowed(line):
     return all(letter in "\t\r" or " " <= letter <= "~" for letter in line)
 
 
+def options(words):
+    """The number of columns that the options of `show` say, and whether `--hex` and `--ascii` are among them."""
+    want(3, len(words) == sum(count for option, count in OPTIONS.items() if option in words))
+    columns = USUAL_COLUMNS
+    if "--columns" in words:
+        want(3, words[-1] != "--columns")
+        columns = number(words[words.index("--columns") + 1])
+        want(4, 1 <= columns <= MOST_COLUMNS)
+    return [columns, "--hex" in words, "--ascii" in words]
+
+
+def picture(words):
+    """What `show` is asked, of the words behind it: two times, the names of wires, and what the options say."""
+    behind = next((place for place, word in enumerate(words) if place > 1 and word.startswith("--")), len(words))
+    said = options(words[behind:])
+    return ["show", number(words[0]), number(words[1]), words[2:behind], *said]
+
+
 def question(words):
     """A question's words, with those that are numbers as such."""
     counts, numbers = QUESTIONS[words[0]]
     front = words[: 2 if words[:2] == ["check", "brief"] else 1]
     rest = words[len(front) :]
     want(3, len(rest) in counts)
+    if front[0] == "show":
+        return picture(rest)
     said = [number(word) if place in numbers else word for place, word in enumerate(rest, 1)]
     if front[0] == "why" and len(said) == 3:
         want(4, 1 <= said[2] <= MOST_STEPS)
