@@ -5,7 +5,7 @@ from __future__ import annotations
 import html
 import re
 from contextlib import contextmanager
-from typing import TYPE_CHECKING, Any, Iterable, Iterator, List, Optional, Sequence, Tuple
+from typing import TYPE_CHECKING, Any, Iterator, List, Match, Optional, Sequence, Tuple
 
 from .answers.table import Row, module_row
 from .contents import Contents
@@ -14,7 +14,7 @@ from .faults import written_by
 from .graphs import digraph
 from .modules import Module
 from .program import Program, find_program
-from .questions import END, Path, Questions, write_file
+from .questions import Path, Questions, write_file
 from .session import Session
 from .stressed import Stressed
 from .system import asking_the_system
@@ -98,12 +98,6 @@ class Netlist(Contents, Questions, Stressed):
         waves = self.waves()
         return waves[name_of(first)], waves[name_of(second)]
 
-    def show(self, start: int = 0, end: int = END, wires: Iterable[AnyWire] = (), columns: int = 72, ascii: bool = False, hex: bool = False) -> str:
-        """The timing diagram of a range, of these wires or of all, as text of at most `columns` columns."""
-        chosen = [f"--wire={name_of(wire)}" for wire in wires]
-        forms = [*(["--ascii"] if ascii else []), *(["--hex"] if hex else [])]
-        return self._run(["show", f"--from={start}", f"--to={end}", f"--columns={columns}", *chosen, *forms])
-
     # ---- edits
 
     @contextmanager
@@ -161,6 +155,7 @@ class Netlist(Contents, Questions, Stressed):
 _SAME = re.compile(r"waves|report|check|steady|dump|graph|verilog|waits \d+|path \w+ \d+", re.ASCII)
 _FOUND = re.compile(r"(report|check(?: brief)?)(?: (\d+) (\d+))?", re.ASCII)
 _MEASURE = re.compile(r"measure (\d+) (\d+)((?: \w+)*)", re.ASCII)
+_SHOW = re.compile(r"show (\d+) (\d+)((?: \w+)*)((?: --columns \d+)?(?: --ascii)?(?: --hex)?)", re.ASCII)
 _WHY = re.compile(r"why (\w+) (\d+) (\d+)", re.ASCII)
 _PATH = re.compile(r"path (\w+) (\d+) (\d+)", re.ASCII)
 
@@ -174,9 +169,16 @@ def _command(words: Sequence[str]) -> Optional[List[str]]:
         times = [] if found[2] is None else [f"--from={found[2]}", f"--to={found[3]}"]
         return [*found[1].replace(" ", " --").split(), *times]
     if found := _MEASURE.fullmatch(question):
-        return ["measure", f"--from={found[1]}", f"--to={found[2]}", *(f"--wire={wire}" for wire in found[3].split())]
+        return ["measure", *_of_wires(found)]
+    if found := _SHOW.fullmatch(question):
+        return ["show", *_of_wires(found), *found[4].split()]
     if found := _WHY.fullmatch(question):
         return ["why", found[1], found[2], f"--steps={found[3]}"]
     if found := _PATH.fullmatch(question):
         return ["path", found[1], found[2], f"--from={found[3]}"]
     return None
+
+
+def _of_wires(found: Match[str]) -> List[str]:
+    """The options for the range and the wires of a question."""
+    return [f"--from={found[1]}", f"--to={found[2]}", *(f"--wire={wire}" for wire in found[3].split())]

@@ -180,9 +180,10 @@ class Questions(ABC):
         waits: Items[Wait] = self._answer(["waits", str(time)])
         return waits
 
-    def show(self, start: int = 0, end: int = END, wires: Iterable[AnyWire] = ()) -> str:
-        """The timing diagram of a range, of these wires or of all, as text."""
-        return self._ask(["show", str(start), str(end), *map(name_of, wires)])
+    def show(self, start: int = 0, end: int = END, wires: Iterable[AnyWire] = (), columns: int = 72, ascii: bool = False, hex: bool = False) -> str:
+        """The timing diagram of a range, of these wires or of all, as text of at most `columns` columns."""
+        options = ["--columns", str(columns), *(["--ascii"] if ascii else []), *(["--hex"] if hex else [])]
+        return self._ask(["show", str(start), str(end), *map(name_of, wires), *options])
 
     def svg(self, start: int = 0, end: int = END, wires: Iterable[AnyWire] = (), columns: int = 72) -> Picture:
         """The timing diagram as an SVG picture, which a notebook shows."""

@@ -68,6 +68,8 @@ class WhatIsWritten(Case):
                     self.assertEqual(type(n.answer(question)), type(session.answer(question)))
                 self.assertEqual(str(n), session.text())
                 self.assertEqual(n.show(5, 20, [wire]), session.show(5, 20, [wire]))
+                for columns, ascii, hex in ((4, False, False), (72, True, False), (72, False, True), (7, True, True)):
+                    self.assertEqual(n.show(5, 30, (), columns, ascii, hex), session.show(5, 30, (), columns, ascii, hex))
                 self.assertEqual(n.svg(5, 20, [wire], columns=10), session.svg(5, 20, [wire], columns=10))
                 self.assertEqual(str(n), str(session.netlist()))
                 session.edit("wire more 3 1")
@@ -138,9 +140,13 @@ class WhatIsRead(Case):
         n = Netlist.read(example("ring.net"))
         for ask in (lambda: n.measure(-1), lambda: n.waits(-1), lambda: n.ask("measure 0 x"), lambda: n.ask("why q1 x")):
             self.assertEqual(4, self.fault(Unread, ask).code)
-        self.assertEqual(3, self.fault(Unread, lambda: n.ask("measure 0")).code)
+        for question in ("measure 0", "show 0 9 --hex --hex", "show 0 9 --hex q1"):
+            self.assertEqual(3, self.fault(Unread, lambda: n.ask(question)).code)
         for count in (lambda: n.why("q1", steps=0), lambda: n.show(columns=0), lambda: n.svg(columns=10_001)):
             self.assertIn("out of its range", str(self.fault(ProgramFailed, count)))
+        with Session(n) as session:
+            for columns in (0, 10_001):
+                self.assertEqual(4, self.fault(Unread, lambda: session.show(columns=columns)).code)
 
     def test_times_behind_the_horizon(self) -> None:
         n = Netlist.read(example("ring.net"))

@@ -26,6 +26,8 @@ class Seats(Case):
             with desk.seat("designer-1") as one, Seat(self.folder, "designer-2") as other, desk.seat("viewer-1") as viewer:
                 self.assertEqual({"designer-1": True, "designer-2": True, "viewer-1": True}, desk.seats())
                 self.assertEqual("q2 0 5=1 12=0", str(viewer.wave("q2")))
+                self.assertEqual("    0\nq2  _/\\_\n", viewer.show(wires=["q2"], columns=4, ascii=True))
+                self.assertEqual("    0\nq2  ▁╱╲▁\n", viewer.show(wires=["q2"], columns=4))
                 self.assertEqual(1, one.edit("delay c1 0 4"))
                 self.assertEqual(2, other.batch("delay c2 0 6", "stim ack 16=1"))
                 self.assertEqual(["1 delay c1 0 4", "2 batch delay c2 0 6 ; stim ack 16=1"], [str(edit) for edit in viewer.edits()])
