@@ -106,12 +106,12 @@ Shows the netlist of a live desk, again after each edit.
 Usage: ./mpwb watch [--page FILE] FOLDER SEAT [QUESTION ..]
 
 FOLDER is that of a desk that runs, by `./mpwb desk FILE --at FOLDER`. SEAT is
-viewer-1, viewer-2 .. QUESTION is a line as it is typed at the seat, and its answer
-is shown; without one, a timing diagram as wide as the terminal. After each edit
-it is shown again, with the new edits below it. At a terminal it takes the place
-of the one before; otherwise they follow each other, each after a line
-`version N`. If edits come faster than they can be shown, some versions are left
-out. Ctrl-C leaves the seat.
+viewer-1, viewer-2 .. QUESTION is a line as it is typed at the seat, for example
+`show 0 100 --hex`, and its answer is shown; without one, a timing diagram as wide
+as the terminal. After each edit it is shown again, with the new edits below it.
+At a terminal it takes the place of the one before; otherwise they follow each
+other, each after a line `version N`. If edits come faster than they can be shown,
+some versions are left out. Ctrl-C leaves the seat.
 
 Options:
       --page <FILE>
@@ -121,12 +121,12 @@ Options:
 
 Exit status:
   0    Ctrl-C ended it
-  1    the netlist can't be shown
+  1    no page can be made of the netlist
   2    the command line was refused
   3    there is no desk or no such seat, the seat is taken, the desk has left it, or
        a write failed
-  4    memory ran out
-  70   there is no program, or it has a fault
+  4    memory ran out for a page
+  70   there is no program to make a page, or it has a fault
   130  another signal ended it
 EOF
 }

@@ -27,9 +27,9 @@ is_utf8() {
 }
 
 # Shows the picture in a width. How wide it is for a number of columns depends on its names, which the netlist has, and on what is found, which the
-# picture alone tells. So where it is too wide, it is drawn once more.
+# picture alone tells.
 fit() {
-    local width=$1 columns over input=/dev/null file
+    local width=$1 input=/dev/null file
     shift
     file=$(file_of show "$@")
     if [ -n "$file" ] && [ "$file" != - ] && [ ! -f "$file" ]; then run show "$@"; fi # (a pipe can't be read twice)
@@ -39,24 +39,34 @@ fit() {
         input=$room/given file=$room/given
         cat >"$input" 2>/dev/null || fail_device read
     fi
-    columns=$((width - 2 - $(longest_name "$file" "$@")))
-    while :; do
-        columns=$((columns < least_columns ? least_columns : columns > most_columns ? most_columns : columns))
-        (run show --columns "$columns" "$@") <"$input" >"$room/picture" || exit
-        over=$(($(picture_width) - width))
-        if [ "$over" -le 0 ] || [ "$columns" = "$least_columns" ]; then break; fi
-        columns=$((columns - over))
-        is_told=yes
-    done
+    fit_columns "$width" $((width - 2 - $(longest_name "$file" "$@"))) "$room/picture" run_show "$@"
     cat "$room/picture" || fail_device write
 }
 
-# how wide the times and the first wire of the picture are (other bytes than the first one of a character don't count)
+run_show() {
+    (run show "$@") <"$input" || exit
+    is_told=yes
+}
+
+# Has a command draw a picture into a file, for which it is given so many columns at most. Where the picture is wider than it may be, it is drawn once
+# more.
+fit_columns() {
+    local width=$1 columns=$2 file=$3 over
+    while :; do
+        columns=$((columns < least_columns ? least_columns : columns > most_columns ? most_columns : columns))
+        "$4" --columns "$columns" "${@:5}" >"$file"
+        over=$(($(picture_width "$file") - width))
+        if [ "$over" -le 0 ] || [ "$columns" = "$least_columns" ]; then break; fi
+        columns=$((columns - over))
+    done
+}
+
+# how wide the times and the first wire of a picture are (other bytes than the first one of a character don't count)
 picture_width() {
     LC_ALL=C awk '
         NR > 2 { exit }
         { gsub(/[\200-\277]/, ""); if (length($0) > most) most = length($0) }
-        END { print most + 0 }' "$room/picture"
+        END { print most + 0 }' "$1"
 }
 
 # the length of the longest name among the wires that are shown

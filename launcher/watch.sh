@@ -4,6 +4,7 @@
 
 seconds_between_looks=0.2 # with a page, half of that: the page waits too
 most_tries=10 # to have an answer of one version, while others edit
+all_times="0 18446744073709551615"
 
 start_watch() {
     case ${1-} in
@@ -17,7 +18,7 @@ start_watch() {
     fi
     if [ -n "$page" ] && [ $# -gt 2 ]; then refuse "with --page no question is asked"; fi
     need_desk "$1"
-    if [ -z "$question" ]; then choose_program; fi
+    if [ -n "$page" ]; then choose_program && question=text; fi
     take_seat "$1" "$2"
     begin_work
     exec 4>&1
@@ -52,35 +53,33 @@ look() {
     local before tries
     for ((tries = 0; tries < most_tries; tries++)); do
         before=$version
-        hear_answer "${question:-text}" >"$room/heard"
+        hear_seen
         tell_version
         if [ "$version" = "$before" ]; then break; fi
     done
     version=$before
-    see >"$room/seen"
+    if [ -n "$page" ]; then answer_texts "$room/seen"; fi
     : >"$room/edits"
     if [ -z "$shown$page" ]; then return; fi
     hear_answer "edits $((shown + 1))" >"$room/told"
     awk -v last="$version" '$1 <= last' "$room/told" >"$room/edits"
 }
 
-hear_answer() { { ask_seat "$1" && hear; } || fail_left "$at" "$name"; }
-
-# the answer to the question, and where there is none a picture as wide as the terminal, or the texts of a page
-see() {
-    local width plain=()
-    width=$(terminal_width 4)
-    if [ -n "$question" ]; then
-        cat "$room/heard"
-    elif [ -n "$page" ]; then
-        answer_texts "$room/heard"
-    elif [ -z "$width" ]; then
-        (run show "$room/heard") || exit
+# asks the question, and where there is none for a picture as wide as the terminal
+hear_seen() {
+    local width="" plain=()
+    if [ -z "$question" ]; then width=$(terminal_width 4); fi
+    if [ -z "$width" ]; then
+        hear_answer "${question:-show $all_times}" >"$room/seen"
     else
         if ! is_utf8; then plain=(--ascii); fi
-        (fit "$width" "${plain[@]}" "$room/heard") || exit
+        fit_columns "$width" $((width - 2)) "$room/seen" hear_picture "${plain[@]}"
     fi
 }
+
+hear_picture() { hear_answer "show $all_times $*"; }
+
+hear_answer() { { ask_seat "$1" && hear; } || fail_left "$at" "$name"; }
 
 # --- what is shown
 
