@@ -1,6 +1,7 @@
 """The pictures of a netlist's waves, and the netlist as a graph, computed once more in Python. Netlists are as in `reference.py`; the
 modules' names are `module_names`."""
 import html
+import json
 
 import questions
 import reference
@@ -94,6 +95,33 @@ def show(netlist, begin=0, end=None, most=72, names=None, marks=UNICODE, digits=
     standing = [number for number, wire in enumerate(netlist.wires) if wire]
     wires = standing if names is None else list(dict.fromkeys(map(netlist.wire, names)))
     return picture(netlist, levels, reference.findings(netlist, levels, at_modules), columns, wires, marks, digits)
+
+
+def bit_wave(cells):
+    """The wave of a wire of width 1 in WaveJSON: its levels, `x` for several events, and `.` behind the same."""
+    symbols = ["x" if count > 1 else str(level) for count, level in cells]
+    return "".join("." if symbol == before else symbol for before, symbol in zip([None, *symbols], symbols))
+
+
+def signal(name, width, cells, digits):
+    """A wire in WaveJSON."""
+    if width == 1:
+        return {"name": name, "wave": bit_wave(cells)}
+    starts = [bool(count) or not column for column, (count, _) in enumerate(cells)]
+    values = [digits(level) for is_start, (_, level) in zip(starts, cells) if is_start]
+    return {"name": name, "wave": "".join("=" if is_start else "." for is_start in starts), "data": values}
+
+
+def wave_json(netlist, begin=0, end=None, most=72, names=None, digits=decimal):
+    """What `show --json` writes."""
+    levels, _, _ = reference.evaluated(netlist)
+    columns = Columns(netlist.horizon, begin, netlist.horizon if end is None else end, most)
+    standing = [number for number, wire in enumerate(netlist.wires) if wire]
+    wires = standing if names is None else list(dict.fromkeys(map(netlist.wire, names)))
+    signals = [signal(*netlist.wires[wire][:2], columns.cells(levels[wire]), digits) for wire in wires]
+    lines = ",".join(f"\n{json.dumps(one)}" for one in signals)
+    head = {"text": f"time in units of {columns.units}", "tick": columns.begin // columns.units}
+    return f'{{"signal": [{lines}\n],\n"head": {json.dumps(head)}}}\n'
 
 
 PITCH = 8

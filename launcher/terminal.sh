@@ -10,7 +10,7 @@ show() {
     exec {screen}>&1
     width=$(terminal_width "$screen")
     exec {screen}>&-
-    if [ -z "$width" ] || is_given --svg "$@" || is_given --help "$@" || is_given -h "$@"; then run show "$@"; fi
+    if [ -z "$width" ] || is_given --svg "$@" || is_given --json "$@" || is_given --help "$@" || is_given -h "$@"; then run show "$@"; fi
     if ! is_utf8 && ! is_given --ascii "$@"; then words=(--ascii); fi
     if is_given --columns "$@"; then run show "${words[@]}" "$@"; fi
     fit "$width" "${words[@]}" "$@"

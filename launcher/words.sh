@@ -3,7 +3,7 @@
 
 takes_a_value() {
     case $1 in
-    --help | --version | --ascii | --svg | --hex | --brief | --share | --sync | --limit | --fit | --each | --deb | -- | --*=*) return 1 ;;
+    --help | --version | --ascii | --svg | --json | --hex | --brief | --share | --sync | --limit | --fit | --each | --deb | -- | --*=*) return 1 ;;
     --*) return 0 ;;
     *) return 1 ;;
     esac

@@ -190,6 +190,11 @@ class Questions(ABC):
         chosen = [f"--wire={name_of(wire)}" for wire in wires]
         return Picture(self._run(["show", "--svg", f"--from={start}", f"--to={end}", f"--columns={columns}", *chosen]))
 
+    def wave_json(self, start: int = 0, end: int = END, wires: Iterable[AnyWire] = (), columns: int = 72, hex: bool = False) -> str:
+        """The waves of a range, of these wires or of all, as WaveJSON, which WaveDrom draws."""
+        chosen = [*(f"--wire={name_of(wire)}" for wire in wires), *(["--hex"] if hex else [])]
+        return self._run(["show", "--json", f"--from={start}", f"--to={end}", f"--columns={columns}", *chosen])
+
     def page(self) -> Page:
         """The waves as an HTML page, which a notebook shows. Only the script `./mpwb` makes one: `ProgramFailed` if MPWB names another program."""
         try:
@@ -218,9 +223,9 @@ class Questions(ABC):
         """The netlist's text, as the program writes it."""
         return self._ask(["text"])
 
-    def dump(self, path: Optional[Path] = None) -> str:
-        """The waves as a value change dump, written to a file if `path` is given."""
-        text = self._ask(["dump"])
+    def dump(self, path: Optional[Path] = None, unit: str = "1ns") -> str:
+        """The waves as a value change dump in which a unit of time is as long as `unit` says, as "10ps"; written to a file if `path` is given."""
+        text = self._ask(["dump"]) if unit == "1ns" else self._run(["dump", f"--unit={unit}"])
         write_file(path, text)
         return text
 

@@ -1,6 +1,7 @@
 pub mod Names
 pub mod Codes
 pub mod Values
+pub mod Timescales
 pub mod Dumps
 pub mod Agendas
 pub mod Parts

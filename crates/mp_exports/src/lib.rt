@@ -7,5 +7,5 @@
 pub mod vcd;
 mod verilog;
 
-pub use vcd::put_dump;
+pub use vcd::{DumpOptions, TimeNumber, TimeUnit, Timescale, put_dump};
 pub use verilog::put_verilog;

@@ -16,9 +16,11 @@ mod recorded;
 mod room;
 mod sharing;
 mod time_chunk;
+mod timescale;
 mod units;
 mod value_lines;
 mod wave_changes;
 mod widths;
 
-pub use dumping::put_dump;
+pub use dumping::{DumpOptions, put_dump};
+pub use timescale::{TimeNumber, TimeUnit, Timescale};

@@ -15,3 +15,4 @@ pub mod GraphPorts
 pub mod Graphs
 pub mod GraphSections
 pub mod svg
+pub mod wave_json

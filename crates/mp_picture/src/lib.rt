@@ -1,7 +1,7 @@
-//! Pictures: timing diagrams as text and as SVG, and a netlist as a graph.
+//! Pictures: timing diagrams as text, as SVG and as WaveJSON, and a netlist as a graph.
 //!
-//! The files at the top cut a range of times into columns and draw the rows of a diagram or the nodes of a graph. `svg` draws a diagram as SVG.
-//! Begin with `diagram.rt`.
+//! The files at the top cut a range of times into columns and draw the rows of a diagram or the nodes of a graph. `svg` draws a diagram as SVG,
+//! and `wave_json` writes its waves as WaveJSON. Begin with `diagram.rt`.
 #![tactic(auto)]
 
 mod bundle_lines;
@@ -28,6 +28,7 @@ mod round;
 mod row;
 mod ruler;
 pub mod svg;
+pub mod wave_json;
 mod wired_netlist;
 
 pub use cell::{ColumnCell, ColumnEvents, cells};
@@ -42,3 +43,4 @@ pub use picture::Picture;
 pub use row::{is_still, still_count};
 pub use ruler::{last_tick, tick_step};
 pub use svg::{Arrow, Lane, MOST_COLUMNS, WirePoint, put_svg, put_wire_group};
+pub use wave_json::put_wave_json;

@@ -24,6 +24,8 @@ pub(crate) enum ArgumentKind {
     Number(&'static str),
     /// An option with a number, which requires another argument.
     NumberWith(&'static str),
+    /// An option with a word.
+    OneWord,
     /// An option with a word, which requires another argument.
     WordWith(&'static str),
     /// An option with two values of these names, which requires another argument.
@@ -36,6 +38,8 @@ pub(crate) enum ArgumentKind {
     Nothing,
     /// An option without a value, which requires another argument.
     NothingWith(&'static str),
+    /// An option without a value, with which others can't be given.
+    NothingWithout(&'static [&'static str]),
 }
 
 impl ArgumentForm {
@@ -47,12 +51,14 @@ impl ArgumentForm {
             ArgumentKind::NeededTime => self.needed_time(alloc),
             ArgumentKind::Number(default) => self.number(alloc, default),
             ArgumentKind::NumberWith(other) => self.count(alloc).requires_arg(other),
+            ArgumentKind::OneWord => Ok(self.valued(alloc)),
             ArgumentKind::WordWith(other) => self.valued(alloc).requires_arg(other),
             ArgumentKind::PairWith(names, other) => self.pair(alloc, names).requires_arg(other),
             ArgumentKind::Time => self.time(alloc),
             ArgumentKind::Words => self.words(alloc),
             ArgumentKind::Nothing => Ok(self.flag(alloc)),
             ArgumentKind::NothingWith(other) => self.flag(alloc).requires_arg(other),
+            ArgumentKind::NothingWithout(others) => self.flag(alloc).conflicts_with_all(others),
         }
     }
 

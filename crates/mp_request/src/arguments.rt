@@ -16,6 +16,8 @@ pub(crate) enum Arguments {
     Wires,
     /// How a picture is drawn.
     Drawing,
+    /// How long a unit of time is in a dump.
+    Timescale,
     /// A wire.
     Wire,
     /// A time.
@@ -40,6 +42,7 @@ impl Arguments {
             Arguments::Groups => &GROUPS,
             Arguments::Wires => &WIRES,
             Arguments::Drawing => &DRAWING,
+            Arguments::Timescale => &TIMESCALE,
             Arguments::Wire => &WIRE,
             Arguments::Moment => &MOMENT,
             Arguments::Chain => &CHAIN,
@@ -107,7 +110,7 @@ static WIRES: [ArgumentForm; 1] = [ArgumentForm {
     takes: ArgumentKind::Words,
 }];
 
-static DRAWING: [ArgumentForm; 7] = [
+static DRAWING: [ArgumentForm; 8] = [
     ArgumentForm {
         name: "columns",
         value: "N",
@@ -150,7 +153,20 @@ static DRAWING: [ArgumentForm; 7] = [
         help: "Draw the causes of the level of WIRE at TIME as arrows, in an SVG file",
         takes: ArgumentKind::PairWith(&["WIRE", "TIME"], "svg"),
     },
+    ArgumentForm {
+        name: "json",
+        value: "",
+        help: "Write WaveJSON, which WaveDrom draws",
+        takes: ArgumentKind::NothingWithout(&["ascii", "svg", "unit", "causes"]),
+    },
 ];
+
+static TIMESCALE: [ArgumentForm; 1] = [ArgumentForm {
+    name: "unit",
+    value: "UNIT",
+    help: "The length of a unit of time, as `10ps`, by default `1ns`",
+    takes: ArgumentKind::OneWord,
+}];
 
 static WIRE: [ArgumentForm; 1] = [ArgumentForm {
     name: "wire",

@@ -140,11 +140,11 @@ with a mark below the word at fault, says what is wrong with it, and suggests a
 similar name if there is one.";
 
 /// What `show` does.
-pub(crate) const SHOW: &str = "Draws a timing diagram, as text or as SVG";
+pub(crate) const SHOW: &str = "Draws a timing diagram, as text, as SVG or as WaveJSON";
 
 /// What `show` reads and writes.
 pub(crate) const SHOW_LONG: &str = "\
-Draws a timing diagram, as text or as SVG.
+Draws a timing diagram, as text, as SVG or as WaveJSON.
 
 Reads a netlist, as `waves` does.
 
@@ -160,7 +160,11 @@ for it.
 
 Below the wires there is a line for each module and each bundle with a finding
 in the range, with `!` at its time, and then the lines of `report` for these
-findings.";
+findings.
+
+--json writes the wires alone, as WaveJSON, which WaveDrom draws. A column with
+several changes of a wire of width 1 is an `x` there, and a wider wire has the
+level at the end of each column with a change.";
 
 /// What `why` does.
 pub(crate) const WHY: &str = "Writes why a wire has its level at a time, as a chain of causes";

@@ -10,10 +10,12 @@ Writes the waveforms as a value change dump.
 Reads a netlist, as `waves` does.
 
 Writes a value change dump (IEEE Std 1364), which GTKWave and other viewers
-open. All wires are in the scope `top`, and a unit of time is 1 ns. A wire of
-width 1 is a scalar; a wider one is a vector, written with all its bits. The
-dump has the levels at time 0, then each change at its time, and it ends with
-the horizon.";
+open. All wires are in the scope `top`. A wire of width 1 is a scalar; a wider
+one is a vector, written with all its bits. The dump has the levels at time 0,
+then each change at its time, and it ends with the horizon.
+
+A unit of time is 1 ns. --unit gives it another length: 1, 10 or 100, and right
+behind the number s, ms, us, ns, ps or fs, as in `--unit 10ps`.";
 
 /// What `graph` does.
 pub(crate) const GRAPH: &str = "Writes the netlist as a graph for Graphviz";

@@ -21,6 +21,7 @@ mod range_words;
 mod reading;
 mod request;
 mod telling;
+mod timescale_reading;
 
 pub use command_line::CommandLine;
 pub use explain::{CheckWord, Entry, SeatCode, Topic, guide, put_explanation, put_titles};

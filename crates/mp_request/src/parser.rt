@@ -39,7 +39,7 @@ static COMMANDS: [CommandForm; 14] = [
         name: "dump",
         about: DUMP,
         long_about: DUMP_LONG,
-        arguments: &[Arguments::Input],
+        arguments: &[Arguments::Timescale, Arguments::Input],
     },
     CommandForm {
         name: "show",

@@ -31,6 +31,7 @@ pub(crate) fn picture_words<'a>(
         ascii: found.get_flag("ascii"),
         hex: found.get_flag("hex"),
         svg: found.get_flag("svg"),
+        json: found.get_flag("json"),
         unit,
     })
 }

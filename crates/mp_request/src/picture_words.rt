@@ -19,6 +19,8 @@ pub struct PictureWords<'a> {
     pub hex: bool,
     /// Whether to write an SVG file.
     pub svg: bool,
+    /// Whether to write WaveJSON.
+    pub json: bool,
     /// The label of the times in an SVG file, `time in units` if none is given.
     pub unit: &'a str,
 }

@@ -10,6 +10,7 @@ use crate::parser::{explain, parser};
 use crate::picture_reading::picture_words;
 use crate::range_words::RangeWords;
 use crate::request::{Command, Request};
+use crate::timescale_reading::timescale;
 use clap::error::ErrorKind;
 use clap::{ArgMatches, Command as Parser, Error};
 use mp_text::USUAL_STEPS;
@@ -97,6 +98,9 @@ fn command_of<'a>(
         let picture = picture_words(alloc, found)?;
         return Ok(Some(Command::Show(picture)));
     }
+    if word == "dump" {
+        return Ok(Some(Command::Dump(timescale(alloc, found)?)));
+    }
     if let Some(command) = command_of_range(alloc, word, found)? {
         return Ok(Some(command));
     }
@@ -113,7 +117,6 @@ fn plain_command<'a>(word: &str) -> Option<Command<'a>>
     Some(match word {
         "waves" => Command::Waves,
         "steady" => Command::Steady,
-        "dump" => Command::Dump,
         "graph" => Command::Graph,
         "verilog" => Command::Verilog,
         "play" => Command::Play,

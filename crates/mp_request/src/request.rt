@@ -1,6 +1,7 @@
 //! A command with its arguments.
 use crate::picture_words::PictureWords;
 use crate::range_words::RangeWords;
+use mp_exports::Timescale;
 use std::slice;
 
 /// A command, with the arguments that only it has.
@@ -15,8 +16,8 @@ pub enum Command<'a> {
         words: RangeWords<'a>,
         is_brief: bool,
     },
-    /// Write a value change dump.
-    Dump,
+    /// Write a value change dump, with a unit of time of this length.
+    Dump(Timescale),
     /// Draw a timing diagram.
     Show(PictureWords<'a>),
     /// Write the chain of causes of a wire's level at a time, in at most `steps` lines.

@@ -36,9 +36,12 @@ places_in command = []
 abbrev pub selection_of : RangeWords → List (List ℕ) → Selected
 selection_of words names = record { from = words.from; to = words.to; names = names }
 
--- how a picture is drawn: as an SVG file, or as text of ASCII or of all characters
+-- how a picture is drawn: as WaveJSON, as an SVG file, or as text of ASCII or of all characters
 abbrev pub drawing_of : PictureWords → Drawing
-drawing_of words = if words.svg then drawings.Svg words.unit else (if words.ascii then drawings.Text charsets.Ascii else drawings.Text charsets.Unicode)
+drawing_of words =
+    if words.json then drawings.Json
+    else (if words.svg then drawings.Svg words.unit
+    else (if words.ascii then drawings.Text charsets.Ascii else drawings.Text charsets.Unicode))
 
 -- how levels are written
 abbrev pub numerals_of : PictureWords → Numerals
@@ -54,7 +57,7 @@ abbrev pub text_of : Command → Option (Circuit → List ℕ)
 text_of Waves = Some waves_text
 text_of (Report words) = Some (λ n. selected_report n (selection_of words (names_in (Report words))))
 text_of Steady = Some steady_text
-text_of Dump = Some dump
+text_of (Dump scale) = Some (dump scale)
 text_of Graph = Some graph
 text_of Verilog = Some verilog
 text_of (Show words) = Some (picture_of words (map (λ wire. wire.now) words.wires.items) words.causes)

@@ -25,7 +25,7 @@ pub(crate) fn view_of<'a>(command: &Command<'a>, names: &'a [Name]) -> Option<Vi
         Command::Waves => Some(View::Waves),
         Command::Report(words) => Some(View::Report(selection_of(names, words))),
         Command::Steady => Some(View::Steady),
-        Command::Dump => Some(View::Dump),
+        Command::Dump(timescale) => Some(View::Dump(*timescale)),
         Command::Graph => Some(View::Graph),
         Command::Verilog => Some(View::Verilog),
         Command::Waits { time } => Some(View::Waits { time: *time }),
@@ -99,6 +99,9 @@ fn shown<'a>(names: &'a [Name], words: &PictureWords<'a>) -> Option<View<'a>>
 fn drawing_of<'a>(words: &PictureWords<'a>) -> Drawing<'a>
     ensures { result ≡ drawing_of words.now }
 {
+    if words.json {
+        return Drawing::Json;
+    }
     match (words.svg, words.ascii) {
         (true, _) => Drawing::Svg(words.unit),
         (false, true) => Drawing::Text(Charset::Ascii),

@@ -1,6 +1,6 @@
 -- What questions are answered.
 use Rattle.std.specs.Prelude.{◌+◌, ◌-◌, ◌∷◌, ◌++◌, ◌&&◌, if◌then◌else◌}
-use Rattle.mp_commands.specs.answers.Names.{decimal, Edit, NoSuchWire, Circuit, wire_at, wire_named, PictureForm, Charset, Ascii, Unicode, Numerals, Decimal, Hex, missing_at, ℕ, Bool, List, [], length, Option, Some, None, nat_le, codes, wave, selected_report, Selected, waits, measure_of, dump, BadNumber, check_text, steady_text, Question, Wave, Waves, Text, Report, Check, Steady, Dump, Work, Show, Why, Path, Waits, Measure, Graph, Verilog, Version, Edits, written, graph, verilog, picture_text, why_of, path_of, slot_line, waves_text}
+use Rattle.mp_commands.specs.answers.Names.{decimal, Edit, NoSuchWire, Circuit, wire_at, wire_named, PictureForm, Charset, Ascii, Unicode, Numerals, Decimal, Hex, missing_at, ℕ, Bool, List, [], length, Option, Some, None, nat_le, codes, wave, selected_report, Selected, waits, measure_of, dump, nanosecond, BadNumber, check_text, steady_text, Question, Wave, Waves, Text, Report, Check, Steady, Dump, Work, Show, Why, Path, Waits, Measure, Graph, Verilog, Version, Edits, written, graph, verilog, picture_text, why_of, path_of, slot_line, waves_text}
 use Rattle.mp_commands.specs.declared.views.drawing.Drawing.TheVariants as drawings
 use Rattle.mp_commands.specs.answers.WorkLines.{work_text}
 use Rattle.mp_commands.specs.answers.EditAnswers.{edits_from}
@@ -54,7 +54,7 @@ answer_text kept Text = written kept.netlist
 answer_text kept (Report from to) = selected_report kept.netlist (all_between from to)
 answer_text kept (Check is_brief from to) = check_text kept.netlist (all_between from to) is_brief
 answer_text kept Steady = steady_text kept.netlist
-answer_text kept Dump = dump kept.netlist
+answer_text kept Dump = dump nanosecond kept.netlist
 answer_text kept Work = work_text kept.netlist kept.work
 answer_text kept (Show from to wires form) = asked_text (missing_at kept.netlist wires) (shown_text kept.netlist from to wires form)
 answer_text kept (Waits time) = waits kept.netlist time

@@ -24,6 +24,7 @@ pub use Rattle.mp_text.specs.declared.question.Question.{Question}
 pub use Rattle.mp_text.specs.declared.question.Question.TheVariants.{Check, Dump, Edits, Graph, Measure, Path, Report, Show, Steady, Text, Verilog, Version, Waits, Wave, Waves, Why, Work}
 pub use Rattle.mp_questions.specs.timing.Waits.{waits}
 pub use Rattle.mp_exports.specs.vcd.Dumps.{dump}
+pub use Rattle.mp_exports.specs.vcd.Timescales.{nanosecond}
 pub use Rattle.mp_exports.specs.verilog.Verilog.{verilog}
 pub use Rattle.mp_version.specs.Stories.{Story, present}
 pub use Rattle.mp_commands.specs.views.AskedWires.{missing_at}

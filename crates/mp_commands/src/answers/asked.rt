@@ -7,6 +7,7 @@ use crate::views::{
     AskedPicture, CheckAsked, Drawing, MeasureLines, PathLines, PictureText, Selection, View,
     WhyLines,
 };
+use mp_exports::Timescale;
 use mp_netlist::Name;
 use mp_picture::{Charset, Numerals};
 use mp_questions::TimeRange;
@@ -45,7 +46,7 @@ impl<'a> AskedAnswer<'a> {
                 AskedAnswer::View(View::Check(checked(*is_brief, *from, *to)))
             }
             Question::Steady => AskedAnswer::View(View::Steady),
-            Question::Dump => AskedAnswer::View(View::Dump),
+            Question::Dump => AskedAnswer::View(View::Dump(Timescale::nanosecond())),
             Question::Graph => AskedAnswer::View(View::Graph),
             Question::Verilog => AskedAnswer::View(View::Verilog),
             Question::Show {

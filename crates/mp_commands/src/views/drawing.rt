@@ -10,6 +10,8 @@ pub enum Drawing<'a> {
     Text(Charset),
     /// As an SVG file, which has 1,200 columns at most, with this title above the times.
     Svg(&'a str),
+    /// As WaveJSON.
+    Json,
 }
 
 impl<'a> Drawing<'a> {
@@ -22,7 +24,7 @@ impl<'a> Drawing<'a> {
         ensures some { 0 < result }
     {
         match self {
-            Drawing::Text(_) => asked,
+            Drawing::Text(_) | Drawing::Json => asked,
             Drawing::Svg(_) => asked.min(MOST_COLUMNS),
         }
     }

@@ -1,17 +1,18 @@
 //! The picture of a netlist's waves.
-ghost use Rattle.std.specs.Prelude.{◌≡◌, ◌≤◌, ◌^◌, ◌-◌, min};
+ghost use Rattle.std.specs.Prelude.{◌≡◌, ◌≤◌, ◌^◌, ◌-◌, IfOk, min};
 ghost use Rattle.mp_picture.specs.ColumnRanges.{columns_in};
-ghost use Rattle.mp_commands.specs.views.Pictures.{columns_drawn, picture_text};
+ghost use Rattle.mp_commands.specs.views.Pictures.{columns_drawn, found_for, picture_text};
 
 use crate::views::asked_picture::AskedPicture;
 use crate::views::asked_wires::wires_of;
 use crate::views::drawing::Drawing;
 use crate::views::evaluated::Evaluated;
+use mp_model::Finding;
 use mp_netlist::Netlist;
-use mp_picture::{Columns, Numerals, Picture, put_diagram, put_svg};
+use mp_picture::{Columns, Numerals, Picture, put_diagram, put_svg, put_wave_json};
 use mp_report::report;
 use mp_streams::{Out, Sink, WriteError};
-use std::alloc::Global;
+use std::alloc::{AllocError, Global};
 use std::thread::Threads;
 
 /// A picture that is asked for, drawn in some way, with levels in these numerals.
@@ -35,7 +36,7 @@ impl<'a> PictureText<'a> {
     ) -> Result<(), WriteError>
         ensures { Writes result out.old out.new (picture_text of.now.netlist.now self.now.asked.wires.now self.now.asked.from self.now.asked.to self.now.asked.columns self.now.drawing self.now.numerals) }
     {
-        let findings = report(rt, alloc, of.netlist, of.waves, of.threads())?;
+        let findings = found_for(rt, alloc, of, self.drawing)?;
         let wires = wires_of(alloc, of.netlist, self.asked.wires)?;
         let picture = Picture {
             netlist: of.netlist,
@@ -48,7 +49,25 @@ impl<'a> PictureText<'a> {
         match self.drawing {
             Drawing::Text(charset) => put_diagram(alloc, out, &picture, charset),
             Drawing::Svg(title) => put_svg(alloc, out, &picture, title, &[]),
+            Drawing::Json => put_wave_json(alloc, out, &picture),
         }
+    }
+}
+
+/// What the report finds, if a picture that is drawn so has it.
+fn found_for<R: Threads + Sync>(
+    rt: &R,
+    alloc: Global,
+    of: &Evaluated<'_>,
+    drawing: Drawing<'_>,
+) -> Result<Vec<Finding>, AllocError>
+    ensures { IfOk result (λ list. list.items ≡ found_for drawing.entry of.now.netlist.now) }
+{
+    match drawing {
+        Drawing::Text(_) | Drawing::Svg(_) => {
+            report(rt, alloc, of.netlist, of.waves, of.threads())
+        }
+        Drawing::Json => Ok(Vec::new(alloc)),
     }
 }
 

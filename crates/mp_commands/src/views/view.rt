@@ -17,7 +17,7 @@ use crate::views::steady_lines::put_steady_lines;
 use crate::views::wave_lines::put_wave_lines;
 use crate::views::why_lines::WhyLines;
 use mp_check::{CheckAsked, Selection, missing_place};
-use mp_exports::{put_dump, put_verilog};
+use mp_exports::{DumpOptions, Timescale, put_dump, put_verilog};
 use mp_netlist::Netlist;
 use mp_picture::put_graph;
 use mp_questions::put_waits;
@@ -36,8 +36,8 @@ pub enum View<'a> {
     Check(CheckAsked<'a>),
     /// Whether the netlist repeats for ever, and how fast.
     Steady,
-    /// The value change dump.
-    Dump,
+    /// The value change dump, with a unit of time of this length.
+    Dump(Timescale),
     /// The netlist as a graph, for `dot`.
     Graph,
     /// The netlist as Verilog, with a test bench.
@@ -67,7 +67,7 @@ impl<'a> View<'a> {
             View::Why(lines) => missing_wire(netlist, lines.wire),
             View::Path(lines) => missing_wire(netlist, lines.wire),
             View::Measure(lines) => missing_at(netlist, lines.wires),
-            View::Waves | View::Report(_) | View::Check(_) | View::Steady | View::Dump => None,
+            View::Waves | View::Report(_) | View::Check(_) | View::Steady | View::Dump(_) => None,
             View::Graph | View::Verilog | View::Waits { .. } => None,
         }
     }
@@ -80,7 +80,7 @@ impl<'a> View<'a> {
         match self {
             View::Report(selection) => missing_place(netlist, selection.names),
             View::Check(asked) => missing_place(netlist, asked.selection.names),
-            View::Waves | View::Steady | View::Dump | View::Graph | View::Verilog => None,
+            View::Waves | View::Steady | View::Dump(_) | View::Graph | View::Verilog => None,
             View::Picture(_) | View::CausePicture(_) | View::Why(_) | View::Path(_) => None,
             View::Waits { .. } | View::Measure(_) => None,
         }
@@ -101,7 +101,13 @@ impl<'a> View<'a> {
             View::Report(selection) => put_report_lines(rt, alloc, out, of, *selection),
             View::Check(asked) => put_check_lines(rt, alloc, out, of, *asked),
             View::Steady => put_steady_lines(alloc, out, of),
-            View::Dump => put_dump(rt, alloc, out, of.netlist, of.waves, of.threads()),
+            View::Dump(timescale) => {
+                let options = DumpOptions {
+                    threads: of.threads(),
+                    timescale: *timescale,
+                };
+                put_dump(rt, alloc, out, of.netlist, of.waves, options)
+            }
             View::Graph => put_graph(alloc, out, of.netlist),
             View::Verilog => put_verilog(alloc, out, of.netlist),
             View::Picture(picture) => picture.put(rt, alloc, out, of),

@@ -6,3 +6,4 @@ pub mod CodeReadLemmas
 pub mod ReadingLemmas
 pub mod LevelReadLemmas
 pub mod DumpReadLemmas
+pub mod TimescaleLemmas

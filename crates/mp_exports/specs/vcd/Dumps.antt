@@ -3,6 +3,8 @@ use Rattle.std.specs.Prelude.{◌+◌, ◌-◌, ◌∷◌, ◌++◌, ◌==◌}
 use Rattle.mp_exports.specs.vcd.Names.{filter, flat_map, range_with_len, WireRecord, Circuit, wire_at, width_of, level, ℕ, List, [], Option, Some, None, Bool, not, codes, decimal}
 use Rattle.mp_exports.specs.vcd.Codes.{code}
 use Rattle.mp_exports.specs.vcd.Values.{value_line}
+use Rattle.mp_exports.specs.vcd.Timescales.{number_word, unit_word}
+use Rattle.mp_exports.specs.declared.vcd.timescale.Timescale.{Timescale}
 
 -- a number goes before others where its wire stands
 abbrev pub if_stands : ℕ → Option WireRecord → List ℕ → List ℕ
@@ -53,18 +55,20 @@ marked n t (w ∷ ws) = time_mark t ++ flat_map (value_at n t) (w ∷ ws)
 abbrev pub unit_text : Circuit → ℕ → List ℕ
 unit_text n t = marked n t (changed n t)
 
-abbrev pub opening_lines : List ℕ
-opening_lines = line (codes "$timescale 1 ns $end") ++ line (codes "$scope module top $end")
+-- how long a unit of time is, and the scope
+abbrev pub opening_lines : Timescale → List ℕ
+opening_lines scale =
+    codes "$timescale " ++ (number_word scale.number ++ (32 ∷ (unit_word scale.unit ++ (line (codes " $end") ++ line (codes "$scope module top $end")))))
 
 -- behind the declarations, up to the values of time 0
 abbrev pub block_start : List ℕ
 block_start = line (codes "$upscope $end") ++ (line (codes "$enddefinitions $end") ++ (line (codes "#0") ++ line (codes "$dumpvars")))
 
--- the declarations, and the level of each wire at time 0
-abbrev pub preamble : Circuit → List ℕ
-preamble n =
-    opening_lines ++ (flat_map (declaration n) (standing n) ++ (block_start ++ (flat_map (value_at n 0) (standing n) ++ line (codes "$end"))))
+-- how long a unit of time is, the declarations, and the level of each wire at time 0
+abbrev pub preamble : Timescale → Circuit → List ℕ
+preamble scale n =
+    opening_lines scale ++ (flat_map (declaration n) (standing n) ++ (block_start ++ (flat_map (value_at n 0) (standing n) ++ line (codes "$end"))))
 
 -- the preamble, the levels that differ at each later time below the horizon, and the horizon
-unfoldable pub dump : Circuit → List ℕ
-dump n = preamble n ++ (flat_map (unit_text n) (range_with_len 1 (n.horizon - 1)) ++ time_mark n.horizon)
+unfoldable pub dump : Timescale → Circuit → List ℕ
+dump scale n = preamble scale n ++ (flat_map (unit_text n) (range_with_len 1 (n.horizon - 1)) ++ time_mark n.horizon)

@@ -8,6 +8,7 @@ use crate::vcd::portion::Portion;
 use crate::vcd::preamble::put_preamble;
 use crate::vcd::recorded::Recorded;
 use crate::vcd::sharing::put_passages;
+use crate::vcd::timescale::Timescale;
 use crate::vcd::widths::widths_of;
 use mp_model::Waves;
 use mp_netlist::Netlist;
@@ -15,9 +16,16 @@ use mp_streams::{Out, Sink, WriteError};
 use std::alloc::Global;
 use std::thread::Threads;
 
-/// Writes the value change dump of a netlist, given its waves. Read by the rules of IEEE Std 1364, its text declares the wires that exist, and gives
-/// each at each time below the horizon the wire's level. With three `threads` or more, at most that many make its text ahead of the calling one,
-/// which writes it.
+/// How a dump is made: by how many threads, and with a unit of time of which length.
+#[derive(Clone, Copy)]
+pub struct DumpOptions {
+    /// With three or more, at most that many make the text ahead of the calling one, which writes it.
+    pub threads: usize,
+    pub timescale: Timescale,
+}
+
+/// Writes the value change dump of a netlist, given its waves. Read by the rules of IEEE Std 1364, its text declares the length of a unit of time and
+/// the wires that exist, and gives each at each time below the horizon the wire's level.
 ///
 /// `WriteFailed` comes if the sink fails; then the sink has a beginning of what was held and of the dump, and nothing is held. `OutOfMemory` comes if
 /// memory runs out; then a beginning of the dump is written. It takes time in proportion to the wires, the units and the changes; and of memory 12
@@ -30,15 +38,15 @@ pub fn put_dump<R: Threads + Sync, S: Sink>(
     out: &mut Out<S>,
     netlist: &Netlist,
     waves: &Waves,
-    threads: usize,
+    options: DumpOptions,
 ) -> Result<(), WriteError>
     requires waves { AreWavesOf netlist.now waves.now }
-    ensures written { Writes result out.old out.new (dump netlist.now) }
-    ensures read { SaysLevels netlist.now (reading (dump netlist.now)) }
+    ensures written { Writes result out.old out.new (dump options.timescale netlist.now) }
+    ensures read { SaysLevels options.timescale netlist.now (reading (dump options.timescale netlist.now)) }
 {
     let horizon = netlist.horizon();
-    put_preamble(out, netlist, waves)?;
-    put_units(rt, alloc, out, netlist, waves, threads)?;
+    put_preamble(out, netlist, waves, options.timescale)?;
+    put_units(rt, alloc, out, netlist, waves, options.threads)?;
     put_time_mark(out, horizon)?;
     Ok(())
 }

@@ -2,12 +2,13 @@
 ghost use Rattle.mp_exports.specs.vcd.Clauses.{flat_map, Writes, wire_at, AreWavesOf, standing, preamble, part_line, slot_text};
 
 use crate::vcd::lines::put_declaration;
+use crate::vcd::timescale::Timescale;
 use crate::vcd::value_lines::ValueLine;
 use mp_model::Waves;
 use mp_netlist::{Netlist, WireId};
 use mp_streams::{Failed, Out, Sink, Text};
 
-const OPENING: &str = "$timescale 1 ns $end\n$scope module top $end\n";
+const SCOPE: &str = " $end\n$scope module top $end\n";
 
 const BLOCK_START: &str = "$upscope $end\n$enddefinitions $end\n#0\n$dumpvars\n";
 
@@ -20,14 +21,15 @@ pub(crate) enum PreamblePart {
     FirstLevels,
 }
 
-/// Writes the declarations, and the level of each wire at time 0.
+/// Writes how long a unit of time is, the declarations, and the level of each wire at time 0.
 pub fn put_preamble<S: Sink>(
     out: &mut Out<S>,
     netlist: &Netlist,
     waves: &Waves,
+    timescale: Timescale,
 ) -> Result<(), Failed>
     requires { AreWavesOf netlist.now waves.now }
-    ensures { Writes result out.old out.new (preamble netlist.now) }
+    ensures { Writes result out.old out.new (preamble timescale netlist.now) }
 {
     let declarations = WireLines {
         netlist,
@@ -39,7 +41,9 @@ pub fn put_preamble<S: Sink>(
         waves,
         part: PreamblePart::FirstLevels,
     };
-    (OPENING, (declarations, (BLOCK_START, (levels, BLOCK_END)))).put_to(out)
+    let Timescale { number, unit } = timescale;
+    let opening = ("$timescale ", number.word(), " ", (unit.word(), SCOPE));
+    (opening, (declarations, (BLOCK_START, (levels, BLOCK_END)))).put_to(out)
 }
 
 /// The lines of a part for each wire that exists, by number.

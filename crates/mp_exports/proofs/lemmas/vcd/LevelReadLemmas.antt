@@ -35,21 +35,21 @@ pub record IsReadable (n : Circuit) (vs : List Variable) (w : ℕ) : Type 0 wher
   pub declared : HasVariable vs w (width_of (wire_at n w))
   pub fits : (t : ℕ) → level n w t < 2 ^ width_of (wire_at n w)
 
-pub leads_values : (side : Side) (n : Circuit) (vs : List Variable) (t : ℕ) (ws : List ℕ) (given : List Given) → All (IsReadable n vs) ws
-    → Leads (valued side vs t given) (flat_map (value_at n t) ws) (valued side vs t (given_at n t ws given))
-leads_values side n vs t [] given each = leads_none (valued side vs t given)
-leads_values side n vs t (w ∷ ws) given each =
+pub leads_values : (u : ℕ × List ℕ) (side : Side) (n : Circuit) (vs : List Variable) (t : ℕ) (ws : List ℕ) (given : List Given) → All (IsReadable n vs) ws
+    → Leads (valued u side vs t given) (flat_map (value_at n t) ws) (valued u side vs t (given_at n t ws given))
+leads_values u side n vs t [] given each = leads_none (valued u side vs t given)
+leads_values u side n vs t (w ∷ ws) given each =
     let here = All-head (IsReadable n vs) w ws each in
-    leads_both (valued side vs t given) (valued side vs t (giving t w (level n w t) ∷ given)) _ (value_at n t w) (flat_map (value_at n t) ws)
-    (leads_value side vs t w (level n w t) given (width_of (wire_at n w)) here.wide here.declared (here.fits t))
-    (leads_values side n vs t ws (giving t w (level n w t) ∷ given) (All-tail (IsReadable n vs) w ws each))
+    leads_both (valued u side vs t given) (valued u side vs t (giving t w (level n w t) ∷ given)) _ (value_at n t w) (flat_map (value_at n t) ws)
+    (leads_value u side vs t w (level n w t) given (width_of (wire_at n w)) here.wide here.declared (here.fits t))
+    (leads_values u side n vs t ws (giving t w (level n w t) ∷ given) (All-tail (IsReadable n vs) w ws each))
 
 -- a unit leads to a time that is no later
-leads_marked : (n : Circuit) (vs : List Variable) (before t : ℕ) (ws : List ℕ) (given : List Given) → before < t → t < 2 ^ 64 → All (IsReadable n vs) ws
-    → (time : ℕ) × (time ≤ t) × Leads (valued Outside vs before given) (marked n t ws) (valued Outside vs time (given_at n t ws given))
-leads_marked n vs before t [] given later fits each = (before, omega (arith, later), leads_none (valued Outside vs before given))
-leads_marked n vs before t (w ∷ ws) given later fits each =
-    (t, omega arith, leads_both _ _ _ (time_mark t) (flat_map (value_at n t) (w ∷ ws)) (leads_time vs before t given later fits) (leads_values Outside n vs t (w ∷ ws) given each))
+leads_marked : (u : ℕ × List ℕ) (n : Circuit) (vs : List Variable) (before t : ℕ) (ws : List ℕ) (given : List Given) → before < t → t < 2 ^ 64 → All (IsReadable n vs) ws
+    → (time : ℕ) × (time ≤ t) × Leads (valued u Outside vs before given) (marked n t ws) (valued u Outside vs time (given_at n t ws given))
+leads_marked u n vs before t [] given later fits each = (before, omega (arith, later), leads_none (valued u Outside vs before given))
+leads_marked u n vs before t (w ∷ ws) given later fits each =
+    (t, omega arith, leads_both _ _ _ (time_mark t) (flat_map (value_at n t) (w ∷ ws)) (leads_time u vs before t given later fits) (leads_values u Outside n vs t (w ∷ ws) given each))
 
 -- earlier values stay
 value_before : (n : Circuit) (t s : ℕ) (c : List ℕ) (ws : List ℕ) (given : List Given) → s < t → value_of c s (given_at n t ws given) ≡ value_of c s given
@@ -84,31 +84,31 @@ module _ (n : Circuit) (t : ℕ) (given : List Given) (known : Knows n t given) 
   knows_next = grind (arith, nat_tests, cases_lt, value_given, contains_filter, value_kept, stays, value_before)
 
 -- the units lead to a reading that knows the levels up to the last of them
-pub record Units (n : Circuit) (vs : List Variable) (from : Reading) (text : List ℕ) (last : ℕ) : Type 0 where
+pub record Units (u : ℕ × List ℕ) (n : Circuit) (vs : List Variable) (from : Reading) (text : List ℕ) (last : ℕ) : Type 0 where
   pub time : ℕ
   pub upto : time ≤ last
   pub given : List Given
-  pub leads : Leads from text (valued Outside vs time given)
+  pub leads : Leads from text (valued u Outside vs time given)
   pub knows : Knows n last given
 
-pub leads_units : (n : Circuit) (vs : List Variable) (k t before : ℕ) (given : List Given) → All (IsReadable n vs) (standing n) → before ≤ t → t + k < 2 ^ 64 → Knows n t given
-    → Units n vs (valued Outside vs before given) (flat_map (unit_text n) (range_with_len (t + 1) k)) (t + k)
-leads_units n vs zero t before given each early fits known = record {
+pub leads_units : (u : ℕ × List ℕ) (n : Circuit) (vs : List Variable) (k t before : ℕ) (given : List Given) → All (IsReadable n vs) (standing n) → before ≤ t → t + k < 2 ^ 64 → Knows n t given
+    → Units u n vs (valued u Outside vs before given) (flat_map (unit_text n) (range_with_len (t + 1) k)) (t + k)
+leads_units u n vs zero t before given each early fits known = record {
   time = before;
   upto = omega (arith, early);
   given = given;
-  leads = leads_none (valued Outside vs before given);
+  leads = leads_none (valued u Outside vs before given);
   knows = rw add-zero known;
 }
-leads_units n vs (suc k) t before given each early fits known =
+leads_units u n vs (suc k) t before given each early fits known =
     let next = given_at n (t + 1) (changed n (t + 1)) given in
-    let first = leads_marked n vs before (t + 1) (changed n (t + 1)) given (omega (arith, early)) (omega (arith, fits)) (All-filter (is_changed n (t + 1)) (IsReadable n vs) (standing n) each) in
-    let rest = leads_units n vs k (t + 1) first.0 next each first.1 (omega (arith, fits)) (knows_next n t given known) in
+    let first = leads_marked u n vs before (t + 1) (changed n (t + 1)) given (omega (arith, early)) (omega (arith, fits)) (All-filter (is_changed n (t + 1)) (IsReadable n vs) (standing n) each) in
+    let rest = leads_units u n vs k (t + 1) first.0 next each first.1 (omega (arith, fits)) (knows_next n t given known) in
     let same : t + 1 + k ≡ t + suc k = omega arith in
     record {
       time = rest.time;
       upto = omega (arith, rest.upto);
       given = rest.given;
-      leads = leads_both (valued Outside vs before given) (valued Outside vs first.0 next) (valued Outside vs rest.time rest.given) (unit_text n (t + 1)) (flat_map (unit_text n) (range_with_len (t + 1 + 1) k)) first.2 rest.leads;
+      leads = leads_both (valued u Outside vs before given) (valued u Outside vs first.0 next) (valued u Outside vs rest.time rest.given) (unit_text n (t + 1)) (flat_map (unit_text n) (range_with_len (t + 1 + 1) k)) first.2 rest.leads;
       knows = subst (λ s. Knows n s rest.given) same rest.knows;
     }

@@ -1,0 +1,4 @@
+pub mod Waves
+pub mod Signals
+pub mod WaveJson
+pub mod Laws
