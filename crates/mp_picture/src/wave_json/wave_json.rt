@@ -80,7 +80,7 @@ fn put_signal<S: Sink>(
 
 /// Writes a signal on a line of its own, behind a comma if it isn't the first.
 fn put_line<S: Sink>(out: &mut Out<S>, signal: Signal<'_>, is_first: bool) -> Result<(), Failed>
-    ensures { WritesText result out.old out.new (item_at is_first (signal_line signal.numerals signal.wire.now signal.cells.now)) }
+    ensures { WritesText result out.old out.new (item_at is_first (signal_line signal.entry.numerals signal.entry.wire.now signal.entry.cells.now)) }
 {
     let start = if is_first { "\n" } else { ",\n" };
     (start, signal).put_to(out)

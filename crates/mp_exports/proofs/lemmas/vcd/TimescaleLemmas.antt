@@ -1,22 +1,16 @@
 -- The timescale of a word.
-use Rattle.std.proofs.Common.{◌≡◌, ◌≢◌, ℕ, List, ◌++◌, drop, Option, Some, None, sym, ap, ◌∙◌}
-use Rattle.std.proofs.lemmas.List.{append_cancel_left}
+use Rattle.std.proofs.Common.{◌≡◌, ◌≢◌, ℕ, List, Option, Some, None}
 use Rattle.std.specs.Option.{option_or}
 use Rattle.std.specs.Prelude.{MatchOption}
 use Rattle.mp_exports.specs.declared.vcd.timescale.TimeNumber.{TimeNumber}
 use Rattle.mp_exports.specs.declared.vcd.timescale.TimeNumber.TheVariants.{One, Ten, Hundred}
 use Rattle.mp_exports.specs.declared.vcd.timescale.TimeUnit.{TimeUnit}
 use Rattle.mp_exports.specs.declared.vcd.timescale.Timescale.{Timescale}
-use Rattle.mp_exports.specs.vcd.Timescales.{numbered_word, number_word, unit_word, timescale_word, IsNoUnit, IsNotNumbered, IsNoTimescale}
+use Rattle.mp_exports.specs.vcd.Timescales.{numbered_word, timescale_word, IsNotNumbered, IsNoTimescale}
 
-module _ (number : TimeNumber) (word : List ℕ) where
-  -- what is behind its number is no unit
-  pub not_numbered : (rest : List ℕ) → word ≡ number_word number ++ rest → IsNoUnit rest → IsNotNumbered number word
-  not_numbered rest split none unit is = none unit (append_cancel_left (number_word number) (unit_word unit) rest (is ∙ split))
-
-  -- the timescale of this number that a word is for, if it is for one
-  abbrev pub OfNumber : Option Timescale → Type 0
-  OfNumber found = MatchOption found (IsNotNumbered number word) (λ scale. timescale_word scale ≡ word)
+-- the timescale with this number of a word, where it has one
+abbrev pub OfNumber : TimeNumber → List ℕ → Option Timescale → Type 0
+OfNumber number word found = MatchOption found (IsNotNumbered number word) (λ scale. timescale_word scale ≡ word)
 
 module _ (word : List ℕ) where
   of_none : IsNotNumbered One word → IsNotNumbered Ten word → IsNotNumbered Hundred word → (number : TimeNumber) (unit : TimeUnit) → numbered_word number unit ≢ word
