@@ -82,8 +82,11 @@ fn put_signal<S: Sink>(
 fn put_line<S: Sink>(out: &mut Out<S>, signal: Signal<'_>, is_first: bool) -> Result<(), Failed>
     ensures { WritesText result out.old out.new (item_at is_first (signal_line signal.entry.numerals signal.entry.wire.now signal.entry.cells.now)) }
 {
-    let start = if is_first { "\n" } else { ",\n" };
-    (start, signal).put_to(out)
+    if is_first {
+        ("\n", signal).put_to(out)
+    } else {
+        (",\n", signal).put_to(out)
+    }
 }
 
 /// Writes what is behind the signals.
