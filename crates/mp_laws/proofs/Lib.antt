@@ -1,6 +1,7 @@
 pub mod BatchLemmas
 pub mod NumberLemmas
 pub mod RefusedTextLemmas
+pub mod SaidPictureLemmas
 pub mod ExampleLemmas
 pub mod OrderLemmas
 pub mod FindingOrderLemmas

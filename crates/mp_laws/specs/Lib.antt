@@ -1,6 +1,7 @@
 pub mod Batches
 pub mod Numbers
 pub mod RefusedTexts
+pub mod SaidPictures
 pub mod Examples
 pub mod FindingOrder
 pub mod ModuleEvents
