@@ -1,5 +1,5 @@
 -- Items that are written with commas between them.
-use Rattle.std.proofs.Common.{◌≡◌, ℕ, ◌+◌, ◌<◌, Bool, true, false, ◌&&◌, not, List, [], ◌∷◌, ◌++◌, length, get_or, take, drop, Ok, Err, refl, sym, ap, subst, ◌∙◌}
+use Rattle.std.proofs.Common.{◌≡◌, ℕ, ◌+◌, ◌<◌, Bool, true, false, ◌&&◌, not, List, [], ◌∷◌, ◌++◌, length, get_or, take, drop, Result, Ok, Err, refl, sym, ap, subst, ◌∙◌}
 use Rattle.std.specs.List.{flat_map}
 use Rattle.mp_streams.specs.Outgoing.{Outgoing, Puts}
 use Rattle.mp_streams.proofs.OutLemmas.{puts_then, puts_sooner, next_text, text_with}
@@ -24,6 +24,10 @@ later false ys rest = (rest, refl)
 -- (of any answer)
 pub puts_done : {S T U E F : Type 0} {f : F → Bool} {g : E → Bool} {done : T} {other : U} {a b : Outgoing S} {xs : List ℕ} → Puts f (Ok done) a b xs → Puts {T = U} g (Ok other) a b xs
 puts_done puts = record { front = puts.front; lost = puts.lost; taken = puts.taken; held = puts.held; ends = puts.ends }
+
+-- another text of an item
+pub item_as : {S T E : Type 0} {f : E → Bool} {r : Result T E} {a b : Outgoing S} {xs ys : List ℕ} (is_first : Bool) → xs ≡ ys → Puts f r a b (item_at is_first xs) → Puts f r a b (item_at is_first ys)
+item_as {f = f} {r = r} {a = a} {b = b} is_first is puts = subst (λ text. Puts f r a b (item_at is_first text)) is puts
 
 module _ {X : Type 0} (t : X → List ℕ) (xs : List X) (i : ℕ) (d : X) (within : i < length xs) where
   abbrev before : List ℕ

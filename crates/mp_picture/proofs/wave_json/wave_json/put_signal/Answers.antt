@@ -12,7 +12,7 @@ use Rattle.mp_picture.specs.declared.numerals.Numerals.{Numerals}
 use Rattle.mp_picture.specs.Cells.{cells}
 use Rattle.mp_picture.specs.wave_json.WaveJson.{item_at, signal_line, slot_item}
 use Rattle.mp_picture.proofs.WaveLemmas.{wave_cells, wave_at}
-use Rattle.mp_picture.proofs.lemmas.wave_json.ItemLemmas.{puts_done}
+use Rattle.mp_picture.proofs.lemmas.wave_json.ItemLemmas.{item_as, puts_done}
 use Rattle.mp_picture.proofs.wave_json.wave_json.put_signal.Goals as goal
 
 -- the signal of a wire that stands is made of the cells of its wave
@@ -32,11 +32,11 @@ returns-in_err-put_line-clause-written g c =
     let picture = c.args.picture.now in
     let is = signal_is picture.netlist.now picture.waves.now picture.columns picture.numerals c.args.wire.0 c.in-Some-Some.found.now c.in-Some-Some.wave.now _
     c.requires.waves c.requires.within (sym c.in-Some-Some.ensures.value) (sym c.in-Some-Some.ensures') (c.as_slice.ensures.value ∙ c.in_ok-cells.ensures) in
-    puts_as _ WriteFailed c.from_residual-in_err-put_line.ensures.1 refl (rw is at c.in_err-put_line.ensures)
+    puts_as _ WriteFailed c.from_residual-in_err-put_line.ensures.1 refl (item_as c.args.is_first is c.in_err-put_line.ensures)
 
 pub returns-clause-written : goal.returns-clause-written
 returns-clause-written g c =
     let picture = c.args.picture.now in
     let is = signal_is picture.netlist.now picture.waves.now picture.columns picture.numerals c.args.wire.0 c.in-Some-Some.found.now c.in-Some-Some.wave.now _
     c.requires.waves c.requires.within (sym c.in-Some-Some.ensures.value) (sym c.in-Some-Some.ensures') (c.as_slice.ensures.value ∙ c.in_ok-cells.ensures) in
-    puts_done (rw is at c.in_ok-put_line.ensures)
+    puts_done (item_as c.args.is_first is c.in_ok-put_line.ensures)

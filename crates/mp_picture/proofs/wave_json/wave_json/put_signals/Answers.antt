@@ -16,13 +16,13 @@ loop-wire-preserved g c =
     let picture = c.args.picture.now in
     let t = signal_item picture.netlist.now picture.columns picture.numerals in
     let i = c.loop-wire.wire-index in (
-      items_next t picture.wires.now i none c.loop-wire-test.true c.loop-wire.invariant.1 c.loop-wire.invariant.0 c.in_ok-put_signal.ensures.written,
-      items_still t picture.wires.now i none c.loop-wire-test.true c.loop-wire.is_first _ c.loop-wire.invariant.1 c.in_ok-put_signal.ensures.first,
+      items_next t picture.wires.now i none c.loop-wire-test.true c.loop-wire.invariant.1 c.loop-wire.invariant.0 c.in_ok-is_first.ensures.written,
+      items_still t picture.wires.now i none c.loop-wire-test.true c.loop-wire.is_first _ c.loop-wire.invariant.1 c.in_ok-is_first.ensures.first,
     )
 
-pub returns-in_err-put_signal : goal.returns-in_err-put_signal
-returns-in_err-put_signal g c =
+pub returns-in_err-is_first : goal.returns-in_err-is_first
+returns-in_err-is_first g c =
     let picture = c.args.picture.now in
-    puts_as _ c.in_err-put_signal.field-0.0 c.from_residual.ensures.1 refl
+    puts_as _ c.in_err-is_first.field-0.0 c.from_residual.ensures.1 refl
     (items_stopped (signal_item picture.netlist.now picture.columns picture.numerals) picture.wires.now c.loop-wire.wire-index none c.loop-wire-test.true
-    c.loop-wire.invariant.1 c.loop-wire.invariant.0 c.in_err-put_signal.ensures.written)
+    c.loop-wire.invariant.1 c.loop-wire.invariant.0 c.in_err-is_first.ensures.written)
