@@ -10,7 +10,7 @@
 #include <sys/syscall.h>
 #include <unistd.h>
 
-enum kind { ALLOCATION, START, READ, WRITE, KINDS };
+enum kind { ALLOCATION, START, READ, WRITE, DRAW, KINDS };
 enum how { FAIL, INTERRUPT, NOTHING, ONE_BYTE };
 
 /* What the run that started the program reads afterwards, in a file that it gave. */
@@ -86,6 +86,15 @@ int pthread_create(pthread_t *thread, const pthread_attr_t *attributes, void *(*
     if (!create)
         create = dlsym(RTLD_NEXT, "pthread_create");
     return refused(START) ? EAGAIN : create(thread, attributes, body, given);
+}
+
+int getentropy(void *bytes, size_t size)
+{
+    if (refused(DRAW)) {
+        errno = EIO;
+        return -1;
+    }
+    return syscall(SYS_getrandom, bytes, size, 0) == (long)size ? 0 : -1;
 }
 
 /* How many bytes a read or a write may move, or -1 where it is refused, with `*answer` in its place. */

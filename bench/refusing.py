@@ -1,4 +1,5 @@
-"""Runs the program with a library before the C library that refuses memory, threads, reads or writes (`refusing.c`, which `cc` compiles)."""
+"""Runs the program with a library before the C library that refuses memory, threads, reads, writes or random numbers (`refusing.c`, which `cc`
+compiles)."""
 import dataclasses
 import os
 import signal
@@ -9,12 +10,12 @@ HERE = os.path.dirname(os.path.abspath(__file__))
 SECONDS = 60
 
 # what can be refused, and how a read or a write is: as `refusing.c` numbers them
-ALLOCATION, START, READ, WRITE, NONE = range(5)
+ALLOCATION, START, READ, WRITE, DRAW, NONE = range(6)
 FAIL, INTERRUPT, NOTHING, ONE_BYTE = range(4)
 
 # the number of the file with the counts in the program
 COUNTS = 9
-FORM = "7q"
+FORM = "8q"
 
 
 def built(folder):

@@ -7,7 +7,7 @@ import pathlib
 
 import answers
 import reader
-from refusing import ALLOCATION, FAIL, INTERRUPT, NOTHING, ONE_BYTE, READ, START, WRITE, Refusal
+from refusing import ALLOCATION, DRAW, FAIL, INTERRUPT, NOTHING, ONE_BYTE, READ, START, WRITE, Refusal
 
 ROWS_FOLDER = pathlib.Path(__file__).resolve().parent.parent / "rows"
 
@@ -200,8 +200,18 @@ class Sweep:
                     failures.append(self.told(f"number {number} refused, {how}, {one_byte}", done, self.right))
         return failures
 
+    def is_unread(self, done):
+        """Whether the run ended as one whose input can't be read."""
+        return (done.status, done.written, done.complaint) == (3, b"", b"mpwb: read failed\n")
+
     def reads(self, runner):
-        return self.devices(runner, READ, lambda done, *_: (done.status, done.written, done.complaint) == (3, b"", b"mpwb: read failed\n"))
+        return self.devices(runner, READ, lambda done, *_: self.is_unread(done))
+
+    def draws(self, runner):
+        """The random numbers are refused, which are drawn once."""
+        refused, others = (self.run(runner, Refusal(DRAW, number)) for number in (1, 2))
+        failures = [] if refused.refused and self.is_unread(refused) else [self.told("random numbers refused", refused, self.right)]
+        return failures + ([] if not others.refused and is_whole(others, self.right) else [self.told("a second draw refused", others, self.right)])
 
     def lines(self, runner):
         """As `reads`, of a script whose lines are answered one by one."""

@@ -40,7 +40,8 @@ impl<P: Sessions + Drop> InputCommand for DeskCommand<P> {
     ) -> Result<(), RunFault> {
         let text = input.as_slice();
         let (front, blocks) = split(alloc, text)?;
-        let (netlist, (crew, size)) = opened(alloc, front, desk_crew(options, blocks.len()))?;
+        let size = desk_crew(options, blocks.len());
+        let (netlist, (crew, size)) = opened(alloc, options.keys, front, size)?;
         let session = open_session(&self.sessions, rt, alloc, netlist, crew)?;
         match P::meet(rt, alloc, session, blocks.as_slice(), size) {
             Ok(outcome) => Ok(put_outcome(out, &outcome, crew)?),

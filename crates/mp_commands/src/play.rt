@@ -38,7 +38,7 @@ impl<P: Sessions + Drop> InputCommand for Play<P> {
     ) -> Result<(), RunFault> {
         let text = input.as_slice();
         let (front, script) = divided(alloc, text)?;
-        let (netlist, crew) = opened(alloc, front, options.crew())?;
+        let (netlist, crew) = opened(alloc, options.keys, front, options.crew())?;
         let mut session = ScriptSession::of_netlist(&self.sessions, rt, alloc, netlist, crew)?;
         Ok(put_replies(rt, alloc, out, &mut session, script)?)
     }

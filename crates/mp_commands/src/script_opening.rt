@@ -26,6 +26,6 @@ pub fn open_keeper<R: Threads + Wait + Sync, S: Source, P: Sessions>(
     ensures taken { TakesInput (S.left source.old) (S.left source.new) }
     ensures read_faults { S.fault_count source.new ≡ counted_reads result (S.fault_count source.old) }
 {
-    let (netlist, crew) = read_opening(alloc, source, options.crew())?;
+    let (netlist, crew) = read_opening(alloc, options.keys, source, options.crew())?;
     Ok(ScriptSession::of_netlist(sessions, rt, alloc, netlist, crew)?)
 }

@@ -7,8 +7,8 @@ ghost use Rattle.mp_netlist.specs.Circuit.{module_at};
 ghost use Rattle.mp_model.specs.Reach.{IsTouched};
 ghost use Rattle.mp_depend.specs.Touched.{IsSameStanding};
 
-use mp_modules::Kind;
-use mp_netlist::{Input, ModuleId, ModuleRecord, Netlist, Output};
+use mp_netlist::{ModuleId, ModuleRecord, Netlist};
+use mp_records::Same;
 use std::alloc::{AllocError, Global};
 
 /// The modules of the new netlist whose record differs from the one in the old netlist, by number. All others exist in both with the same record.
@@ -42,47 +42,7 @@ fn has_part(netlist: &Netlist, id: ModuleId, part: &ModuleRecord) -> bool
     ensures { IsTrue result ↔ (module_at netlist.now id.0 ≡ Some part.now) }
 {
     match netlist.module(id) {
-        Some(found) => is_same(found, part),
+        Some(found) => found.same(part),
         None => false,
     }
-}
-
-fn is_same(one: &ModuleRecord, other: &ModuleRecord) -> bool
-    ensures { IsTrue result ↔ (one.now ≡ other.now) }
-{
-    is_same_kind(one.kind, other.kind)
-        && is_same_text(one.name.as_str(), other.name.as_str())
-        && are_same_numbers(one.params.as_slice(), other.params.as_slice())
-        && are_same_inputs(one.inputs.as_slice(), other.inputs.as_slice())
-        && are_same_outputs(one.outputs.as_slice(), other.outputs.as_slice())
-}
-
-fn is_same_kind(one: Kind, other: Kind) -> bool
-    ensures { IsTrue result ↔ (one ≡ other) }
-{
-    one == other
-}
-
-fn is_same_text(one: &str, other: &str) -> bool
-    ensures { IsTrue result ↔ (one.now ≡ other.now) }
-{
-    one == other
-}
-
-fn are_same_numbers(one: &[u64], other: &[u64]) -> bool
-    ensures { IsTrue result ↔ (one.now ≡ other.now) }
-{
-    one == other
-}
-
-fn are_same_inputs(one: &[Input], other: &[Input]) -> bool
-    ensures { IsTrue result ↔ (one.now ≡ other.now) }
-{
-    one == other
-}
-
-fn are_same_outputs(one: &[Output], other: &[Output]) -> bool
-    ensures { IsTrue result ↔ (one.now ≡ other.now) }
-{
-    one == other
 }

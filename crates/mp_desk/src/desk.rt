@@ -173,14 +173,14 @@ impl<S: EditSession, K: EditKeeper, L: DeskName, R: Wait + Drop> Desk<S, K, L, R
         &self,
         rt: &H,
         me: &mut Designer<L>,
-        edit: &Edit,
+        edit: Edit,
     ) -> Result<Receipt<L>, SubmitError>
-        ensures accepted { IfOk result (λ r. (s : Story) × Extends s me.old.seen × (arc_value r.version ≡ one_more s edit.now)) }
+        ensures accepted { IfOk result (λ r. (s : Story) × Extends s me.old.seen × (arc_value r.version ≡ one_more s edit)) }
         ensures notice { IfOk result (λ r. r.notice ≡ arc_value r.version) }
         ensures seen { IfOk result (λ r. me.new.seen ≡ arc_value r.version) }
         ensures counted { IfOk result (λ _. me.new.accepted ≡ me.old.accepted + 1) }
         ensures signed { IfOk result (λ r. Signs me.old me.new (arc_value r.version)) }
-        ensures refused { IfErr result (λ error. NotAccepted K.is_lost me.old.seen me.new.seen edit.now error) }
+        ensures refused { IfErr result (λ error. NotAccepted K.is_lost me.old.seen me.new.seen edit error) }
         ensures uncounted { OnErr result (me.new.accepted ≡ me.old.accepted) }
         ensures begins { IsPrefix me.old.signed me.new.signed }
         ensures each { length me.new.signed ≡ length me.new.seen.edits }

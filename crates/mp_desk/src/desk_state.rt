@@ -64,15 +64,15 @@ impl<S: EditSession, K: EditKeeper, L: DeskName, R: Wait + Drop> DeskState<S, K,
         &mut self,
         rt: &H,
         me: &mut Designer<L>,
-        edit: &Edit,
+        edit: Edit,
     ) -> Result<Receipt<L>, SubmitError>
         ensures extends { Extends self.old.story me.old.seen }
-        ensures accepted { IfOk result (λ r. arc_value r.version ≡ one_more self.old.story edit.now) }
+        ensures accepted { IfOk result (λ r. arc_value r.version ≡ one_more self.old.story edit) }
         ensures notice { IfOk result (λ r. r.notice ≡ arc_value r.version) }
         ensures seen { IfOk result (λ r. me.new.seen ≡ arc_value r.version) }
         ensures counted { IfOk result (λ _. me.new.accepted ≡ me.old.accepted + 1) }
         ensures signed { IfOk result (λ r. Signs me.old me.new (arc_value r.version)) }
-        ensures refused { IfErr result (λ error. NotAccepted K.is_lost me.old.seen me.new.seen edit.now error) }
+        ensures refused { IfErr result (λ error. NotAccepted K.is_lost me.old.seen me.new.seen edit error) }
         ensures lost { self.old.is_lost ≡ true → OnOk result ⊥ × IfErr result (λ error. error ≡ errors.NotKept) × (self.new ≡ self.old) }
         ensures same { OnErr result (self.new.story ≡ self.old.story) }
         ensures uncounted { OnErr result (me.new.accepted ≡ me.old.accepted) }
@@ -83,10 +83,11 @@ impl<S: EditSession, K: EditKeeper, L: DeskName, R: Wait + Drop> DeskState<S, K,
     {
         me.catch_up(rt, &self.publication, &self.writer);
         if self.keeper.is_lost() {
+            drop(edit);
             return Err(SubmitError::NotKept);
         }
         let prepared = self.session.prepare(rt, edit)?;
-        match self.accept(rt, me, edit, prepared) {
+        match self.accept(rt, me, prepared) {
             Ok(receipt) => Ok(receipt),
             Err(error) => Err(error),
         }
@@ -98,11 +99,9 @@ impl<S: EditSession, K: EditKeeper, L: DeskName, R: Wait + Drop> DeskState<S, K,
         &mut self,
         rt: &H,
         me: &mut Designer<L>,
-        edit: &Edit,
         prepared: S::Prepared,
     ) -> Result<Receipt<L>, SubmitError>
         requires fits { (S.step prepared).before ≡ self.old.story }
-        requires edit { (S.step prepared).edit ≡ edit.now }
         requires seen { me.old.seen ≡ self.old.story }
         requires whole { self.old.is_lost ≡ false }
         ensures accepted { IfOk result (λ r. arc_value r.version ≡ story_after (S.step prepared)) }
@@ -120,7 +119,7 @@ impl<S: EditSession, K: EditKeeper, L: DeskName, R: Wait + Drop> DeskState<S, K,
             return Err(SubmitError::Refused(EditError::OutOfMemory));
         };
         // dropped by calls: otherwise the drop of each part would stand here
-        if self.keeper.keep(edit).is_err() {
+        if self.keeper.keep(S::edit(&prepared)).is_err() {
             drop(draft);
             drop(prepared);
             return Err(SubmitError::NotKept);

@@ -4,7 +4,6 @@ mod building;
 mod given;
 mod likeness;
 mod picked;
-mod set_alike;
 mod small;
 
 pub(crate) use picked::Picked;

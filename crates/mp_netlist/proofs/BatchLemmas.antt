@@ -1,11 +1,11 @@
 -- A netlist is still one after each edit that is not refused.
-use Rattle.std.proofs.Common.{◌≡◌, ℕ, ◌+◌, Bool, true, false, cond, List, [], ◌∷◌, Option, None, Some, Result, Ok, Err, refl, subst}
+use Rattle.std.proofs.Common.{◌≡◌, ◌⊎◌, inl, inr, rules, IsTrue, ℕ, ◌+◌, Bool, true, false, cond, List, [], ◌∷◌, Option, None, Some, Result, Ok, Err, refl, subst}
 use Rattle.mp_records.specs.declared.edit.Edit.TheVariants.{Single, Batch}
 use Rattle.mp_records.specs.declared.single_edit.SingleEdit.{SingleEdit}
 use Rattle.mp_records.specs.declared.edit_error.EditError.{EditError}
-use Rattle.mp_records.specs.declared.edit_error.EditError.TheVariants.{BadBatch}
+use Rattle.mp_records.specs.declared.edit_error.EditError.TheVariants.{BadBatch, OutOfMemory}
 use Rattle.mp_netlist.specs.Circuit.{Circuit, IsCircuit}
-use Rattle.mp_netlist.specs.Edits.{refusal, edited, unless, after_single, in_place, go_on, after_each, is_batch}
+use Rattle.mp_netlist.specs.Edits.{refusal, edited, unless, after_single, in_place, go_on, after_each, is_batch, first_failing, batch_checks, after, RefusedBy}
 use Rattle.mp_netlist.specs.Laws.{EditsKeepNetlists}
 use Rattle.mp_netlist.proofs.EditLemmas.{IsCircuit-edited}
 
@@ -34,3 +34,14 @@ edits_keep_netlists n m ok (Batch edits) made = by (is_batch edits) made
     by : (b : Bool) → cond b (after_each 1 n edits) (Err BadBatch) ≡ Ok m → IsCircuit m
     by true made = made_each 1 n m ok edits made
     by false made = cc
+
+-- a batch that may be one is refused as its edits are
+pub batch_refused : (n : Circuit) (edits : List SingleEdit) (error : EditError) → None ≡ first_failing (batch_checks edits) → (after_each 1 n edits ≡ Err error) ⊎ (error ≡ OutOfMemory)
+    → RefusedBy (Batch edits) (after n (Batch edits)) error
+batch_refused n edits error ok refused = by (is_batch edits) ok refused
+  where
+    by : (b : Bool) → None ≡ cond b None (Some BadBatch) → (after_each 1 n edits ≡ Err error) ⊎ (error ≡ OutOfMemory)
+        → (cond b (after_each 1 n edits) (Err BadBatch) ≡ Err error) ⊎ ((error ≡ OutOfMemory) × IsTrue b)
+    by true ok (inl first) = inl first
+    by true ok (inr lacking) = inr (lacking, search rules)
+    by false ok refused = cc

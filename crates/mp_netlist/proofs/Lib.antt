@@ -14,4 +14,5 @@ pub mod PortEditLemmas
 pub mod ModuleLemmas
 pub mod NewPortLemmas
 pub mod EditLemmas
-mod BatchLemmas
+pub mod FoundLemmas
+pub mod BatchLemmas

@@ -6,8 +6,3 @@ use Rattle.mp_records.specs.declared.module_record.ModuleRecord.{ModuleRecord}
 abbrev pub HasFewPorts : Option ModuleRecord → Type 0
 HasFewPorts None = Unit {0}
 HasFewPorts (Some r) = length r.outputs < 2 ^ 32
-
--- the inputs of the module that stands in the slot can be numbered
-abbrev pub HasFewInputs : Option ModuleRecord → Type 0
-HasFewInputs None = Unit {0}
-HasFewInputs (Some r) = length r.inputs < 2 ^ 32

@@ -7,6 +7,7 @@ pub mod Uses
 pub mod Readers
 pub mod Delays
 pub mod Edits
+pub mod Checked
 pub mod NewPorts
 pub mod Replays
 pub mod Records

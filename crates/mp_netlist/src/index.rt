@@ -8,13 +8,15 @@ ghost use Rattle.indexmap.specs.IndexMap.{get};
 use indexmap::IndexMap;
 use mp_records::Name;
 use std::alloc::{AllocError, Global};
+use std::hash::RandomState;
 use std::sync::Arc;
 
-/// Numbers by name. What a copy gets is kept beside the numbers that it shares with others.
+/// Numbers by name. Names are hashed by keys that no author of names knows. What a copy gets is kept beside the numbers that it shares with others.
 #[derive(Drop)]
 pub struct Index {
-    first: Option<Arc<IndexMap<Name, u32>, Global>>,
-    numbers: Option<Arc<IndexMap<Name, u32>, Global>>,
+    keys: RandomState,
+    first: Option<Arc<IndexMap<Name, u32, RandomState>, Global>>,
+    numbers: Option<Arc<IndexMap<Name, u32, RandomState>, Global>>,
 }
 
 impl Index {
@@ -23,29 +25,36 @@ impl Index {
     ghost use Rattle.mp_netlist.specs.Indexes.{number_in};
 
     /// An index without names.
-    pub fn new() -> Index
+    pub fn new(keys: RandomState) -> Index
         ensures { (name : List ℕ) → number_in result name ≡ None }
     {
         Index {
+            keys,
             first: None,
             numbers: None,
         }
     }
 
     /// An index without names. It has room for this number of names, if there is memory for it.
-    pub fn with_room(alloc: Global, room: usize) -> Index
+    pub fn with_room(alloc: Global, keys: RandomState, room: usize) -> Index
         ensures { (name : List ℕ) → number_in result name ≡ None }
     {
         if room == 0 {
-            return Index::new();
+            return Index::new(keys);
         }
-        match empty_map(alloc, room) {
+        match empty_map(alloc, keys, room) {
             Ok(numbers) => Index {
+                keys,
                 first: None,
                 numbers: Some(numbers),
             },
-            Err(_) => Index::new(),
+            Err(_) => Index::new(keys),
         }
+    }
+
+    /// The keys by which names are hashed.
+    pub fn keys(&self) -> RandomState {
+        self.keys
     }
 
     /// The number of this name.
@@ -66,7 +75,7 @@ impl Index {
         let key = name.clone()?;
         match &mut self.numbers {
             Some(shared) => insert_shared(shared, key, number)?,
-            None => self.numbers = Some(only(alloc, key, number)?),
+            None => self.numbers = Some(only(alloc, self.keys, key, number)?),
         }
         Ok(())
     }
@@ -77,10 +86,12 @@ impl Index {
     {
         match &self.first {
             Some(_) => Ok(Index {
+                keys: self.keys,
                 first: shared(&self.first)?,
                 numbers: shared(&self.numbers)?,
             }),
             None => Ok(Index {
+                keys: self.keys,
                 first: shared(&self.numbers)?,
                 numbers: None,
             }),
@@ -89,7 +100,10 @@ impl Index {
 }
 
 /// The number of a name among shared numbers, if there are any.
-fn number_of(numbers: &Option<Arc<IndexMap<Name, u32>, Global>>, name: &Name) -> Option<u32>
+fn number_of(
+    numbers: &Option<Arc<IndexMap<Name, u32, RandomState>, Global>>,
+    name: &Name,
+) -> Option<u32>
     ensures { result ≡ option_and_then (λ shared. get bytes_eq (arc_value shared) name.now) numbers.now }
 {
     match numbers {
@@ -100,8 +114,8 @@ fn number_of(numbers: &Option<Arc<IndexMap<Name, u32>, Global>>, name: &Name) ->
 
 /// The same numbers once more, with no name copied.
 fn shared(
-    numbers: &Option<Arc<IndexMap<Name, u32>, Global>>,
-) -> Result<Option<Arc<IndexMap<Name, u32>, Global>>, AllocError>
+    numbers: &Option<Arc<IndexMap<Name, u32, RandomState>, Global>>,
+) -> Result<Option<Arc<IndexMap<Name, u32, RandomState>, Global>>, AllocError>
     ensures { IfOk result (λ same. option_map arc_value same ≡ option_map arc_value numbers.now) }
 {
     match numbers {
@@ -111,15 +125,20 @@ fn shared(
 }
 
 /// An empty map with room for this number of names.
-fn empty_map(alloc: Global, room: usize) -> Result<Arc<IndexMap<Name, u32>, Global>, AllocError>
+fn empty_map(
+    alloc: Global,
+    keys: RandomState,
+    room: usize,
+) -> Result<Arc<IndexMap<Name, u32, RandomState>, Global>, AllocError>
     ensures { IfOk result (λ shared. (name : List ℕ) → get bytes_eq (arc_value shared) name ≡ None) }
 {
-    Ok(Arc::new(alloc, IndexMap::with_capacity(alloc, room)?)?)
+    let numbers = IndexMap::with_capacity_and_hasher(alloc, room, keys)?;
+    Ok(Arc::new(alloc, numbers)?)
 }
 
 /// Sets the number of a name, in a copy if others share the index.
 fn insert_shared(
-    shared: &mut Arc<IndexMap<Name, u32>, Global>,
+    shared: &mut Arc<IndexMap<Name, u32, RandomState>, Global>,
     name: Name,
     number: u32,
 ) -> Result<(), AllocError>
@@ -133,12 +152,13 @@ fn insert_shared(
 /// The number of one name.
 fn only(
     alloc: Global,
+    keys: RandomState,
     name: Name,
     number: u32,
-) -> Result<Arc<IndexMap<Name, u32>, Global>, AllocError>
+) -> Result<Arc<IndexMap<Name, u32, RandomState>, Global>, AllocError>
     ensures { IfOk result (λ shared. (other : List ℕ) → get bytes_eq (arc_value shared) other ≡ cond (bytes_eq name other) (Some number) None) }
 {
-    let mut numbers = IndexMap::new(alloc);
+    let mut numbers = IndexMap::with_hasher(alloc, keys);
     numbers.insert(name, number)?;
     Ok(Arc::new(alloc, numbers)?)
 }

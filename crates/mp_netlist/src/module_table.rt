@@ -11,6 +11,7 @@ use crate::table::{Change, Table};
 use crate::wire_knowledge::WireKnowledge;
 use mp_records::{ModuleRecord, Name, WireId};
 use std::alloc::{AllocError, Global};
+use std::hash::RandomState;
 use std::marker::Model;
 
 /// Modules by number, from 0 in the order of adding, and by name, with what is known of the wires that they are at, and their least delay. A copy knows
@@ -47,7 +48,7 @@ impl ModuleTable {
     ghost use Rattle.mp_netlist.specs.Tables.{KeepsNames};
 
     /// An empty table. It has room for this number of modules, and as many wires, if there is memory for it.
-    pub fn with_room(alloc: Global, room: usize) -> ModuleTable
+    pub fn with_room(alloc: Global, keys: RandomState, room: usize) -> ModuleTable
         ensures { result ≡ [] }
     {
         let driven = match Vec::with_capacity(alloc, room) {
@@ -55,7 +56,7 @@ impl ModuleTable {
             Err(_) => Vec::new(alloc),
         };
         ModuleTable {
-            table: Table::with_room(alloc, room),
+            table: Table::with_room(alloc, keys, room),
             known: WireKnowledge::Driven(driven),
             least: LeastDelay::none(),
         }

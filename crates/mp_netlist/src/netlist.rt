@@ -2,13 +2,14 @@
 mod apply;
 mod batches;
 mod check;
+mod check_ports;
+mod checked;
 mod copies;
 mod delays;
 mod drivers;
 mod names;
 mod new_ports;
 mod ports;
-mod readers;
 mod uses;
 mod widths;
 
@@ -18,6 +19,7 @@ use crate::new_error::NewError;
 use crate::table::Table;
 use mp_records::{BundleId, BundleRecord, ModuleId, ModuleRecord, WireId, WireRecord};
 use std::alloc::Global;
+use std::hash::RandomState;
 use std::marker::Model;
 
 /// The longest delay of a port, in units.
@@ -29,7 +31,8 @@ pub const MAX_SETUP: u64 = 65535;
 /// The greatest number of edits of a batch.
 pub const MAX_BATCH: usize = 256;
 
-/// Wires, modules and bundles by number, with a horizon and a format that limits how many there may be.
+/// Wires, modules and bundles by number, with a horizon and a format that limits how many there may be. Names are hashed by keys that a netlist is
+/// given when it is made, and its copies have them.
 #[derive(Drop)]
 pub struct Netlist {
     format: Format,
@@ -58,18 +61,25 @@ impl Netlist {
     ghost use Rattle.mp_netlist.specs.Limits.{max_horizon, max_wires, max_modules, max_bundles, horizon_limit};
     ghost use Rattle.mp_netlist.specs.Circuit.{IsCircuit, IsWire, IsModule, IsBundle, empty_circuit, wire_at, module_at, bundle_at, wire_named, module_named, bundle_named};
 
-    /// An empty netlist of this format and horizon. `BadHorizon` comes exactly if the horizon isn't 1 to the longest of the format.
-    pub fn empty(alloc: Global, format: Format, horizon: u64) -> Result<Netlist, NewError>
+    /// An empty netlist of this format and horizon. Whoever reads names that others chose takes the keys from the runtime, by `RandomState::new`:
+    /// then nobody can choose names that have one hash. `BadHorizon` comes exactly if the horizon isn't 1 to the longest of the format.
+    pub fn empty(
+        alloc: Global,
+        keys: RandomState,
+        format: Format,
+        horizon: u64,
+    ) -> Result<Netlist, NewError>
         ensures ok { IfOk result (λ netlist. netlist ≡ empty_circuit format horizon) }
         ensures allowed { IsOk result ↔ ((1 ≤ horizon) × (horizon ≤ horizon_limit format)) }
         ensures refused { IfErr result (λ error. error ≡ BadHorizon) }
     {
-        Netlist::with_room(alloc, format, horizon, 0)
+        Netlist::with_room(alloc, keys, format, horizon, 0)
     }
 
     /// An empty netlist, as `empty` returns it. It has room for this number of wires and as many modules, if there is memory for it.
     pub fn with_room(
         alloc: Global,
+        keys: RandomState,
         format: Format,
         horizon: u64,
         room: usize,
@@ -84,10 +94,15 @@ impl Netlist {
         Ok(Netlist {
             format,
             horizon: horizon as u32,
-            wires: Table::with_room(alloc, room),
-            modules: ModuleTable::with_room(alloc, room),
-            bundles: Table::new(alloc),
+            wires: Table::with_room(alloc, keys, room),
+            modules: ModuleTable::with_room(alloc, keys, room),
+            bundles: Table::new(alloc, keys),
         })
+    }
+
+    /// The keys by which names are hashed, for another netlist of the same run.
+    pub fn keys(&self) -> RandomState {
+        self.bundles.keys()
     }
 
     /// The format, which limits how large it may get.

@@ -6,6 +6,7 @@ use crate::index::Index;
 use crate::slots::Slots;
 use mp_records::Name;
 use std::alloc::{AllocError, Global};
+use std::hash::RandomState;
 use std::marker::Model;
 
 /// Where a name is looked for around a number, the likeliest place first: 1 above, here, 1 below, 2 above, and so on.
@@ -71,25 +72,25 @@ impl<R: Named> Table<R> {
     ghost use Rattle.mp_netlist.specs.Tables.{KeepsNames};
 
     /// An empty table.
-    pub fn new(alloc: Global) -> Table<R>
+    pub fn new(alloc: Global, keys: RandomState) -> Table<R>
         ensures { result ≡ [] }
     {
         Table {
             slots: Slots::new(alloc),
-            index: Index::new(),
+            index: Index::new(keys),
         }
     }
 
     /// An empty table. It has room for this number of things, if there is memory for it.
-    pub fn with_room(alloc: Global, room: usize) -> Table<R>
+    pub fn with_room(alloc: Global, keys: RandomState, room: usize) -> Table<R>
         ensures { result ≡ [] }
     {
         match Slots::with_room(alloc, room) {
             Ok(slots) => Table {
                 slots,
-                index: Index::with_room(alloc, room),
+                index: Index::with_room(alloc, keys, room),
             },
-            Err(_) => Table::new(alloc),
+            Err(_) => Table::new(alloc, keys),
         }
     }
 
@@ -208,6 +209,11 @@ impl<R: Named> Table<R> {
         ensures few { result ≤ 2 ^ 32 }
     {
         self.slots.len()
+    }
+
+    /// The keys by which names are hashed.
+    pub fn keys(&self) -> RandomState {
+        self.index.keys()
     }
 
     /// The allocator of its memory.

@@ -2,7 +2,6 @@
 ghost use Rattle.std.specs.Prelude.{◌≡◌};
 
 use crate::single_edit::SingleEdit;
-use std::alloc::AllocError;
 use std::marker::Model;
 
 /// Edits that are made one after the other, as one edit. A batch may have any number of them; a netlist refuses a batch with none or too many.
@@ -18,16 +17,6 @@ impl Model for Batch {
     ghost Value = { List SingleEdit };
 
     ghost view = { λ batch. batch.edits.items };
-}
-
-impl Clone for Batch {
-    ghost is_clone = { λ old new. new ≡ old };
-
-    fn clone(&self) -> Result<Self, AllocError> {
-        Ok(Batch {
-            edits: Vec::from_clones(*self.edits.allocator(), self.edits.as_slice())?,
-        })
-    }
 }
 
 impl Batch {

@@ -5,7 +5,7 @@ use std::alloc::{AllocError, Global};
 use std::marker::Model;
 use std::sync::Arc;
 
-/// A value in a block of memory of its own, so that the owner stays small. Clones share the block. Contracts see the value.
+/// A value in a block of memory of its own, so that the owner stays small. Contracts see the value.
 #[derive(Drop)]
 pub struct Boxed<T> {
     inner: Arc<T, Global>,
@@ -19,16 +19,6 @@ impl<T> Model for Boxed<T> {
     ghost coded = { T.code };
 
     ghost view = { λ boxed. arc_value boxed.inner };
-}
-
-impl<T: Drop> Clone for Boxed<T> {
-    ghost is_clone = { λ old new. new ≡ old };
-
-    fn clone(&self) -> Result<Self, AllocError> {
-        Ok(Boxed {
-            inner: Arc::try_clone(&self.inner)?,
-        })
-    }
 }
 
 impl<T: Drop> Boxed<T> {

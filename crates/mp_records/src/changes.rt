@@ -21,16 +21,6 @@ impl Model for Changes {
     ghost view = { λ changes. changes.pairs.items };
 }
 
-impl Clone for Changes {
-    ghost is_clone = { λ old new. new ≡ old };
-
-    fn clone(&self) -> Result<Self, AllocError> {
-        Ok(Changes {
-            pairs: Vec::from_slice(*self.pairs.allocator(), self.pairs.as_slice())?,
-        })
-    }
-}
-
 impl Changes {
     pub fn new(pairs: Vec<(u64, u64)>) -> Self
         ensures { result ≡ pairs.items }

@@ -7,7 +7,7 @@ use crate::new_module::NewModule;
 
 /// A change of one thing in a netlist. It names things by their present names. Its numbers may be out of range; then the edit is refused. A new
 /// module or bundle is kept in a block of its own, and so is the second name of an edit with two names, so that each edit is small.
-#[derive(Clone, Drop)]
+#[derive(Drop)]
 pub enum SingleEdit {
     /// Adds a wire of a new name, with a width in bits and an initial level.
     AddWire {

@@ -23,9 +23,9 @@ pub trait Occupant: Drop {
 
     /// Submits an edit, and tells how many were accepted so far, with this one. The error says why it isn't made. The clause `shared` says what
     /// the bound `Sync` says: in a trait the prover asks for both.
-    fn submit<R: Threads + Wait + Sync>(&mut self, rt: &R, edit: &Edit) -> Result<u32, Refusal>
+    fn submit<R: Threads + Wait + Sync>(&mut self, rt: &R, edit: Edit) -> Result<u32, Refusal>
         requires shared { IsSync R.row }
-        ensures { Submits edits result (seated self.old) (seated self.new) edit.now };
+        ensures { Submits edits result (seated self.old) (seated self.new) edit };
 
     /// Reads the newest version, and waits for nobody: it is the one that was seen last, or a later one. Its authors begin with those that were known.
     /// It is what is published then, never a version that was kept. The error comes if memory runs out: then the version that was seen last stays.

@@ -124,10 +124,10 @@ impl<B: ReplyWriter, G: Occupant> Seat<B, G> {
     fn put_change<R: Threads + Wait + Sync, T: Sink>(
         &mut self,
         rt: &R,
-        edit: &Edit,
+        edit: Edit,
         out: &mut Out<T>,
     ) -> Result<(), WriteError>
-        ensures { PutsEdit (signed_writing B.answer_text B.reply_text) G.edits result self.old self.new edit.now out.old out.new }
+        ensures { PutsEdit (signed_writing B.answer_text B.reply_text) G.edits result self.old self.new edit out.old out.new }
     {
         match self.guest.submit(rt, edit) {
             Ok(number) => self.scribe.put_reply(out, &Reply::Accepted(number)),
@@ -151,12 +151,8 @@ impl<B: ReplyWriter, G: Occupant> Seat<B, G> {
         }
         match read_line(self.alloc, line) {
             Ok(Line::Empty) => Ok(()),
+            Ok(Line::Change(edit)) => self.put_change(rt, edit, out),
             // dropped by a call: at the end of the match, the drop of each part would stand here
-            Ok(Line::Change(edit)) => {
-                let put = self.put_change(rt, &edit, out);
-                drop(edit);
-                put
-            }
             Ok(Line::Ask(question)) => {
                 let put = self.put_asked(rt, &question, out);
                 drop(question);

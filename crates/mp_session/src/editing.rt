@@ -22,11 +22,11 @@ impl EditSession for Session<OpenGate> {
         prepared.version()
     }
 
-    fn prepare<R: Threads + Wait + Sync>(
-        &self,
-        rt: &R,
-        edit: &Edit,
-    ) -> Result<Prepared, EditError> {
+    fn edit(prepared: &Prepared) -> &Edit {
+        prepared.edit()
+    }
+
+    fn prepare<R: Threads + Wait + Sync>(&self, rt: &R, edit: Edit) -> Result<Prepared, EditError> {
         Session::prepare(self, rt, edit)
     }
 

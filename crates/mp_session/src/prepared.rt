@@ -51,6 +51,13 @@ impl Prepared {
         before.is_same_as(present)
     }
 
+    /// The edit.
+    pub fn edit(&self) -> &Edit
+        ensures { result.now ≡ self.now.edit }
+    {
+        &self.edit
+    }
+
     /// The version to which the edit leads.
     pub fn version(&self) -> &Arc<Version, Global>
         ensures { arc_value result.now ≡ story_after self.now }

@@ -103,22 +103,27 @@ impl<G: Gate> Session<G> {
     }
 
     /// Judges the edit after the session's edits, and makes all that its commit needs. It is refused for the first check that it fails; otherwise as
-    /// `HistoryFull` after `MAX_EDITS` edits; otherwise for lack of memory, which for a batch of 1 to 256 edits may come in place of the others. It
-    /// may wait, as a gate may.
+    /// `HistoryFull` after `MAX_EDITS` edits; otherwise for lack of memory, which for a batch of 1 to 256 edits may come in place of the others. The
+    /// edit is kept, and not copied. It may wait, as a gate may.
     pub fn prepare<R: Threads + Wait + Sync>(
         &self,
         rt: &R,
-        edit: &Edit,
+        edit: Edit,
     ) -> Result<Prepared, EditError>
     where
         G: Sync,
         ensures fits { IfOk result (λ prepared. prepared.before ≡ self.now.story) }
-        ensures edit { IfOk result (λ prepared. prepared.edit ≡ edit.now) }
-        ensures accepted { OnOk result (judged self.now.story edit.now ≡ Ok (present (one_more self.now.story edit.now))) }
-        ensures refused { IfErr result (RefusedBy edit.now (judged self.now.story edit.now)) }
+        ensures edit { IfOk result (λ prepared. prepared.edit ≡ edit) }
+        ensures accepted { OnOk result (judged self.now.story edit ≡ Ok (present (one_more self.now.story edit))) }
+        ensures refused { IfErr result (RefusedBy edit (judged self.now.story edit)) }
     {
-        let next = self.next(edit)?;
-        Ok(self.prepared_copy(rt, edit, next)?)
+        match self.next(&edit) {
+            Ok(next) => Ok(self.prepared(rt, edit, next)?),
+            Err(error) => {
+                drop(edit);
+                Err(error)
+            }
+        }
     }
 
     /// Makes the prepared edit, whose work is then the last: all that the change has to evaluate again, in order. It takes no memory and waits
@@ -141,22 +146,7 @@ impl<G: Gate> Session<G> {
     }
 
     /// Prepares the edit and makes it. A refused edit changes nothing.
-    pub fn apply<R: Threads + Wait + Sync>(&mut self, rt: &R, edit: &Edit) -> Result<(), EditError>
-    where
-        G: Sync,
-        ensures story { OnOk result (self.new.story ≡ one_more self.old.story edit.now) }
-        ensures accepted { OnOk result (judged self.old.story edit.now ≡ Ok (present self.new.story)) }
-        ensures work { OnOk result (IsWork (present self.old.story) (present self.new.story) self.new.last_work) }
-        ensures refused { IfErr result (RefusedBy edit.now (judged self.old.story edit.now)) }
-        ensures err { OnErr result (self.new ≡ self.old) }
-    {
-        let prepared = self.prepare(rt, edit)?;
-        self.commit(prepared);
-        Ok(())
-    }
-
-    /// Makes the edit as `apply` does, and keeps it in place of a copy.
-    pub fn take<R: Threads + Wait + Sync>(&mut self, rt: &R, edit: Edit) -> Result<(), EditError>
+    pub fn apply<R: Threads + Wait + Sync>(&mut self, rt: &R, edit: Edit) -> Result<(), EditError>
     where
         G: Sync,
         ensures story { OnOk result (self.new.story ≡ one_more self.old.story edit) }
@@ -165,15 +155,8 @@ impl<G: Gate> Session<G> {
         ensures refused { IfErr result (RefusedBy edit (judged self.old.story edit)) }
         ensures err { OnErr result (self.new ≡ self.old) }
     {
-        let next = match self.next(&edit) {
-            Ok(next) => next,
-            Err(error) => {
-                drop(edit);
-                return Err(error);
-            }
-        };
-        let taken = self.prepared(rt, edit, next)?;
-        self.commit(taken);
+        let prepared = self.prepare(rt, edit)?;
+        self.commit(prepared);
         Ok(())
     }
 
@@ -207,28 +190,6 @@ impl<G: Gate> Session<G> {
                 Err(error) => error,
             },
         }
-    }
-
-    /// A copy of the edit with the version of the netlist after it.
-    fn prepared_copy<R: Threads + Wait + Sync>(
-        &self,
-        rt: &R,
-        edit: &Edit,
-        next: Netlist,
-    ) -> Result<Prepared, AllocError>
-    where
-        G: Sync,
-        requires accepted { after (present self.now.story) edit.now ≡ Ok next }
-        requires room { length self.now.story.edits < max_edits }
-        ensures fits { IfOk result (λ prepared. prepared.before ≡ self.now.story) }
-        ensures edit { IfOk result (λ prepared. prepared.edit ≡ edit.now) }
-        ensures next { OnOk result (present (one_more self.now.story edit.now) ≡ next) }
-    {
-        let Ok(copy) = edit.copy() else {
-            drop(next);
-            return Err(AllocError);
-        };
-        self.prepared(rt, copy, next)
     }
 
     /// The edit with the version of the netlist after it.

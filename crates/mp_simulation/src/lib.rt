@@ -11,6 +11,6 @@ pub mod units;
 pub use bits::{DelayedCopies, Simulation, Simulator};
 pub use run::{
     HeardChanges, Layout, Stimuli, StimulusChange, WavesRun, WiredInputs, Wiring, all_outputs,
-    begin, data_module, found_waves, is_narrow,
+    begin, data_module, found_waves, is_narrow, is_seen_at_rest,
 };
 pub use units::{DataModules, DataWires, NetlistSimulation};

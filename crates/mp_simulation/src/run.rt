@@ -21,5 +21,5 @@ pub use narrow::is_narrow;
 pub use seating::data_module;
 pub use settling::all_outputs;
 pub use stimuli::{HeardChanges, Stimuli, StimulusChange};
-pub use waves_run::WavesRun;
+pub use waves_run::{WavesRun, is_seen_at_rest};
 pub use wiring::{WiredInputs, Wiring};

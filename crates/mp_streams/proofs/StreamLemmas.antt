@@ -1,6 +1,8 @@
 -- Known bytes over several calls.
-use Rattle.std.proofs.Common.{◌≡◌, ℕ, ◌-◌, ◌<◌, ◌≤◌, ◌⊎◌, inl, inr, IfSome, List, ◌++◌, length, take, drop, Option, None, Some, Result, Ok, Err, OnErr, sym, ap, ◌∙◌, arith, rules}
+use Rattle.std.proofs.Common.{◌≡◌, ℕ, ◌+◌, ◌-◌, ◌<◌, ◌≤◌, ◌⊎◌, inl, inr, IfSome, List, ◌++◌, length, take, drop, Option, None, Some, Result, Ok, Err, OnErr, sym, ap, ◌∙◌, arith, rules}
 use Rattle.std.specs.Io.KnownBytes.{Consumes, IsAtEnd}
+use Rattle.std.proofs.KnownBytes.{Consumes-trans}
+use Rattle.mp_streams.specs.StreamBytes.{ConsumesUpTo}
 use Rattle.std.proofs.lemmas.Bool.{cases_lt}
 use Rattle.std.proofs.lemmas.List.{append-nil, take_all, length-append, length-take-le}
 use Rattle.std.proofs.Math.Seq.{take-append_seam}
@@ -27,3 +29,17 @@ within_after text room count limit some most within = rw (length-append text (ta
 pub on_err : {T E P : Type 0} (r : Result T E) → P → OnErr r P
 on_err (Ok value) holds = tt
 on_err (Err error) holds = holds
+
+-- some bytes were taken, and so many more may be
+pub record IsTaken (most left : ℕ) (old new : Option (List ℕ)) (before after : List ℕ) : Type 0 where
+  pub bytes : List ℕ
+  pub text : after ≡ before ++ bytes
+  pub taken : Consumes old new bytes
+  pub rest : length bytes + left ≡ most
+
+-- then so are some bytes more
+pub taken_within : (most left : ℕ) (old mid new : Option (List ℕ)) (before after room : List ℕ) (count : ℕ) → IsTaken most left old mid before after → count ≤ length room → length room ≤ left
+    → Consumes mid new (take count room) → ConsumesUpTo most old new
+taken_within most left old mid new before after room count so_far some low more =
+    let rest = so_far.rest in
+    (so_far.bytes ++ take count room, within_after so_far.bytes room count most some (omega (arith, rest, low)) (omega (arith, rest)), Consumes-trans old mid new so_far.bytes (take count room) so_far.taken more)

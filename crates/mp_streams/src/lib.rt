@@ -22,7 +22,7 @@ pub use read_source::ReadSource;
 pub use sink::Sink;
 pub use source::Source;
 pub use take_error::TakeError;
-pub use taking::take_all;
+pub use taking::{take_all, take_more};
 pub use text::Text;
 pub use write_error::WriteError;
 pub use write_sink::WriteSink;

@@ -1,7 +1,7 @@
 //! Takes all that a source has.
-ghost use Rattle.std.specs.Prelude.{◌≡◌, ◌-◌, ◌^◌, ◌<◌, ◌≤◌, length, take, IfOk, IfSome, OnErr};
+ghost use Rattle.std.specs.Prelude.{◌≡◌, ◌<◌, ◌≤◌, length, take, IfOk, IfSome, OnOk, OnErr};
 ghost use Rattle.std.specs.Io.KnownBytes.{Consumes, IsAtEnd};
-ghost use Rattle.mp_streams.specs.StreamBytes.{ConsumesUpTo};
+ghost use Rattle.mp_streams.specs.StreamBytes.{ConsumesUpTo, TakesMore};
 ghost use Rattle.mp_streams.specs.TakeErrors.{counted_take};
 
 use crate::source::Source;
@@ -24,14 +24,30 @@ pub fn take_all<S: Source>(
     ensures faults { S.fault_count source.new ≡ counted_take result (S.fault_count source.old) }
 {
     let mut text = Vec::new(alloc);
+    take_more(source, &mut text, limit)?;
+    Ok(text)
+}
+
+/// Appends all bytes that are left, up to so many. The errors are those of `take_all`; the text may have some more bytes then.
+pub fn take_more<S: Source>(
+    source: &mut S,
+    text: &mut Vec<u8>,
+    most: usize,
+) -> Result<(), TakeError>
+    ensures more { OnOk result (TakesMore most (S.left source.old) (S.left source.new) text.old.items text.new.items) }
+    ensures err { OnErr result (ConsumesUpTo most (S.left source.old) (S.left source.new)) }
+    ensures faults { S.fault_count source.new ≡ counted_take result (S.fault_count source.old) }
+{
     let mut room = [0; 4096];
-    while text.len() < limit {
-        let most = room.len().min(limit - text.len());
-        let count = source.take(&mut room[..most])?;
+    let mut left = most;
+    while left > 0 {
+        let size = room.len().min(left);
+        let count = source.take(&mut room[..size])?;
         if count == 0 {
             break;
         }
         text.extend_from_slice(&room[..count])?;
+        left -= count;
     }
-    Ok(text)
+    Ok(())
 }

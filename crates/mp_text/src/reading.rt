@@ -10,12 +10,14 @@ use crate::text_size::text_limit;
 use crate::text_state::TextState;
 use mp_netlist::Netlist;
 use std::alloc::Global;
+use std::hash::RandomState;
 
 /// The bytes of text for which there is room for a wire and a module, before the text is read. Few texts have more wires or modules.
 const BYTES_OF_A_MODULE: usize = 64;
 
 /// Reads a netlist from a text of statements, one on each line: the empty netlist of the statement `horizon`, after the edits of the statements
-/// `wire`, `module`, `stim` and `bundle` in turn. A statement `format` may come first.
+/// `wire`, `module`, `stim` and `bundle` in turn. A statement `format` may come first. The netlist hashes its names by these keys: for a text that
+/// others wrote they come from the runtime.
 ///
 /// The error is the first line that fails, counted from 1, with its first fault: a byte that isn't allowed, even in a comment (`NotAscii`); a first
 /// word that isn't a statement (`UnknownStatement`); a `format` that is not on the first line with words (`BadFormat`), a second `horizon`
@@ -25,7 +27,7 @@ const BYTES_OF_A_MODULE: usize = 64;
 /// (`Refused`). `TooLong` with line 0 comes for a text that is longer than its format allows, and `NoHorizon` with the number of lines for one
 /// without a horizon. `OutOfMemory` comes with the line at which memory ran out, which isn't after the first line that fails.
 #[tactic(auto, using(crate::proofs::TextLemmas::text_over, crate::proofs::TextLemmas::text_within))]
-pub fn read_netlist(alloc: Global, text: &[u8]) -> Result<Netlist, TextError>
+pub fn read_netlist(alloc: Global, keys: RandomState, text: &[u8]) -> Result<Netlist, TextError>
     ensures read { GivesText result (text_at text.now) }
     ensures reached { IfErr result (IsReached text.now) }
 {
@@ -36,12 +38,12 @@ pub fn read_netlist(alloc: Global, text: &[u8]) -> Result<Netlist, TextError>
             code: TextCode::TooLong,
         });
     }
-    read_lines(alloc, text)
+    read_lines(alloc, keys, text)
 }
 
 /// Reads a netlist as `read_netlist` does, from a text that may be as long as one of any format.
 #[tactic(auto, using(crate::proofs::TextLemmas::reading_read_lines_steps))]
-pub fn read_lines(alloc: Global, text: &[u8]) -> Result<Netlist, TextError>
+pub fn read_lines(alloc: Global, keys: RandomState, text: &[u8]) -> Result<Netlist, TextError>
     requires { length text.now ≤ max_text }
     ensures read { GivesText result (after_lines 0 Fresh (lines_of text.now)) }
     ensures reached { IfErr result (IsReachedIn text.now (after_lines 0 Fresh (lines_of text.now))) }
@@ -54,7 +56,7 @@ pub fn read_lines(alloc: Global, text: &[u8]) -> Result<Netlist, TextError>
     while !rest.is_empty() {
         let (front, others) = first_line(rest);
         number += 1;
-        match line(alloc, &mut state, &mut words, front, room) {
+        match line(alloc, keys, &mut state, &mut words, front, room) {
             Ok(()) => rest = others,
             Err(code) => {
                 drop(state);

@@ -12,13 +12,15 @@ use crate::text_format::TextFormat;
 use crate::text_state::TextState;
 use mp_netlist::{Edit, EditError, Netlist, NewError};
 use std::alloc::Global;
+use std::hash::RandomState;
 use std::mem;
 
 /// Applies a line to the state of the text so far. `words` is reused from line to line. The state is lent and not passed by value, since its owner
-/// would have to drop it at each place that reports a fault. A netlist that begins here has room for `room` wires and as many modules, if there is
-/// memory for it.
+/// would have to drop it at each place that reports a fault. A netlist that begins here hashes names by these keys, and has room for `room` wires and
+/// as many modules, if there is memory for it.
 pub fn line<'a>(
     alloc: Global,
+    keys: RandomState,
     state: &mut TextState,
     words: &mut Vec<&'a [u8]>,
     line: &'a [u8],
@@ -27,12 +29,13 @@ pub fn line<'a>(
     ensures { Gives (Line OutOfMemory) (λ _. state.new) result (after_line state.old line.now) }
 {
     read_line_words(words, line)?;
-    statement(alloc, state, words.as_slice(), room)
+    statement(alloc, keys, state, words.as_slice(), room)
 }
 
 /// Applies the words of a line to the state of the text so far.
 fn statement(
     alloc: Global,
+    keys: RandomState,
     state: &mut TextState,
     words: &[&[u8]],
     room: usize,
@@ -48,7 +51,7 @@ fn statement(
         return format(state, others);
     }
     if is_text(word, "horizon") {
-        return start(alloc, state, others, room);
+        return start(alloc, keys, state, others, room);
     }
     match EditWord::from_word(word) {
         Some(first) => change(alloc, state, first, others),
@@ -69,7 +72,13 @@ fn format(state: &mut TextState, words: &[&[u8]]) -> Result<(), TextCode>
 }
 
 /// Begins a netlist with the horizon that the words state.
-fn start(alloc: Global, state: &mut TextState, words: &[&[u8]], room: usize) -> Result<(), TextCode>
+fn start(
+    alloc: Global,
+    keys: RandomState,
+    state: &mut TextState,
+    words: &[&[u8]],
+    room: usize,
+) -> Result<(), TextCode>
     ensures { Gives (Line OutOfMemory) (λ _. state.new) result (after_statement state.old (Start (stated_number (texts words.now)))) }
 {
     let format = match state {
@@ -78,7 +87,7 @@ fn start(alloc: Global, state: &mut TextState, words: &[&[u8]], room: usize) -> 
         TextState::Open(_) => return Err(TextCode::SecondHorizon),
     };
     let horizon = stated_number(words)?;
-    let netlist = empty_netlist(alloc, format, horizon, room)?;
+    let netlist = empty_netlist(alloc, keys, format, horizon, room)?;
     set_state(state, TextState::Open(netlist));
     Ok(())
 }
@@ -94,6 +103,7 @@ fn set_state(state: &mut TextState, next: TextState)
 /// The empty netlist of a horizon that a text of this format may state.
 fn empty_netlist(
     alloc: Global,
+    keys: RandomState,
     format: TextFormat,
     horizon: u64,
     room: usize,
@@ -103,7 +113,7 @@ fn empty_netlist(
     if horizon < 1 || horizon > format.max_horizon() {
         return Err(TextCode::Line(LineError::BadNumber));
     }
-    match Netlist::with_room(alloc, format.netlist(), horizon, room) {
+    match Netlist::with_room(alloc, keys, format.netlist(), horizon, room) {
         Ok(netlist) => Ok(netlist),
         Err(NewError::BadHorizon) => Err(TextCode::Line(LineError::BadNumber)),
         Err(NewError::OutOfMemory) => Err(TextCode::Line(LineError::OutOfMemory)),
@@ -139,9 +149,7 @@ fn change(
         // a module needs no block of its own here, unlike an edit
         EditWord::Module => {
             let module = stated_module(alloc, words)?;
-            let ended = netlist.apply_module(&module);
-            drop(module);
-            told(ended)
+            told(netlist.apply_module(module))
         }
         _ => {
             let edit = Edit::Single(stated_edit(alloc, first, words)?);

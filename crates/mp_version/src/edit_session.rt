@@ -31,19 +31,23 @@ pub trait EditSession: Drop {
     fn next_version(prepared: &Self::Prepared) -> &Arc<Version>
         ensures { arc_value result.now ≡ story_after (step prepared.now) };
 
+    /// The edit that was prepared.
+    fn edit(prepared: &Self::Prepared) -> &Edit
+        ensures { result.now ≡ (step prepared.now).edit };
+
     /// Judges the edit after those that were accepted, and makes all that its commit needs. It is refused for the first check that it fails;
     /// otherwise as `HistoryFull` after `MAX_EDITS` edits; otherwise for lack of memory, which for a batch of 1 to 256 edits may come in place of the
     /// others. It may wait, as an evaluation may. The clause `shared` says what the bound `Sync` says: in a trait the prover asks for both.
     fn prepare<R: Threads + Wait + Sync>(
         &self,
         rt: &R,
-        edit: &Edit,
+        edit: Edit,
     ) -> Result<Self::Prepared, EditError>
         requires shared { IsSync R.row }
         ensures fits { IfOk result (λ prepared. (step prepared).before ≡ story self.now) }
-        ensures edit { IfOk result (λ prepared. (step prepared).edit ≡ edit.now) }
-        ensures accepted { IfOk result (λ prepared. judged (story self.now) edit.now ≡ Ok (present (story_after (step prepared)))) }
-        ensures refused { IfErr result (RefusedBy edit.now (judged (story self.now) edit.now)) };
+        ensures edit { IfOk result (λ prepared. (step prepared).edit ≡ edit) }
+        ensures accepted { IfOk result (λ prepared. judged (story self.now) edit ≡ Ok (present (story_after (step prepared)))) }
+        ensures refused { IfErr result (RefusedBy edit (judged (story self.now) edit)) };
 
     /// Makes the prepared edit. It takes no memory and waits for nobody.
     fn commit(&mut self, prepared: Self::Prepared)

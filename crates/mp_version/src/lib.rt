@@ -4,9 +4,7 @@
 
 mod edit_session;
 mod history;
-mod same;
-mod same_edit;
-mod same_record;
+mod same_netlist;
 mod same_version;
 mod version;
 

@@ -69,7 +69,12 @@ pub(crate) fn run_live_desk<R: Runtime + Threads + Wait + Sync + AllocGlobal, S:
     options: &Options,
     asked: AskedDesk<'_>,
 ) -> Result<u8, RunFault> {
-    let (netlist, crew) = read_opening(rt.alloc(), source, crew_of(options, asked.designers))?;
+    let (netlist, crew) = read_opening(
+        rt.alloc(),
+        options.keys,
+        source,
+        crew_of(options, asked.designers),
+    )?;
     let opening = Opening {
         netlist: &netlist,
         crew,

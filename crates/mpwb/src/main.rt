@@ -26,6 +26,7 @@ use mp_commands::{Options, Progress, RunFault, exit_status};
 use mp_request::{Command, CommandLine, Request, read_words, tell};
 use mp_streams::{ReadSource, Source};
 use std::env;
+use std::hash::RandomState;
 use std::io::{ErrorKind, IsTerminal};
 use std::process::ExitCode;
 use std::rt::Runtime;
@@ -44,7 +45,7 @@ fn main(rt: HostRuntime) -> ExitCode {
     }
 }
 
-/// Does what the command line asks for, and returns the status with which the program ends. Files are those of the host.
+/// Does what the command line asks for, and returns the status with which the program ends. Files and random numbers are those of the host.
 fn answer<R: Runtime + Threads + Wait + Sync + AllocGlobal>(
     files: &HostRuntime,
     rt: &R,
@@ -83,45 +84,59 @@ fn run_told<R: Runtime + Threads + Wait + Sync + AllocGlobal>(
     request: &Request<'_>,
     is_typed: bool,
 ) -> u8 {
+    let Ok(keys) = RandomState::new(files) else {
+        tell_fault(rt, &RunFault::ReadFailed, &[]);
+        return exit_status(&RunFault::ReadFailed);
+    };
     let progress = open_progress(files);
-    let options = options_of(request, progress.as_ref());
+    let options = options_of(request, keys, progress.as_ref());
     let Some(path) = request.file else {
-        return ended(rt, request, run_input(rt, request, &options));
+        return ended(rt, request, keys, run_input(rt, request, &options));
     };
     match open_file(rt, path) {
         Ok(file) => {
             let mut source = ReadSource::new(file);
             let run = run_file(files, rt, &mut source, request, &options, is_typed);
-            ended(rt, request, run)
+            ended(rt, request, keys, run)
         }
         Err(FileFault::Known(cause)) => {
             tell_unread(rt, path, cause);
             exit_status(&RunFault::ReadFailed)
         }
-        Err(FileFault::Run(fault)) => ended(rt, request, Err(fault)),
+        Err(FileFault::Run(fault)) => ended(rt, request, keys, Err(fault)),
     }
 }
 
 /// The exit status after a run. If the run has a fault, it is reported.
-fn ended<R: Runtime + AllocGlobal>(rt: &R, request: &Request<'_>, run: Result<u8, RunFault>) -> u8 {
+fn ended<R: Runtime + AllocGlobal>(
+    rt: &R,
+    request: &Request<'_>,
+    keys: RandomState,
+    run: Result<u8, RunFault>,
+) -> u8 {
     match run {
         Ok(status) => status,
         Err(fault) => {
             tell_fault(rt, &fault, request.names());
-            show_if_checked(rt, &fault, request);
+            show_if_checked(rt, &fault, request, keys);
             exit_status(&fault)
         }
     }
 }
 
 /// Shows the line of FILE at which its text isn't read, if it was to be checked.
-fn show_if_checked<R: Runtime + AllocGlobal>(rt: &R, fault: &RunFault, request: &Request<'_>) {
+fn show_if_checked<R: Runtime + AllocGlobal>(
+    rt: &R,
+    fault: &RunFault,
+    request: &Request<'_>,
+    keys: RandomState,
+) {
     if !matches!(request.command, Command::Check { .. }) {
         return;
     }
     if let RunFault::Text(error) = fault {
         if let Some(path) = request.file {
-            show_fault(rt, path, *error);
+            show_fault(rt, keys, path, *error);
         }
     }
 }
@@ -166,9 +181,14 @@ fn run_file<R: Runtime + Threads + Wait + Sync + AllocGlobal, S: Source>(
     }
 }
 
-/// The numbers of the request, and where the run writes how far it is.
-fn options_of<'a>(request: &Request<'_>, progress: Option<&'a Progress>) -> Options<'a> {
+/// The numbers of the request, the keys by which names are hashed, and where the run writes how far it is.
+fn options_of<'a>(
+    request: &Request<'_>,
+    keys: RandomState,
+    progress: Option<&'a Progress>,
+) -> Options<'a> {
     Options {
+        keys,
         workers: request.workers,
         least: request.least,
         viewers: request.viewers,

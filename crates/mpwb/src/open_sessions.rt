@@ -37,7 +37,7 @@ impl Sessions for OpenSessions {
         rt: &R,
         edit: Edit,
     ) -> Result<(), EditError> {
-        session.take(rt, edit)
+        session.apply(rt, edit)
     }
 
     fn meet<R: Threads + Wait + Sync>(

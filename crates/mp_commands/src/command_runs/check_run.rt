@@ -37,7 +37,7 @@ pub fn run_check<R: Threads + Wait + Sync, S: Source, T: Sink>(
     ensures read_faults { S.fault_count source.new ≡ counted_reads result (S.fault_count source.old) }
 {
     let names = asked.selection.names;
-    let (netlist, crew) = read_opening_at(alloc, source, options.crew(), names)?;
+    let (netlist, crew) = read_opening_at(alloc, options.keys, source, options.crew(), names)?;
     let progress = options.progress;
     let checked = check_netlist(rt, alloc, out, &netlist, Finders { crew, progress }, asked);
     // the run is over: all memory goes back to the system at once

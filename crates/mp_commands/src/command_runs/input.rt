@@ -3,7 +3,7 @@ ghost use Rattle.std.specs.Prelude.{◌≡◌, ◌+◌, ◌≤◌};
 ghost use Rattle.mp_commands.specs.command_runs.Clauses.{length, IfOk, IfErr, IfSome, counted_take, text_limit, max_input, taken_of, counted_reads, IsInput, StaysUnread, TakesInput};
 
 use crate::command_runs::run_fault::RunFault;
-use mp_streams::{Source, TakeError, take_all};
+use mp_streams::{Source, TakeError, take_all, take_more};
 use mp_text::{MAX_SHORT_TEXT, TextCode, TextError, text_limit};
 use std::alloc::Global;
 
@@ -42,7 +42,6 @@ fn take_input<S: Source>(alloc: Global, source: &mut S) -> Result<Vec<u8>, TakeE
     if input.len().min(limit) <= MAX_SHORT_TEXT {
         return Ok(input);
     }
-    let rest = take_all(alloc, source, limit - MAX_SHORT_TEXT)?;
-    input.extend_from_slice(rest.as_slice())?;
+    take_more(source, &mut input, limit - MAX_SHORT_TEXT)?;
     Ok(input)
 }

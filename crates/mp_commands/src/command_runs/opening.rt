@@ -10,11 +10,13 @@ use mp_phase::Crew;
 use mp_streams::Source;
 use mp_text::read_lines;
 use std::alloc::Global;
+use std::hash::RandomState;
 
 /// Reads the text of a netlist, all that the source has. `ReadFailed` comes if the source fails; then `Text` if the input is too long or the text is
 /// not read, `BadCount` if there is no crew, and `OutOfMemory` if memory runs out.
 pub fn read_opening<S: Source, C: Drop>(
     alloc: Global,
+    keys: RandomState,
     source: &mut S,
     crew: Option<C>,
 ) -> Result<(Netlist, C), RunFault>
@@ -25,12 +27,13 @@ pub fn read_opening<S: Source, C: Drop>(
     ensures read_faults { S.fault_count source.new ≡ counted_reads result (S.fault_count source.old) }
 {
     let input = read_input(alloc, source)?;
-    opened_input(alloc, input, crew)
+    opened_input(alloc, keys, input, crew)
 }
 
 /// Reads the text of a netlist as `read_opening`. Then `NoSuchPlace` comes for the first of the names that neither a module nor a bundle has.
 pub(crate) fn read_opening_at<S: Source>(
     alloc: Global,
+    keys: RandomState,
     source: &mut S,
     crew: Option<Crew>,
     names: &[Name],
@@ -41,7 +44,7 @@ pub(crate) fn read_opening_at<S: Source>(
     ensures taken { TakesInput (S.left source.old) (S.left source.new) }
     ensures read_faults { S.fault_count source.new ≡ counted_reads result (S.fault_count source.old) }
 {
-    let (netlist, crew) = read_opening(alloc, source, crew)?;
+    let (netlist, crew) = read_opening(alloc, keys, source, crew)?;
     match missing_place(&netlist, names) {
         None => Ok((netlist, crew)),
         Some(place) => {
@@ -54,6 +57,7 @@ pub(crate) fn read_opening_at<S: Source>(
 /// The netlist of a text, with a crew for it. If there is none `BadCount` comes, after the faults of the text.
 pub fn opened<C: Drop>(
     alloc: Global,
+    keys: RandomState,
     text: &[u8],
     crew: Option<C>,
 ) -> Result<(Netlist, C), RunFault>
@@ -62,7 +66,7 @@ pub fn opened<C: Drop>(
     ensures crew { IfOk result (λ both. crew ≡ Some both.1) }
     ensures refused { IfErr result (Refuses false (opening_of (lines_of text.now) (is_some crew))) }
 {
-    let netlist = read_lines(alloc, text)?;
+    let netlist = read_lines(alloc, keys, text)?;
     match crew {
         Some(crew) => Ok((netlist, crew)),
         None => {
@@ -75,6 +79,7 @@ pub fn opened<C: Drop>(
 /// The netlist of an input, with a crew for it, as `opened`. The input is let go, since a run wants the memory that it has.
 pub(crate) fn opened_input<C: Drop>(
     alloc: Global,
+    keys: RandomState,
     input: Vec<u8>,
     crew: Option<C>,
 ) -> Result<(Netlist, C), RunFault>
@@ -83,5 +88,5 @@ pub(crate) fn opened_input<C: Drop>(
     ensures crew { IfOk result (λ both. crew ≡ Some both.1) }
     ensures refused { IfErr result (Refuses false (opening_of (lines_of input.items) (is_some crew))) }
 {
-    opened(alloc, input.as_slice(), crew)
+    opened(alloc, keys, input.as_slice(), crew)
 }

@@ -3,10 +3,13 @@ ghost use Rattle.std.specs.Prelude.{◌≡◌};
 
 use mp_engine::Progress;
 use mp_phase::Crew;
+use std::hash::RandomState;
 
-/// The numbers that a run is given, and where it writes how far it is. Any number may be asked for.
+/// What a run is given: by which keys it hashes names, numbers, and where it writes how far it is. Any number may be asked for.
 #[derive(Clone, Copy)]
 pub struct Options<'a> {
+    /// The keys by which the netlist hashes names.
+    pub keys: RandomState,
     /// The number of threads: 1 to 16 are valid.
     pub workers: u32,
     /// The least number of modules for which several threads are used: 1 to 4,096 are valid.

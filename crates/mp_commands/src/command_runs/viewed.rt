@@ -54,7 +54,8 @@ impl<'a> InputCommand for Viewed<'a> {
         input: Vec<u8>,
         options: &Options,
     ) -> Result<(), RunFault> {
-        let (netlist, (view, crew)) = opened_input(alloc, input, self.crewed(options))?;
+        let viewed = self.crewed(options);
+        let (netlist, (view, crew)) = opened_input(alloc, options.keys, input, viewed)?;
         let progress = options.progress;
         let answered = answer_of(rt, alloc, out, &netlist, view, Finders { crew, progress });
         // the run is over: all memory goes back to the system at once

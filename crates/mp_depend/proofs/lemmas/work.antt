@@ -2,7 +2,6 @@ pub mod RevisionLemmas
 pub mod SameLemmas
 pub mod StayLemmas
 pub mod LevelLemmas
-pub mod MultipleLemmas
 pub mod WindowLemmas
 pub mod WorkLemmas
 pub mod EntryLemmas

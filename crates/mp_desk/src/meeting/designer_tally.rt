@@ -83,12 +83,8 @@ impl<L: DeskName> DesignerTally<L> {
     {
         match read_line(alloc, line) {
             Ok(Line::Empty) => Ok(()),
+            Ok(Line::Change(edit)) => self.take_edit(rt, desk, edit),
             // dropped by a call: at the end of the match, the drop of each part would stand here
-            Ok(Line::Change(edit)) => {
-                let taken = self.take_edit(rt, desk, &edit);
-                drop(edit);
-                taken
-            }
             Ok(Line::Ask(question)) => {
                 drop(question);
                 self.refused += 1;
@@ -107,10 +103,10 @@ impl<L: DeskName> DesignerTally<L> {
         &mut self,
         rt: &H,
         desk: &Desk<S, K, L, R>,
-        edit: &Edit,
+        edit: Edit,
     ) -> Result<u32, SubmitError>
-        ensures accepted { IfOk result (λ n. IsAccepted self.old self.new edit.now × (n ≡ self.new.told)) }
-        ensures refused { IfErr result (λ error. NotAccepted K.is_lost self.old.seen self.new.seen edit.now error) }
+        ensures accepted { IfOk result (λ n. IsAccepted self.old self.new edit × (n ≡ self.new.told)) }
+        ensures refused { IfErr result (λ error. NotAccepted K.is_lost self.old.seen self.new.seen edit error) }
         ensures same { OnErr result (self.new ≡ with_seen self.old self.new.seen self.new.signed self.new.reads) }
         ensures begins { OnErr result (IsPrefix self.old.signed self.new.signed) }
         ensures forward { OnErr result (Extends self.new.seen self.old.seen) }
@@ -145,10 +141,10 @@ impl<L: DeskName> DesignerTally<L> {
         &mut self,
         rt: &R,
         desk: &Desk<S, Unkept, L, R>,
-        edit: &Edit,
+        edit: Edit,
     ) -> Result<(), AllocError>
         requires { self.old.refused < 2 ^ 64 - 1 }
-        ensures { OnOk result (IsAccepted self.old self.new edit.now ⊎ IsRefused self.old self.new edit.now) }
+        ensures { OnOk result (IsAccepted self.old self.new edit ⊎ IsRefused self.old self.new edit) }
     {
         match self.submit(rt, desk, edit) {
             Ok(_) => Ok(()),

@@ -1,3 +1,4 @@
 pub mod StateHistoryLemmas
 pub mod RegionRunLemmas
+pub mod RestLemmas
 pub mod OwnStimuliLemmas

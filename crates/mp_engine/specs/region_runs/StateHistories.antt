@@ -47,6 +47,10 @@ abbrev pub IsHistory : Circuit → Bool → ℕ → ℕ → Option StateHistory 
 IsHistory n keeps b t None = keeps ≡ false
 IsHistory n keeps b t (Some h) = IsStateHistory n b t h
 
+-- no module has fired since the last border, where states are kept
+abbrev pub AllAreKept : Option StateHistory → Type 0
+AllAreKept history = IfSome history (λ h. h.list.items ≡ [])
+
 -- modules are marked where states are kept
 abbrev pub HasMarked : List ℕ → Option StateHistory → Option StateHistory → Type 0
 HasMarked numbers None None = Unit {0}

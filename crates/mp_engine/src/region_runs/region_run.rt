@@ -1,14 +1,15 @@
 //! The run of a part of a netlist on one thread.
-ghost use Rattle.std.specs.Prelude.{◌≡◌, ◌+◌, ◌-◌, ◌<◌, Bool, IfOk, OnOk, length, map, option_map};
+ghost use Rattle.std.specs.Prelude.{◌≡◌, ℕ, ◌+◌, ◌-◌, ◌<◌, ◌≤◌, Bool, IfOk, OnOk, length, map, option_map};
 ghost use Rattle.std.specs.Arc.{arc_value};
 ghost use Rattle.mp_netlist.specs.Circuit.{IsCircuit, module_at};
 ghost use Rattle.mp_records.specs.declared.module_record.ModuleRecord.{ModuleRecord as LonePart};
 ghost use Rattle.mp_simulation.specs.units.NetlistSimulations.{IsSimulated};
 ghost use Rattle.mp_phase.specs.Allowed.{IsOpen};
+ghost use Rattle.mp_partition.specs.runs.Checkpoints.{IsBorder};
 ghost use Rattle.mp_partition.specs.runs.Outcomes.{AreSlots};
 ghost use Rattle.mp_partition.specs.runs.Runs.{end_memory};
 ghost use Rattle.mp_model.specs.Waves.{AreWavesOf};
-ghost use Rattle.mp_engine.specs.region_runs.StateHistories.{kept_of, HasHistory, HasMarked, IsHistory};
+ghost use Rattle.mp_engine.specs.region_runs.StateHistories.{kept_of, AllAreKept, HasHistory, HasMarked, IsHistory};
 
 use crate::region_runs::gate::{pass_all, pass_gate};
 use crate::region_runs::state_history::StateHistory;
@@ -17,7 +18,9 @@ use mp_modules::Memory;
 use mp_netlist::{ModuleId, Netlist};
 use mp_partition::{Checkpoints, PartRun, Region};
 use mp_phase::Gate;
-use mp_simulation::{HeardChanges, NetlistSimulation, Stimuli, StimulusChange, begin, found_waves};
+use mp_simulation::{
+    HeardChanges, NetlistSimulation, Stimuli, StimulusChange, begin, found_waves, is_seen_at_rest,
+};
 use std::alloc::{AllocError, Global};
 use std::sync::{Arc, Wait};
 
@@ -92,10 +95,34 @@ impl RegionRun {
             IsUnderWay region.now keeps is_heard (to - 1) until self.new) }
     {
         let mut fired = 0usize;
-        for time in from..to {
+        let mut time = from;
+        while time < to {
             fired = fired.saturating_add(self.run_unit(rt, region, gate, time)?);
+            time = self.unit_after(region, time, to);
         }
         Ok(fired)
+    }
+
+    /// The unit to run after this one, or the end: the next unit, or, if the simulation is seen at rest, that of the next change from outside, or one
+    /// before which states have to be kept.
+    #[inline(always)]
+    fn unit_after(&self, region: &Region<'_>, time: u32, to: u32) -> u32
+        requires time { time < to }
+        requires within { to ≤ region.now.horizon }
+        requires before { CanRun region.now time to self.now }
+        ensures later { time < result }
+        ensures most { result ≤ to }
+        ensures after { (keeps : Bool) (is_heard : ℕ → Bool) (until : ℕ) → to ≤ until → IsUnderWay region.now keeps is_heard time until self.now →
+            IsUnderWay region.now keeps is_heard (result - 1) until self.now }
+    {
+        if !is_seen_at_rest(&self.simulation, time) {
+            return time + 1;
+        }
+        let _horizon = region.horizon();
+        let set = self.stimuli.unit_after(time, true, to);
+        let heard = self.heard.unit_after(time, to);
+        set.min(heard)
+            .min(next_kept(&self.history, region, time, to))
     }
 
     /// Runs a unit, and gives how many modules fired. Each passes the gate before.
@@ -190,6 +217,20 @@ fn pass_history(
         kept.pass(region, simulation, time)?;
     }
     Ok(())
+}
+
+/// The next unit before which states have to be kept, if nothing fires before it, or the end.
+fn next_kept(history: &Option<StateHistory>, region: &Region<'_>, time: u32, to: u32) -> u32
+    requires time { time < to }
+    requires within { to ≤ region.now.horizon }
+    ensures later { time < result }
+    ensures most { result ≤ to }
+    ensures passed { (b : ℕ) → time < b → b < result → IsBorder region.now.horizon b → AllAreKept history.now }
+{
+    match history {
+        Some(kept) => kept.next_border(region, time, to),
+        None => to,
+    }
 }
 
 /// These modules, by number, are to fire: they are marked if states are kept.

@@ -21,9 +21,10 @@ pub(crate) struct StateHistory {
 }
 
 impl StateHistory {
-    ghost use Rattle.std.specs.Prelude.{◌≡◌, ◌+◌, ◌-◌, ◌<◌, IfOk, OnOk};
+    ghost use Rattle.std.specs.Prelude.{◌≡◌, ℕ, ◌+◌, ◌-◌, ◌<◌, ◌≤◌, [], IfOk, OnOk};
     ghost use Rattle.mp_netlist.specs.Circuit.{IsCircuit};
     ghost use Rattle.mp_simulation.specs.units.NetlistSimulations.{IsSimulated};
+    ghost use Rattle.mp_partition.specs.runs.Checkpoints.{IsBorder};
     ghost use Rattle.mp_partition.specs.runs.Marks.{AreAdded};
     ghost use Rattle.mp_engine.specs.region_runs.StateHistories.{ids_of, IsStateHistory};
 
@@ -68,6 +69,22 @@ impl StateHistory {
         )?;
         self.list.clear();
         Ok(())
+    }
+
+    /// The next border after a time, or the end if that comes before it or no module has fired since the last one: what was kept then is the state
+    /// before the next one too.
+    pub(crate) fn next_border(&self, netlist: &Region<'_>, time: u32, end: u32) -> u32
+        requires time { time < end }
+        requires within { end ≤ netlist.now.horizon }
+        ensures later { time < result }
+        ensures most { result ≤ end }
+        ensures passed { (b : ℕ) → time < b → b < result → IsBorder netlist.now.horizon b → self.now.list.items ≡ [] }
+    {
+        if self.list.is_empty() {
+            return end;
+        }
+        let units = checkpoint_units(netlist.horizon());
+        (time - time % units + units).min(end)
     }
 
     /// These modules, by number, are to fire.

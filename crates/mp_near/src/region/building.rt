@@ -16,7 +16,8 @@ pub(crate) fn small_before(
     picked: &Picked,
 ) -> Result<Option<Netlist>, AllocError> {
     let old = change.old;
-    let Ok(mut small) = Netlist::empty(alloc, old.format(), u64::from(old.horizon())) else {
+    let Ok(mut small) = Netlist::empty(alloc, old.keys(), old.format(), u64::from(old.horizon()))
+    else {
         return Ok(None);
     };
     match add_picked(alloc, change, picked, &mut small) {
@@ -151,9 +152,7 @@ fn add_module(
     small: &mut Netlist,
 ) -> Result<bool, AllocError> {
     let added = new_module(alloc, old, found)?;
-    let answer = small.apply_module(&added);
-    drop(added);
-    is_made(answer)
+    is_made(small.apply_module(added))
 }
 
 /// A module like this one, by the names of its wires.

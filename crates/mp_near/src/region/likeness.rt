@@ -12,12 +12,11 @@ ghost use Rattle.mp_near.specs.region.Regions.{IsLike};
 
 use crate::reach::Numbering;
 use crate::region::picked::Picked;
-use crate::region::set_alike::is_same_stimulus;
 use crate::revision::Revision;
-use mp_modules::Kind;
 use mp_netlist::{
     Format, Input, ModuleId, ModuleRecord, Netlist, Output, Stimulus, WireId, WireRecord,
 };
+use mp_records::{Same, same_place};
 use mp_wave::Wave;
 
 /// Whether the small netlist has just the wires and modules that are picked, and on each given wire its old wave as the stimulus.
@@ -94,7 +93,7 @@ fn is_wire_picked(
     if given {
         is_set_wire(one, change.run.wave(wire), other)
     } else {
-        is_same_wire(one, other)
+        same_place(other, one)
     }
 }
 
@@ -110,31 +109,11 @@ fn is_set_wire(one: Option<&WireRecord>, wave: Option<&Wave>, other: Option<&Wir
     }
 }
 
-fn is_same_wire(one: Option<&WireRecord>, other: Option<&WireRecord>) -> bool
-    ensures { result ≡ true → option_copied other.entry ≡ option_copied one.entry }
-{
-    match (one, other) {
-        (Some(one), Some(other)) => {
-            are_same_frames(one, other) && is_same_stimulus(&one.stimulus, &other.stimulus)
-        }
-        (None, None) => true,
-        _ => false,
-    }
-}
-
 /// Whether two wires have the same name, width and initial level.
 fn are_same_frames(one: &WireRecord, other: &WireRecord) -> bool
     ensures { result ≡ true → other.now ≡ record one.now { stimulus = other.now.stimulus } }
 {
-    is_same_text(one.name.as_str(), other.name.as_str())
-        && one.width == other.width
-        && one.initial == other.initial
-}
-
-fn is_same_text(one: &str, other: &str) -> bool
-    ensures { IsTrue result ↔ (one.now ≡ other.now) }
-{
-    one == other
+    one.name.same(&other.name) && one.width == other.width && one.initial == other.initial
 }
 
 fn has_changes(wave: &Wave, stimulus: &Option<Stimulus>) -> bool
@@ -198,23 +177,11 @@ fn is_module_picked(
 fn is_placed(wires: &Numbering, one: &ModuleRecord, other: &ModuleRecord) -> bool
     ensures { result ≡ true → other.now ≡ placed (place_at wires.now.places.items) one.now }
 {
-    is_same_kind(one.kind, other.kind)
-        && is_same_text(one.name.as_str(), other.name.as_str())
-        && are_same_numbers(one.params.as_slice(), other.params.as_slice())
+    one.kind == other.kind
+        && one.name.same(&other.name)
+        && one.params.as_slice() == other.params.as_slice()
         && are_placed_inputs(wires, one.inputs.as_slice(), other.inputs.as_slice())
         && are_placed_outputs(wires, one.outputs.as_slice(), other.outputs.as_slice())
-}
-
-fn is_same_kind(one: Kind, other: Kind) -> bool
-    ensures { IsTrue result ↔ (one ≡ other) }
-{
-    one == other
-}
-
-fn are_same_numbers(one: &[u64], other: &[u64]) -> bool
-    ensures { IsTrue result ↔ (one.now ≡ other.now) }
-{
-    one == other
 }
 
 fn are_placed_inputs(wires: &Numbering, ones: &[Input], others: &[Input]) -> bool

@@ -1,12 +1,14 @@
 //! The netlist after an edit, and edits made as one.
 use crate::netlist::Netlist;
+use crate::netlist::check::check_batch;
 use mp_records::{Batch, Edit, EditError, SingleEdit};
 
 impl Netlist {
     ghost use Rattle.std.specs.Prelude.{◌≡◌, ◌⊎◌, ◌≤◌, Ok, Err, None, length, IfOk, IfErr, OnOk};
     ghost use Rattle.mp_records.specs.declared.edit_error.EditError.TheVariants.{OutOfMemory};
+    ghost use Rattle.mp_records.specs.declared.edit.Edit.TheVariants.{Single, Batch as Together};
     ghost use Rattle.mp_netlist.specs.Limits.{max_batch};
-    ghost use Rattle.mp_netlist.specs.Edits.{checked, after, after_single, after_each, in_place, RefusedBy};
+    ghost use Rattle.mp_netlist.specs.Edits.{after, after_single, after_each, in_place, RefusedBy};
 
     /// The netlist after the edit; this one stays as it is. The errors are those of `apply`. It makes one copy, even for a batch, and none if `check`
     /// refuses the edit.
@@ -14,21 +16,44 @@ impl Netlist {
         ensures ok { IfOk result (λ next. after self.now edit.now ≡ Ok next) }
         ensures refused { IfErr result (RefusedBy edit.now (after self.now edit.now)) }
     {
-        self.check(edit)?;
-        let mut next = self.copy()?;
-        next.make(edit)?;
-        Ok(next)
+        match edit {
+            Edit::Single(single) => self.after_single(single),
+            Edit::Batch(batch) => self.after_batch(batch),
+        }
     }
 
-    /// Makes an edit that `check` doesn't refuse. If a batch is refused, the edits before the refused one stay made.
-    fn make(&mut self, edit: &Edit) -> Result<(), EditError>
-        requires { checked self.old edit.now ≡ None }
-        ensures ok { OnOk result (after self.old edit.now ≡ Ok self.new) }
-        ensures refused { IfErr result (RefusedBy edit.now (after self.old edit.now)) }
+    /// The netlist after an edit of one thing.
+    fn after_single(&self, edit: &SingleEdit) -> Result<Netlist, EditError>
+        ensures ok { IfOk result (λ next. after_single self.now edit.now ≡ Ok next) }
+        ensures refused { IfErr result (RefusedBy (Single edit.now) (after_single self.now edit.now)) }
     {
-        match edit {
-            Edit::Single(single) => Ok(self.make_single(single)?),
-            Edit::Batch(batch) => self.make_each(batch),
+        let checked = self.check_single(edit)?;
+        let Ok(mut next) = self.copy() else {
+            drop(checked);
+            return Err(EditError::OutOfMemory);
+        };
+        match next.make(checked) {
+            Ok(()) => Ok(next),
+            Err(_) => {
+                drop(next);
+                Err(EditError::OutOfMemory)
+            }
+        }
+    }
+
+    /// The netlist after a batch.
+    pub(crate) fn after_batch(&self, batch: &Batch) -> Result<Netlist, EditError>
+        ensures ok { IfOk result (λ next. after self.now (Together batch.now) ≡ Ok next) }
+        ensures refused { IfErr result (RefusedBy (Together batch.now) (after self.now (Together batch.now))) }
+    {
+        check_batch(batch)?;
+        let mut next = self.copy()?;
+        match next.make_each(batch) {
+            Ok(()) => Ok(next),
+            Err(error) => {
+                drop(next);
+                Err(error)
+            }
         }
     }
 

@@ -4,17 +4,19 @@ ghost use Rattle.std.specs.Result.{result_err};
 ghost use Rattle.mp_netlist.specs.Edits.{first_failing, batch_checks};
 
 use crate::driver::Driver;
-use crate::netlist::drivers::is_free_for;
+use crate::netlist::checked::{Checked, CheckedBundle};
 use crate::netlist::new_ports::NewPorts;
-use crate::netlist::ports::{delays_fit, has_ports, is_delay};
-use crate::netlist::{MAX_BATCH, MAX_DELAY, MAX_SETUP, Netlist};
+use crate::netlist::ports::{delays_fit, has_ports};
+use crate::netlist::{MAX_BATCH, MAX_SETUP, Netlist};
 use mp_modules::fits_width;
-use mp_records::{Batch, Boxed, Changes, Edit, EditError, Name, NewBundle, NewModule, SingleEdit};
+use mp_records::{Batch, Changes, Edit, EditError, Name, NewBundle, NewModule, SingleEdit, WireId};
 
 impl Netlist {
-    ghost use Rattle.std.specs.Prelude.{◌≡◌, IfOk, map};
+    ghost use Rattle.std.specs.Prelude.{◌≡◌, ◌&&◌, None, Some, IfOk, IfSome, is_some, map, option_map};
     ghost use Rattle.std.specs.Result.{result_err};
-    ghost use Rattle.mp_netlist.specs.Edits.{checked, refusal, wire_refusal, wire_removal_refusal, module_refusal, module_removal_refusal, bundle_refusal, bundle_removal_refusal, input_refusal, output_refusal, input_delay_refusal, delay_refusal, stimulus_refusal, clearing_refusal, input_of, output_of};
+    ghost use Rattle.mp_netlist.specs.Edits.{checked, refusal, wire_refusal, wire_removal_refusal, module_refusal, module_removal_refusal, bundle_refusal, bundle_removal_refusal, stimulus_refusal, clearing_refusal, input_of, output_of, edited, with_new_wire, with_wire, with_module, with_new_module, new_module, with_bundle, with_new_bundle, new_bundle, with_stimulus, without_stimulus, stands, wire_id, module_id, bundle_id};
+    ghost use Rattle.mp_netlist.specs.Circuit.{wire_at, wire_named};
+    ghost use Rattle.mp_netlist.specs.Checked.{Makes};
 
     /// Checks the edit. The error is the first check that it fails, in the order of its kind, lack of memory apart. For a batch it is only
     /// `BadBatch`, since the edits of a batch are checked as they are made.
@@ -22,23 +24,25 @@ impl Netlist {
         ensures { result_err result ≡ checked self.now edit.now }
     {
         match edit {
-            Edit::Single(single) => self.check_single(single),
+            Edit::Single(single) => {
+                drop(self.check_single(single)?);
+                Ok(())
+            }
             Edit::Batch(batch) => check_batch(batch),
         }
     }
 
-    #[tactic(auto, unfolding(crate::specs::Edits::refusal))]
-    /// Checks an edit of one thing. The error is the first check that it fails, in the order of its kind, lack of memory apart.
-    pub(crate) fn check_single(&self, edit: &SingleEdit) -> Result<(), EditError>
-        ensures { result_err result ≡ refusal self.now edit.now }
+    #[tactic(auto, unfolding(crate::specs::Edits::refusal, crate::specs::Edits::edited))]
+    /// Checks an edit of one thing, and returns what the checks found, with which it is made. The error is the first check that it fails, in the
+    /// order of its kind, lack of memory apart.
+    pub(crate) fn check_single<'a>(&self, edit: &'a SingleEdit) -> Result<Checked<'a>, EditError>
+        ensures refused { result_err result ≡ refusal self.now edit.now }
+        ensures found { IfOk result (λ found. Makes self.now found (edited self.now edit.now)) }
     {
         match edit {
             SingleEdit::AddWire { name, width, level } => self.check_wire(name, *width, *level),
             SingleEdit::RemoveWire { wire } => self.check_wire_removal(wire),
-            SingleEdit::AddModule(new) => {
-                self.check_module(new.get())?;
-                Ok(())
-            }
+            SingleEdit::AddModule(new) => self.check_new_module(new.get()),
             SingleEdit::RemoveModule { module } => self.check_module_removal(module),
             SingleEdit::AddBundle(new) => self.check_bundle(new.get()),
             SingleEdit::RemoveBundle { bundle } => self.check_bundle_removal(bundle),
@@ -65,8 +69,14 @@ impl Netlist {
         }
     }
 
-    fn check_wire(&self, name: &Name, width: u64, level: u64) -> Result<(), EditError>
-        ensures { result_err result ≡ wire_refusal self.now name.now width level }
+    fn check_wire<'a>(
+        &self,
+        name: &'a Name,
+        width: u64,
+        level: u64,
+    ) -> Result<Checked<'a>, EditError>
+        ensures refused { result_err result ≡ wire_refusal self.now name.now width level }
+        ensures found { IfOk result (λ found. Makes self.now found (with_new_wire self.now name.now width level)) }
     {
         if !name.is_valid() {
             return Err(EditError::BadName);
@@ -83,11 +93,16 @@ impl Netlist {
         if self.wires.len() >= self.format.max_wires() {
             return Err(EditError::TableFull);
         }
-        Ok(())
+        Ok(Checked::NewWire {
+            name,
+            width: width as u32,
+            level,
+        })
     }
 
-    fn check_wire_removal(&self, name: &Name) -> Result<(), EditError>
-        ensures { result_err result ≡ wire_removal_refusal self.now name.now }
+    fn check_wire_removal<'a>(&self, name: &Name) -> Result<Checked<'a>, EditError>
+        ensures refused { result_err result ≡ wire_removal_refusal self.now name.now }
+        ensures found { IfOk result (λ found. Makes self.now found (with_wire self.now (wire_id self.now name.now).0 None)) }
     {
         let Some(id) = self.find_wire(name) else {
             return Err(EditError::NoSuchWire);
@@ -95,7 +110,7 @@ impl Netlist {
         if self.is_used(id) {
             return Err(EditError::StillUsed);
         }
-        Ok(())
+        Ok(Checked::NoWire(id))
     }
 
     /// The ports of a module that is to be added. The error is the first check that it fails.
@@ -135,31 +150,39 @@ impl Netlist {
         Ok(ports)
     }
 
-    fn check_module_removal(&self, name: &Name) -> Result<(), EditError>
-        ensures { result_err result ≡ module_removal_refusal self.now name.now }
+    /// Checks a module that is to be added.
+    fn check_new_module<'a>(&self, new: &'a NewModule) -> Result<Checked<'a>, EditError>
+        ensures refused { result_err result ≡ module_refusal self.now new.now }
+        ensures found { IfOk result (λ found. Makes self.now found (with_new_module self.now (new_module self.now new.now))) }
     {
-        if self.find_module(name).is_none() {
-            return Err(EditError::NoSuchModule);
-        }
-        Ok(())
+        let ports = self.check_module(new)?;
+        Ok(Checked::AddedModule(new, ports))
     }
 
-    fn check_bundle(&self, new: &NewBundle) -> Result<(), EditError>
-        ensures { result_err result ≡ bundle_refusal self.now new.now }
+    fn check_module_removal<'a>(&self, name: &Name) -> Result<Checked<'a>, EditError>
+        ensures refused { result_err result ≡ module_removal_refusal self.now name.now }
+        ensures found { IfOk result (λ found. Makes self.now found (with_module self.now (module_id self.now name.now).0 None)) }
+    {
+        match self.find_module(name) {
+            Some(id) => Ok(Checked::NoModule(id)),
+            None => Err(EditError::NoSuchModule),
+        }
+    }
+
+    fn check_bundle<'a>(&self, new: &'a NewBundle) -> Result<Checked<'a>, EditError>
+        ensures refused { result_err result ≡ bundle_refusal self.now new.now }
+        ensures found { IfOk result (λ found. Makes self.now found (with_new_bundle self.now (new_bundle self.now new.now))) }
     {
         if !new.name.is_valid() {
             return Err(EditError::BadName);
         }
-        if self.bundle_stands(&new.name) {
+        if self.find_bundle(&new.name).is_some() {
             return Err(EditError::NameTaken);
         }
-        let wires_stand = self.stands(&new.request)
-            && self.stands(&new.acknowledge)
-            && self.stands(&new.payload);
-        if !wires_stand {
+        let Some(wires) = self.bundle_wires(new) else {
             return Err(EditError::NoSuchWire);
-        }
-        if self.width_of(&new.request) != 1 || self.width_of(&new.acknowledge) != 1 {
+        };
+        if self.wire_width(wires.0) != 1 || self.wire_width(wires.1) != 1 {
             return Err(EditError::WidthMismatch);
         }
         if new.setup > MAX_SETUP {
@@ -168,97 +191,43 @@ impl Netlist {
         if self.bundles.len() >= self.format.max_bundles() {
             return Err(EditError::TableFull);
         }
-        Ok(())
+        Ok(Checked::NewBundle(CheckedBundle {
+            name: &new.name,
+            request: wires.0,
+            acknowledge: wires.1,
+            payload: wires.2,
+            setup: new.setup as u32,
+        }))
     }
 
-    fn check_bundle_removal(&self, name: &Name) -> Result<(), EditError>
-        ensures { result_err result ≡ bundle_removal_refusal self.now name.now }
+    /// The wires of a bundle that is to be added, if all of them exist.
+    fn bundle_wires(&self, new: &NewBundle) -> Option<(WireId, WireId, WireId)>
+        ensures stand { is_some result ≡ (stands self.now new.now.request && stands self.now new.now.acknowledge && stands self.now new.now.payload) }
+        ensures wires { IfSome result (λ wires. (Some wires.0.0 ≡ wire_named self.now new.now.request) × (Some wires.1.0 ≡ wire_named self.now new.now.acknowledge) × (Some wires.2.0 ≡ wire_named self.now new.now.payload)) }
     {
-        if !self.bundle_stands(name) {
-            return Err(EditError::NoSuchBundle);
-        }
-        Ok(())
+        let request = self.find_wire(&new.request)?;
+        let acknowledge = self.find_wire(&new.acknowledge)?;
+        let payload = self.find_wire(&new.payload)?;
+        Some((request, acknowledge, payload))
     }
 
-    fn check_input(&self, name: &Name, port: u64, wire: &Name) -> Result<(), EditError>
-        ensures { result_err result ≡ input_refusal self.now name.now port wire.now }
+    fn check_bundle_removal<'a>(&self, name: &Name) -> Result<Checked<'a>, EditError>
+        ensures refused { result_err result ≡ bundle_removal_refusal self.now name.now }
+        ensures found { IfOk result (λ found. Makes self.now found (with_bundle self.now (bundle_id self.now name.now).0 None)) }
     {
-        let Some(id) = self.find_module(name) else {
-            return Err(EditError::NoSuchModule);
-        };
-        if port >= self.input_ports(id) {
-            return Err(EditError::BadPort);
+        match self.find_bundle(name) {
+            Some(id) => Ok(Checked::NoBundle(id)),
+            None => Err(EditError::NoSuchBundle),
         }
-        let Some(read) = self.find_wire(wire) else {
-            return Err(EditError::NoSuchWire);
-        };
-        if self.wire_width(read) != self.input_width(id, port) {
-            return Err(EditError::WidthMismatch);
-        }
-        Ok(())
     }
 
-    fn check_output(
+    fn check_stimulus<'a>(
         &self,
-        name: &Name,
-        port: u64,
-        wire: &Option<Boxed<Name>>,
-    ) -> Result<(), EditError>
-        ensures { result_err result ≡ output_refusal self.now name.now port wire.now }
-    {
-        let Some(id) = self.find_module(name) else {
-            return Err(EditError::NoSuchModule);
-        };
-        if port >= self.output_ports(id) {
-            return Err(EditError::BadPort);
-        }
-        let Some(wire) = wire else {
-            return Ok(());
-        };
-        let Some(driven) = self.find_wire(wire.get()) else {
-            return Err(EditError::NoSuchWire);
-        };
-        if self.wire_width(driven) != self.output_width(id, port) {
-            return Err(EditError::WidthMismatch);
-        }
-        if !is_free_for(id, port, self.driver_of(driven)) {
-            return Err(EditError::AlreadyDriven);
-        }
-        Ok(())
-    }
-
-    fn check_input_delay(&self, name: &Name, port: u64, delay: u64) -> Result<(), EditError>
-        ensures { result_err result ≡ input_delay_refusal self.now name.now port delay }
-    {
-        let Some(id) = self.find_module(name) else {
-            return Err(EditError::NoSuchModule);
-        };
-        if port >= self.input_ports(id) {
-            return Err(EditError::BadPort);
-        }
-        if delay > MAX_DELAY {
-            return Err(EditError::BadDelay);
-        }
-        Ok(())
-    }
-
-    fn check_delay(&self, name: &Name, port: u64, delay: u64) -> Result<(), EditError>
-        ensures { result_err result ≡ delay_refusal self.now name.now port delay }
-    {
-        let Some(id) = self.find_module(name) else {
-            return Err(EditError::NoSuchModule);
-        };
-        if port >= self.output_ports(id) {
-            return Err(EditError::BadPort);
-        }
-        if !is_delay(delay) {
-            return Err(EditError::BadDelay);
-        }
-        Ok(())
-    }
-
-    fn check_stimulus(&self, wire: &Name, changes: &Changes) -> Result<(), EditError>
-        ensures { result_err result ≡ stimulus_refusal self.now wire.now changes.now }
+        wire: &Name,
+        changes: &'a Changes,
+    ) -> Result<Checked<'a>, EditError>
+        ensures refused { result_err result ≡ stimulus_refusal self.now wire.now changes.now }
+        ensures found { IfOk result (λ found. Makes self.now found (with_wire self.now (wire_id self.now wire.now).0 (option_map (with_stimulus changes.now) (wire_at self.now (wire_id self.now wire.now).0)))) }
     {
         let Some(id) = self.find_wire(wire) else {
             return Err(EditError::NoSuchWire);
@@ -270,11 +239,12 @@ impl Netlist {
         if !changes.is_valid(u64::from(self.horizon), u64::from(width)) {
             return Err(EditError::BadStimulus);
         }
-        Ok(())
+        Ok(Checked::Stimulus(id, changes))
     }
 
-    fn check_clearing(&self, wire: &Name) -> Result<(), EditError>
-        ensures { result_err result ≡ clearing_refusal self.now wire.now }
+    fn check_clearing<'a>(&self, wire: &Name) -> Result<Checked<'a>, EditError>
+        ensures refused { result_err result ≡ clearing_refusal self.now wire.now }
+        ensures found { IfOk result (λ found. Makes self.now found (with_wire self.now (wire_id self.now wire.now).0 (option_map (without_stimulus) (wire_at self.now (wire_id self.now wire.now).0)))) }
     {
         let Some(id) = self.find_wire(wire) else {
             return Err(EditError::NoSuchWire);
@@ -282,12 +252,12 @@ impl Netlist {
         if !self.has_stimulus(id) {
             return Err(EditError::NoStimulus);
         }
-        Ok(())
+        Ok(Checked::NoStimulus(id))
     }
 }
 
 /// Checks that a batch has edits, and not too many.
-fn check_batch(batch: &Batch) -> Result<(), EditError>
+pub(crate) fn check_batch(batch: &Batch) -> Result<(), EditError>
     ensures { result_err result ≡ first_failing (batch_checks batch.now) }
 {
     let edits = batch.as_slice();

@@ -6,7 +6,7 @@ use mp_records::{BundleId, ModuleId, Name, WireId};
 impl Netlist {
     ghost use Rattle.std.specs.Prelude.{◌≡◌, option_map};
     ghost use Rattle.mp_netlist.specs.Circuit.{module_at, wire_named, module_named, bundle_named};
-    ghost use Rattle.mp_netlist.specs.Edits.{module_id, bundle_stands, bundle_id, input_ports, output_ports, input_width_of, output_width_of};
+    ghost use Rattle.mp_netlist.specs.Edits.{input_ports, output_ports, input_width_of, output_width_of};
 
     /// The number of the wire that has the name.
     pub(crate) fn find_wire(&self, name: &Name) -> Option<WireId>
@@ -35,33 +35,6 @@ impl Netlist {
         match self.bundles.number_named(name) {
             Some(number) => Some(BundleId(number)),
             None => None,
-        }
-    }
-
-    /// The number of the module that has the name, 0 if there is none.
-    pub(crate) fn module_id(&self, name: &Name) -> ModuleId
-        ensures { result ≡ module_id self.now name.now }
-    {
-        match self.find_module(name) {
-            Some(id) => id,
-            None => ModuleId(0),
-        }
-    }
-
-    /// Whether there is a bundle of this name.
-    pub(crate) fn bundle_stands(&self, name: &Name) -> bool
-        ensures { result ≡ bundle_stands self.now name.now }
-    {
-        self.find_bundle(name).is_some()
-    }
-
-    /// The number of the bundle that has the name, 0 if there is none.
-    pub(crate) fn bundle_id(&self, name: &Name) -> BundleId
-        ensures { result ≡ bundle_id self.now name.now }
-    {
-        match self.find_bundle(name) {
-            Some(id) => id,
-            None => BundleId(0),
         }
     }
 

@@ -1,4 +1,4 @@
-//! The wires and ports that an edit names.
+//! The ports of a module that is to be added, by themselves.
 ghost use Rattle.std.specs.Prelude.{◌≡◌, ◌==◌, ◌&&◌, ◌≤◌, IsTrue, length};
 ghost use Rattle.std.specs.List.{list_all, list_any};
 ghost use Rattle.std.specs.Str.{bytes_eq};
@@ -7,51 +7,9 @@ ghost use Rattle.mp_records.specs.declared.port_names.InputName.{InputName};
 ghost use Rattle.mp_records.specs.declared.port_names.OutputName.{OutputName};
 ghost use Rattle.mp_netlist.specs.Edits.{are_distinct, driven_names, delays_fit, is_input_delay, is_delay};
 
-use crate::netlist::{MAX_DELAY, Netlist};
+use crate::netlist::MAX_DELAY;
 use mp_modules::{Kind, MOST_INPUTS, MOST_OUTPUTS};
-use mp_records::{Boxed, InputName, InputNames, Name, OutputName, OutputNames, WireId};
-
-impl Netlist {
-    ghost use Rattle.std.specs.Prelude.{◌≡◌, option_map};
-    ghost use Rattle.mp_netlist.specs.Edits.{stands, wire_id, width_named};
-
-    /// Whether there is a wire of this name.
-    pub(crate) fn stands(&self, name: &Name) -> bool
-        ensures { result ≡ stands self.now name.now }
-    {
-        self.find_wire(name).is_some()
-    }
-
-    /// The number of the wire that has the name, 0 if there is none.
-    pub(crate) fn id_of(&self, name: &Name) -> WireId
-        ensures { result ≡ wire_id self.now name.now }
-    {
-        match self.find_wire(name) {
-            Some(id) => id,
-            None => WireId(0),
-        }
-    }
-
-    /// The number of the wire that is to be driven, if any is named.
-    pub(crate) fn driven_id(&self, wire: &Option<Boxed<Name>>) -> Option<WireId>
-        ensures { result ≡ option_map (wire_id self.now) wire.now }
-    {
-        match wire {
-            Some(name) => Some(self.id_of(name.get())),
-            None => None,
-        }
-    }
-
-    /// The width of the wire that has the name, 0 if there is none.
-    pub(crate) fn width_of(&self, name: &Name) -> u32
-        ensures { result ≡ width_named self.now name.now }
-    {
-        match self.find_wire(name) {
-            Some(id) => self.wire_width(id),
-            None => 0,
-        }
-    }
-}
+use mp_records::{InputName, InputNames, Name, OutputName, OutputNames};
 
 /// Whether no two of the outputs name the same wire.
 pub(crate) fn are_distinct(outputs: &[OutputName]) -> bool

@@ -1,3 +1,4 @@
+pub mod MultipleLemmas
 pub mod MarkLemmas
 pub mod StateListLemmas
 pub mod KeepLemmas

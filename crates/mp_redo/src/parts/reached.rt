@@ -3,6 +3,7 @@
 use mp_depend::touched;
 use mp_netlist::{Input, ModuleId, Netlist, Stimulus, WireId};
 use mp_partition::{Division, partition_of};
+use mp_records::same_place;
 use std::alloc::{AllocError, Global};
 
 /// The modules that a change touches, and those that read a wire on which it sets something else. One that is both may come twice.
@@ -40,21 +41,13 @@ fn set_otherwise(alloc: Global, old: &Netlist, new: &Netlist) -> Result<Vec<bool
 }
 
 fn is_set_otherwise(old: &Netlist, new: &Netlist, wire: WireId) -> bool {
-    !is_same(stimulus_of(old, wire), stimulus_of(new, wire))
+    !same_place(stimulus_of(old, wire), stimulus_of(new, wire))
 }
 
 fn stimulus_of(netlist: &Netlist, wire: WireId) -> Option<&Stimulus> {
     match netlist.wire(wire) {
         Some(found) => found.stimulus.as_ref(),
         None => None,
-    }
-}
-
-fn is_same(one: Option<&Stimulus>, other: Option<&Stimulus>) -> bool {
-    match (one, other) {
-        (None, None) => true,
-        (Some(one), Some(other)) => one.as_slice() == other.as_slice(),
-        _ => false,
     }
 }
 

@@ -14,6 +14,7 @@ use crate::faults::word_places::{begins_with, word_place};
 use mp_netlist::{EditError, Name, Netlist};
 use mp_text::{LineError, TextCode, TextError, is_plain, words};
 use std::alloc::{AllocError, Global};
+use std::hash::RandomState;
 
 /// What is wrong in a line that can't be read.
 #[derive(Drop)]
@@ -25,7 +26,12 @@ pub(crate) struct Fault {
 }
 
 /// Finds what is wrong in the line of the error. `AllocError` comes if memory runs out.
-pub(crate) fn find_fault(alloc: Global, text: &[u8], error: TextError) -> Result<Fault, AllocError>
+pub(crate) fn find_fault(
+    alloc: Global,
+    keys: RandomState,
+    text: &[u8],
+    error: TextError,
+) -> Result<Fault, AllocError>
     ensures span { IfOk result (λ fault. fault.span ≡ fault_span text.now error) }
     ensures near { IfOk result (λ fault. fault.near ≡ fault_near text.now error) }
 {
@@ -34,7 +40,7 @@ pub(crate) fn find_fault(alloc: Global, text: &[u8], error: TextError) -> Result
         let span = bad_span(line);
         return Ok(Fault { span, near: None });
     }
-    let netlist = netlist_before(alloc, text, error.line, error.code)?;
+    let netlist = netlist_before(alloc, keys, text, error.line, error.code)?;
     let fault = plain_fault(alloc, text, error, &netlist);
     // The netlist is dropped by a call: at the end of the scope, the drop of each of its parts would stand here.
     drop(netlist);

@@ -9,6 +9,7 @@ use crate::faults::text_lines::line_numbered;
 use mp_netlist::Name;
 use mp_text::TextError;
 use std::alloc::{AllocError, Global};
+use std::hash::RandomState;
 
 /// At most this many bytes of a line are shown.
 const WIDTH: usize = 68;
@@ -17,16 +18,18 @@ const WIDTH: usize = 68;
 const LEAD: usize = 32;
 
 /// Shows a line that can't be read: the line with its number, marks below the word at fault, and the meaning of the error with a name near the word,
-/// without the last line feed. For line 0, which is no line, it is the meaning alone. `AllocError` comes if memory runs out.
+/// without the last line feed. Names of the text are hashed by these keys. For line 0, which is no line, it is the meaning alone. `AllocError` comes
+/// if memory runs out.
 pub fn fault_text(
     alloc: Global,
+    keys: RandomState,
     text: &[u8],
     error: TextError,
     meaning: &str,
 ) -> Result<Vec<u8>, AllocError>
     ensures { IfOk result (λ shown. shown.items ≡ fault_text text.now error meaning.now) }
 {
-    let fault = find_fault(alloc, text, error)?;
+    let fault = find_fault(alloc, keys, text, error)?;
     let shown = shown_fault(alloc, text, error, meaning, &fault);
     // The fault is dropped by a call: at the end of the scope, the drop of each of its parts would stand here.
     drop(fault);

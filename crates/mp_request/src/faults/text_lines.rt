@@ -6,6 +6,7 @@ ghost use Rattle.mp_request.specs.faults.TextLines.{bytes_of_lines, text_before,
 use mp_netlist::Netlist;
 use mp_text::{LineError, TextCode, first_line, read_netlist, word_count};
 use std::alloc::{AllocError, Global};
+use std::hash::RandomState;
 
 /// The number of bytes of the first `count` lines, with their line feeds; of all lines if there are fewer.
 #[tactic(auto, using(crate::proofs::lemmas::faults::StepLemmas::bytes_steps))]
@@ -58,6 +59,7 @@ pub(crate) fn is_blank(text: &[u8]) -> bool
 /// The netlist before the line of this number if the code is a refused edit, and otherwise `None`. `AllocError` comes if memory runs out.
 pub(crate) fn netlist_before(
     alloc: Global,
+    keys: RandomState,
     text: &[u8],
     number: u32,
     code: TextCode,
@@ -67,7 +69,7 @@ pub(crate) fn netlist_before(
     let TextCode::Refused(_) = code else {
         return Ok(None);
     };
-    match read_netlist(alloc, text_before(text, number)) {
+    match read_netlist(alloc, keys, text_before(text, number)) {
         Ok(netlist) => Ok(Some(netlist)),
         Err(error) => match error.code {
             TextCode::Line(LineError::OutOfMemory) => Err(AllocError),

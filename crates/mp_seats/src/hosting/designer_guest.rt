@@ -25,7 +25,7 @@ impl<'a, S: EditSession, K: EditKeeper, L: DeskName, R: Wait + Drop> Occupant
     ghost edits = { true };
 
     #[tactic(auto, using(crate::proofs::lemmas::hosting::GuestLemmas::is_accepted, crate::proofs::lemmas::hosting::GuestLemmas::is_refused, crate::proofs::lemmas::hosting::GuestLemmas::is_not_kept))]
-    fn submit<H: Threads + Wait + Sync>(&mut self, rt: &H, edit: &Edit) -> Result<u32, Refusal> {
+    fn submit<H: Threads + Wait + Sync>(&mut self, rt: &H, edit: Edit) -> Result<u32, Refusal> {
         match self.sitting.submit(rt, self.desk, edit) {
             Ok(number) => Ok(number),
             Err(SubmitError::Refused(error)) => Err(Refusal::Refused(error)),

@@ -58,12 +58,8 @@ fn make_line<R: Threads + Wait + Sync, S: EditSession>(
 {
     match read_line(alloc, line) {
         Ok(Line::Empty) => Ok(()),
+        Ok(Line::Change(edit)) => make_edit(rt, session, edit, number),
         // dropped by a call: at the end of the match, the drop of each part would stand here
-        Ok(Line::Change(edit)) => {
-            let made = make_edit(rt, session, &edit, number);
-            drop(edit);
-            made
-        }
         Ok(Line::Ask(question)) => {
             drop(question);
             Err(ReplayFault::Question(number))
@@ -77,10 +73,10 @@ fn make_line<R: Threads + Wait + Sync, S: EditSession>(
 fn make_edit<R: Threads + Wait + Sync, S: EditSession>(
     rt: &R,
     session: &mut S,
-    edit: &Edit,
+    edit: Edit,
     number: u64,
 ) -> Result<(), ReplayFault>
-    ensures made { OnOk result (S.story session.new ≡ one_more (S.story session.old) edit.now) }
+    ensures made { OnOk result (S.story session.new ≡ one_more (S.story session.old) edit) }
     ensures refused { OnErr result (S.story session.new ≡ S.story session.old) }
 {
     match session.prepare(rt, edit) {

@@ -36,9 +36,9 @@ pub struct HeardChanges {
 }
 
 impl HeardChanges {
-    ghost use Rattle.std.specs.Prelude.{◌≡◌};
+    ghost use Rattle.std.specs.Prelude.{◌≡◌, ◌+◌, ◌<◌, ◌≤◌};
     ghost use Rattle.std.specs.List.Sorted.{IsPermutation};
-    ghost use Rattle.mp_simulation.specs.run.Stimuli.{left_of, AreInOrder};
+    ghost use Rattle.mp_simulation.specs.run.Stimuli.{left_of, AreFrom, AreInOrder};
 
     /// These changes, all of which are still to come.
     pub fn of(list: Vec<StimulusChange>) -> HeardChanges
@@ -48,6 +48,20 @@ impl HeardChanges {
         let mut list = list;
         list.sort_unstable_by_key(|change| change.time);
         HeardChanges { list, place: 0 }
+    }
+
+    /// The unit of the next change, or the one before which all changes are known if none comes before it.
+    pub fn unit_after(&self, time: u32, until: u32) -> u32
+        requires time { time < until }
+        requires ahead { AreFrom (time + 1) (left_of self.now) }
+        ensures later { time < result }
+        ensures most { result ≤ until }
+        ensures ahead { AreFrom result (left_of self.now) }
+    {
+        match self.list.get(self.place) {
+            Some(change) => change.time.min(until),
+            None => until,
+        }
     }
 }
 
@@ -92,7 +106,7 @@ impl Stimuli {
 
     /// The unit to run after this one, or the horizon: the next unit, or that of the next change if everything else rests.
     #[inline(always)]
-    pub(crate) fn unit_after(&self, time: u32, rests: bool, horizon: u32) -> u32
+    pub fn unit_after(&self, time: u32, rests: bool, horizon: u32) -> u32
         requires time { time < horizon }
         requires ahead { AreFrom (time + 1) (rest_of self.now) }
         ensures later { time < result }

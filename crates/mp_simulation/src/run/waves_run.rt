@@ -21,8 +21,8 @@ use mp_partition::Region;
 use mp_wave::{ToggleWave, Wave};
 use std::alloc::{AllocError, Global};
 
-/// Every so often, after this number of units, the run checks whether only stimuli will change anything. A check looks at as many slots as the
-/// longest delay has units.
+/// Every so often, after this number of units, a run checks whether anything changes that isn't set from outside. A check looks at as many slots as
+/// the longest delay has units.
 const LOOK_UNITS: u32 = 65_536;
 
 /// A run of a netlist, unit by unit, that keeps only the waves.
@@ -137,9 +137,9 @@ fn run_all(
     Ok(())
 }
 
-/// Whether it is looked in this unit, and nothing changes from then on that no stimulus sets.
+/// Whether a run looks in this unit, and nothing changes from then on that isn't set from outside.
 #[inline(always)]
-fn is_seen_at_rest(simulation: &NetlistSimulation, time: u32) -> bool
+pub fn is_seen_at_rest(simulation: &NetlistSimulation, time: u32) -> bool
     ensures { IsTrue result → IsAtRest simulation.now }
 {
     time.is_multiple_of(LOOK_UNITS) && simulation.is_at_rest()

@@ -1,4 +1,5 @@
 //! The plain waves of a netlist, and a copy of one, if there is memory.
+use crate::making::texts::fixed_keys;
 use mp_model::plain_waves;
 use mp_netlist::Netlist;
 use mp_text::read_netlist;
@@ -36,7 +37,7 @@ fn has_waves(alloc: Global, netlist: &Netlist) -> Result<bool, AllocError> {
 
 #[test]
 fn waves_of_a_netlist(rt: HostRuntime) -> Result<(), Fail> {
-    let netlist = read_netlist(rt.alloc(), TEXT.as_bytes())?;
+    let netlist = read_netlist(rt.alloc(), fixed_keys()?, TEXT.as_bytes())?;
     let has = has_waves(rt.alloc(), &netlist);
     drop(netlist);
     assert!(rt; has?);

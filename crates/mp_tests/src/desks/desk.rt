@@ -33,11 +33,7 @@ fn submits<L: DeskName, R: Threads + Wait + Sync + Drop>(
     line: &str,
 ) -> bool {
     match edit(alloc, line) {
-        Some(edit) => {
-            let accepted = desk.submit(rt, me, &edit).err().is_none();
-            drop(edit);
-            accepted
-        }
+        Some(edit) => desk.submit(rt, me, edit).err().is_none(),
         None => false,
     }
 }

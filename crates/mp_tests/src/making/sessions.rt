@@ -32,11 +32,7 @@ pub fn takes<G: Gate + Sync>(
     line: &str,
 ) -> bool {
     match edit(alloc, line) {
-        Some(edit) => {
-            let taken = session.apply(rt, &edit).is_ok();
-            drop(edit);
-            taken
-        }
+        Some(edit) => session.apply(rt, edit).is_ok(),
         None => false,
     }
 }

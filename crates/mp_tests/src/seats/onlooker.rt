@@ -19,7 +19,8 @@ impl Occupant for Onlooker {
 
     ghost edits = { false };
 
-    fn submit<R: Threads + Wait + Sync>(&mut self, _rt: &R, _edit: &Edit) -> Result<u32, Refusal> {
+    fn submit<R: Threads + Wait + Sync>(&mut self, _rt: &R, edit: Edit) -> Result<u32, Refusal> {
+        drop(edit);
         Err(Refusal::NotADesigner)
     }
 

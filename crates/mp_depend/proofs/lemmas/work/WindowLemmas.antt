@@ -8,7 +8,7 @@ use Rattle.mp_netlist.specs.Limits.{checkpoint_units}
 use Rattle.mp_netlist.proofs.DelayLemmas.{delays_are_least}
 use Rattle.mp_netlist.proofs.LimitLemmas.{units_positive}
 use Rattle.mp_depend.specs.work.Work.{block_of, window_of, IsWindow, WindowsCover, WindowsApart}
-use Rattle.mp_depend.proofs.lemmas.work.MultipleLemmas.{rest_le, whole_rest, rest_above, whole_is, multiples_apart}
+use Rattle.mp_partition.proofs.lemmas.runs.MultipleLemmas.{rest_le, whole_rest, rest_above, whole_is, multiples_apart}
 
 -- a window lies in one block
 pub window_within : (n : Circuit) → IsCircuit n → (start to : ℕ) → IsWindow n start to → (block_of n.horizon start ≤ start) × (start < to) × (to ≤ block_of n.horizon start + checkpoint_units n.horizon)

@@ -17,7 +17,7 @@ returns c = (
     before = stands _ _ (sym c.in-Some.ensures.value);
     after = stands _ _ (sym c.in-Some-wire.ensures.value);
     portless = portless c.args.old.now c.horizon-horizon.ensures.form c.args.wire.0 c.args.was c.requires c.in_default.not-Port;
-    stimulus = ap stimulus_in (sym c.in-Some.ensures.value) ∙ c.is_same.ensures.0 same ∙ ap stimulus_in c.in-Some-wire.ensures.value;
+    stimulus = ap stimulus_in (sym c.in-Some.ensures.value) ∙ c.same_option.ensures.0 same ∙ ap stimulus_in c.in-Some-wire.ensures.value;
   },
-  λ alike. c.is_same.ensures.1 (ap stimulus_in c.in-Some.ensures.value ∙ alike.stimulus ∙ sym (ap stimulus_in c.in-Some-wire.ensures.value)),
+  λ alike. c.same_option.ensures.1 (ap stimulus_in c.in-Some.ensures.value ∙ alike.stimulus ∙ sym (ap stimulus_in c.in-Some-wire.ensures.value)),
 )

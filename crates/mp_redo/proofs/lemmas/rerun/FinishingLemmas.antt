@@ -30,7 +30,7 @@ use Rattle.mp_simulation.proofs.lemmas.units.LateLemmas.{late_bit, own_level}
 use Rattle.mp_simulation.specs.run.Runs.{wave_for}
 use Rattle.mp_depend.specs.work.Revisions.{IsRevision}
 use Rattle.mp_depend.specs.work.Work.{block_of}
-use Rattle.mp_depend.proofs.lemmas.work.MultipleLemmas.{whole_from}
+use Rattle.mp_partition.proofs.lemmas.runs.MultipleLemmas.{whole_from}
 use Rattle.mp_active.specs.agreement.Reading.{QuietWhereAlike, SleepersReadAlike}
 use Rattle.mp_active.specs.agreement.Sleeping.{AreSleeping, SleepersAgree, SleepersSleepOn}
 use Rattle.mp_active.specs.agreement.Sources.{WiresAgree}

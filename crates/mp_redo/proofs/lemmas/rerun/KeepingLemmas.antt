@@ -15,7 +15,7 @@ use Rattle.mp_partition.specs.runs.Outcomes.{Outcome}
 use Rattle.mp_partition.specs.runs.Runs.{IsRun}
 use Rattle.mp_depend.specs.work.Revisions.{IsRevision}
 use Rattle.mp_depend.specs.work.Work.{block_of, window_of, window_end, IsWindow}
-use Rattle.mp_depend.proofs.lemmas.work.MultipleLemmas.{whole_rest, multiples_apart, whole_from}
+use Rattle.mp_partition.proofs.lemmas.runs.MultipleLemmas.{whole_rest, multiples_apart, whole_from}
 use Rattle.mp_depend.proofs.lemmas.work.WindowLemmas.{window_within, window_cover}
 use Rattle.mp_depend.specs.declared.recording.rerun_recorder.RerunRecorder.{RerunRecorder}
 use Rattle.mp_depend.specs.recording.Recorders.{IsRecorder, CanKeep}

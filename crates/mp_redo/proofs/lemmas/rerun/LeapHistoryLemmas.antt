@@ -10,7 +10,7 @@ use Rattle.mp_partition.specs.runs.Runs.{IsRun}
 use Rattle.mp_partition.proofs.lemmas.runs.MarkLemmas.{none_in}
 use Rattle.mp_depend.specs.work.Revisions.{IsRevision}
 use Rattle.mp_depend.specs.work.Work.{block_of, window_of, window_end, IsWindow}
-use Rattle.mp_depend.proofs.lemmas.work.MultipleLemmas.{rest_le, whole_rest, whole_from}
+use Rattle.mp_partition.proofs.lemmas.runs.MultipleLemmas.{rest_le, whole_rest, whole_from}
 use Rattle.mp_depend.proofs.lemmas.work.PartLemmas.{next_begins}
 use Rattle.mp_depend.proofs.lemmas.work.WindowLemmas.{window_within, windows_apart, same_block}
 use Rattle.mp_active.specs.agreement.Sleeping.{AreSleeping}

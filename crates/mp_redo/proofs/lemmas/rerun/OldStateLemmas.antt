@@ -31,7 +31,7 @@ use Rattle.mp_model.proofs.lemmas.response.JoinLemmas.{inside_alone}
 use Rattle.mp_model.proofs.lemmas.response.DelayLemmas.{ends_in_state}
 use Rattle.mp_depend.specs.recording.Overlays.{state_in}
 use Rattle.mp_depend.specs.work.Work.{block_of}
-use Rattle.mp_depend.proofs.lemmas.work.MultipleLemmas.{whole_rest}
+use Rattle.mp_partition.proofs.lemmas.runs.MultipleLemmas.{whole_rest}
 use Rattle.mp_active.specs.compare.Comparing.{wave_or_none, old_wave}
 
 -- lists that are the same at each element

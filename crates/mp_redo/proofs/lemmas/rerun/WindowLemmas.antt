@@ -15,7 +15,7 @@ use Rattle.mp_active.proofs.lemmas.agreement.RestingLemmas.{sleepers_rest}
 use Rattle.mp_depend.specs.work.Revisions.{IsRevision}
 use Rattle.mp_depend.specs.work.Merges.{end_of_window}
 use Rattle.mp_depend.specs.work.Work.{block_of, window_of, window_end, IsWindow}
-use Rattle.mp_depend.proofs.lemmas.work.MultipleLemmas.{rest_le}
+use Rattle.mp_partition.proofs.lemmas.runs.MultipleLemmas.{rest_le}
 use Rattle.mp_depend.proofs.lemmas.work.WindowLemmas.{window_within, window_cover, windows_apart, in_block, same_block}
 use Rattle.mp_depend.specs.declared.recording.rerun_recorder.RerunRecorder.{RerunRecorder}
 use Rattle.mp_depend.specs.recording.Recorders.{IsRecorder}

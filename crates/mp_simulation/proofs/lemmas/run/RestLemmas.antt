@@ -22,13 +22,13 @@ from_before t later (s ∷ ss) from low =
     let first = from.0 in
     (omega arith, from.1)
 
-no_bits : (u : ℕ) (rest : List StimulusChange) → AreFrom (u + 1) rest → bits_at u rest ≡ []
+pub no_bits : (u : ℕ) (rest : List StimulusChange) → AreFrom (u + 1) rest → bits_at u rest ≡ []
 no_bits u [] from = refl
 no_bits u (s ∷ ss) from =
     let late = from.0 in
     ap (λ b. cond b (bits_of s ++ bits_at u ss) []) (ne_eqb s.time u (λ e. omega arith))
 
-no_levels : (u : ℕ) (rest : List StimulusChange) → AreFrom (u + 1) rest → levels_at u rest ≡ []
+pub no_levels : (u : ℕ) (rest : List StimulusChange) → AreFrom (u + 1) rest → levels_at u rest ≡ []
 no_levels u [] from = refl
 no_levels u (s ∷ ss) from =
     let late = from.0 in

@@ -1,6 +1,9 @@
 -- A simulation in which nothing is known to change.
-use Rattle.std.proofs.Common.{◌≡◌, ℕ, ◌+◌, List, [], refl, sym, ap, subst}
-use Rattle.mp_netlist.specs.Circuit.{Circuit, IsCircuit}
+use Rattle.std.proofs.Common.{◌≡◌, ℕ, ◌+◌, List, [], Some, refl, sym, ap, subst}
+use Rattle.mp_records.specs.declared.module_record.ModuleRecord.{ModuleRecord}
+use Rattle.mp_netlist.specs.Circuit.{Circuit, IsCircuit, module_at}
+use Rattle.mp_model.specs.Waves.{state}
+use Rattle.mp_kernel.specs.events.Adding.{listed}
 use Rattle.mp_kernel.specs.events.Firing.{scheduled as events_scheduled}
 use Rattle.mp_kernel.proofs.lemmas.events.EmptyLemmas.{empty_turned, empty_next}
 use Rattle.mp_simulation.proofs.lemmas.bits.FiredLemmas.{fired as bits_fired}
@@ -13,6 +16,7 @@ use Rattle.mp_simulation.specs.units.NetlistSimulations.{IsSimulated, AreStimuli
 use Rattle.mp_simulation.specs.units.Units.{IsApplied}
 use Rattle.mp_simulation.proofs.lemmas.units.FireLemmas.{IsFired, fired}
 use Rattle.mp_simulation.proofs.lemmas.units.QuietLemmas.{quiet_unit}
+use Rattle.mp_simulation.proofs.lemmas.units.RestLemmas.{stays}
 
 none_stepped : (levels : List ℕ) (s : NetlistSimulation) → HaveStepped levels s.modules.places.items [] s.modules.modules.items s.modules.modules.items
 none_stepped levels s = record {
@@ -47,19 +51,28 @@ none_fires s due sound = record {
 pub none_due : (n : Circuit) → IsCircuit n → (t : ℕ) (s : NetlistSimulation) → IsApplied n t s → s.bits.simulator.due.items ≡ [] → IsSimulated n (t + 1) s
 none_due n ok t s applied due = fired n ok t s applied s s.bits.simulator.wheel (none_fires s due applied.applied.toggled.sound)
 
--- a unit in which nothing is set is over as soon as the one before
-pub rests_on : (n : Circuit) → IsCircuit n → (t : ℕ) (s : NetlistSimulation) → IsAtRest s → IsSimulated n t s → AreStimuli n [] [] (t + 1) → IsSimulated n (t + 1) s
-rests_on n ok t s rest is sets =
-    let events = s.bits.simulator.wheel in
-    let copies = s.bits.copies.wheel in
-    let changes = s.wires.wheel in
-    none_due n ok t s (record {
-      before = s;
-      is = is;
-      set = [];
-      changes = [];
-      stimuli = sets;
-      applied = quiet_unit s is.sound (empty_next events rest.bits.wires) (empty_next copies rest.bits.copies) (empty_next changes rest.changes) (t + 1)
-          events (sym (empty_turned events is.sound.simulator.some rest.bits.wires))
-          copies (sym (empty_turned copies is.sound.copies.some rest.bits.copies)) changes (sym (empty_turned changes is.wires.some rest.changes)) is.wires.some;
-    }) is.running.simulator.due
+module _ (n : Circuit) (ok : IsCircuit n) (t : ℕ) (s : NetlistSimulation) (rest : IsAtRest s) (is : IsSimulated n t s) (sets : AreStimuli n [] [] (t + 1)) where
+  -- what changes in a unit in which nothing is set has been applied before it
+  applied_at_rest : IsApplied n t s
+  applied_at_rest =
+      let events = s.bits.simulator.wheel in
+      let copies = s.bits.copies.wheel in
+      let changes = s.wires.wheel in
+      record {
+        before = s;
+        is = is;
+        set = [];
+        changes = [];
+        stimuli = sets;
+        applied = quiet_unit s is.sound (empty_next events rest.bits.wires) (empty_next copies rest.bits.copies) (empty_next changes rest.changes) (t + 1)
+            events (sym (empty_turned events is.sound.simulator.some rest.bits.wires))
+            copies (sym (empty_turned copies is.sound.copies.some rest.bits.copies)) changes (sym (empty_turned changes is.wires.some rest.changes)) is.wires.some;
+      }
+
+  -- so it is over as soon as the one before
+  pub rests_on : IsSimulated n (t + 1) s
+  rests_on = none_due n ok t s applied_at_rest is.running.simulator.due
+
+  -- and each module stays in its state
+  pub state_rests : (m : ℕ) (r : ModuleRecord) → module_at n m ≡ Some r → state n m (t + 1) ≡ state n m t
+  state_rests m r at = stays n ok t s applied_at_rest m r at (ap (listed m) is.running.simulator.due)

@@ -17,41 +17,32 @@ returns-then-min-le-MAX_SHORT_TEXT-clause-taken g c = let first = c.in_ok-input.
 
 -- ---- and more
 
-pub returns-in_err-rest-clause-taken : goal.returns-in_err-rest-clause-taken
-returns-in_err-rest-clause-taken g c =
+pub returns-in_err-take_more-clause-taken : goal.returns-in_err-take_more-clause-taken
+returns-in_err-take_more-clause-taken g c =
     let first = c.in_ok-input.ensures in
-    let some = c.in_err-rest.ensures.err in
+    let some = c.in_err-take_more.ensures.err in
     let limit = c.text_limit-limit.ensures.value ∙ ap text_limit c.as_slice.ensures.value in
     takes_more _ _ _ c.in_ok-input.input.items some.0 first.taken some.2 first.limit (subst (λ k. length some.0 ≤ k - max_short_text) limit some.1) first.front
-
-pub returns-in_err-extend_from_slice-clause-taken : goal.returns-in_err-extend_from_slice-clause-taken
-returns-in_err-extend_from_slice-clause-taken g c =
-    let first = c.in_ok-input.ensures in
-    let rest = c.in_ok-rest.ensures in
-    let limit = c.text_limit-limit.ensures.value ∙ ap text_limit c.as_slice.ensures.value in
-    takes_more _ _ _ c.in_ok-input.input.items c.in_ok-rest.rest.items first.taken rest.taken first.limit (subst (λ k. length c.in_ok-rest.rest.items ≤ k - max_short_text) limit rest.limit) first.front
 
 pub returns-clause-within : goal.returns-clause-within
 returns-clause-within g c =
     let first = c.in_ok-input.ensures in
-    let rest = c.in_ok-rest.ensures in
-    let all : c.extend_from_slice.new.self.items ≡ c.in_ok-input.input.items ++ c.in_ok-rest.rest.items = search rules in
+    let more = c.in_ok-take_more.ensures.more in
     let limit = c.text_limit-limit.ensures.value ∙ ap text_limit c.as_slice.ensures.value in
-    subst (λ (text : List ℕ). length text ≤ text_limit text + 1) (sym all)
-    (within_limit c.in_ok-input.input.items c.in_ok-rest.rest.items (search rules) first.limit (subst (λ k. length c.in_ok-rest.rest.items ≤ k - max_short_text) limit rest.limit))
+    subst (λ (text : List ℕ). length text ≤ text_limit text + 1) (sym more.text)
+    (within_limit c.in_ok-input.input.items more.bytes (search rules) first.limit (subst (λ k. length more.bytes ≤ k - max_short_text) limit more.within))
 
 pub returns-clause-front : goal.returns-clause-front
 returns-clause-front g c =
     let first = c.in_ok-input.ensures in
-    let rest = c.in_ok-rest.ensures in
-    let all : c.extend_from_slice.new.self.items ≡ c.in_ok-input.input.items ++ c.in_ok-rest.rest.items = search rules in
+    let more = c.in_ok-take_more.ensures.more in
     let limit = c.text_limit-limit.ensures.value ∙ ap text_limit c.as_slice.ensures.value in
-    subst (λ (text : List ℕ). IfSome (g.S.Source.left c.args.source.now) (λ bytes. text ≡ taken_of bytes)) (sym all)
-    (more_taken _ _ _ c.in_ok-input.input.items c.in_ok-rest.rest.items first.taken rest.taken first.limit (search rules) (subst (λ k. length c.in_ok-rest.rest.items ≤ k - max_short_text) limit rest.limit) (λ less. rest.end (subst (λ k. length c.in_ok-rest.rest.items < k - max_short_text) (sym limit) less)) first.front)
+    subst (λ (text : List ℕ). IfSome (g.S.Source.left c.args.source.now) (λ bytes. text ≡ taken_of bytes)) (sym more.text)
+    (more_taken _ _ _ c.in_ok-input.input.items more.bytes first.taken more.taken first.limit (search rules) (subst (λ k. length more.bytes ≤ k - max_short_text) limit more.within) (λ less. more.end (subst (λ k. length more.bytes < k - max_short_text) (sym limit) less)) first.front)
 
 pub returns-clause-taken : goal.returns-clause-taken
 returns-clause-taken g c =
     let first = c.in_ok-input.ensures in
-    let rest = c.in_ok-rest.ensures in
+    let more = c.in_ok-take_more.ensures.more in
     let limit = c.text_limit-limit.ensures.value ∙ ap text_limit c.as_slice.ensures.value in
-    takes_more _ _ _ c.in_ok-input.input.items c.in_ok-rest.rest.items first.taken rest.taken first.limit (subst (λ k. length c.in_ok-rest.rest.items ≤ k - max_short_text) limit rest.limit) first.front
+    takes_more _ _ _ c.in_ok-input.input.items more.bytes first.taken more.taken first.limit (subst (λ k. length more.bytes ≤ k - max_short_text) limit more.within) first.front

@@ -36,7 +36,7 @@ publish-requires-clause-kept g c =
     let before : story ≡ step.before = ap (λ (s : Standing). s.story) c.self.view_is ∙ sym c.requires.fits in
     let is : arc_value c.in-Some.draft.version ≡ story_after step = c.in-Some.ensures.versions.0 ∙ c.next_version-next.ensures in
     let after : c.write_version-receipt.result.1.story ≡ story_after step = ap (λ (p : Shown). p.story) c.write_version-receipt.ensures.published ∙ is in
-    let same : one_more story c.args.edit.now ≡ c.write_version-receipt.result.1.story = ap (λ (s : Story). one_more s c.args.edit.now) before ∙ ap (λ e. one_more step.before e) (sym c.requires.edit) ∙ sym after in
+    let same : one_more story c.edit.result.now ≡ c.write_version-receipt.result.1.story = ap (λ (s : Story). one_more s c.edit.result.now) before ∙ ap (λ e. one_more step.before e) c.edit.ensures ∙ sym after in
     let well : is_err c.keep.result ≡ false = search rules in
     subst (g.K.EditKeeper.keeps c.keep.new.self) same (on_ok c.keep.result well (c.keep.ensures.kept story c.self.invariant.7))
 

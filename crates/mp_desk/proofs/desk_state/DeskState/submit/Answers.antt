@@ -9,7 +9,7 @@ pub returns-in-Err-clause-refused : goal.returns-in-Err-clause-refused
 returns-in-Err-clause-refused g c =
     let story = g.S.EditSession.story c.self.inside.session in
     let same : c.accept.new.me.seen ≡ story = ap (λ (d : Working). d.seen) c.in-Err.ensures.same.1 ∙ c.catch_up.ensures.seen ∙ ap (λ p. p.story) c.self.invariant.0 in
-    stopped g.K.EditKeeper.is_lost c.args.me.now.seen c.accept.new.me.seen story c.args.edit.now _ c.in-Err.error same c.in_ok-prepared.ensures.accepted c.in-Err.ensures.refused
+    stopped g.K.EditKeeper.is_lost c.args.me.now.seen c.accept.new.me.seen story c.args.edit _ c.in-Err.error same c.in_ok-prepared.ensures.accepted c.in-Err.ensures.refused
 
 pub returns-in-Ok-clause-signed : goal.returns-in-Ok-clause-signed
 returns-in-Ok-clause-signed g c =

@@ -14,7 +14,7 @@ returns-clause-accepted g c =
     let notice : Story = c.in_ok-receipt.receipt.notice in
     let old : DesignerTally = record { seen = at.me.seen; accepted = at.me.accepted; refused = at.refused; told = told_of at.last; wanting = at.wanting; number = at.me.number; signed = at.me.signed; reads = at.me.reads } in
     let new : DesignerTally = record { seen = me.seen; accepted = me.accepted; refused = at.refused; told = length notice.edits; wanting = at.wanting; number = me.number; signed = me.signed; reads = me.reads } in (
-      subst (λ (s : DesignerTally). IsAccepted s new c.args.edit.now) c.self.view_is
-          (accepted_there old new c.args.edit.now told.accepted.0 version told.accepted.1 told.accepted.2 told.seen told.counted refl (ap (λ (s : Story). length s.edits) told.notice) refl told.number told.signed),
+      subst (λ (s : DesignerTally). IsAccepted s new c.args.edit) c.self.view_is
+          (accepted_there old new c.args.edit told.accepted.0 version told.accepted.1 told.accepted.2 told.seen told.counted refl (ap (λ (s : Story). length s.edits) told.notice) refl told.number told.signed),
       c.number-number.ensures,
     )

@@ -1,0 +1,6 @@
+use Rattle.std.proofs.Common.{refl, arith}
+use Rattle.mp_version.proofs.SameLemmas.{same_slots}
+use Rattle.mp_version.proofs.same_netlist.same_wires.Goals as goal
+
+pub returns : goal.returns
+returns c = (λ _. same_slots c.args.a.now.wires c.args.b.now.wires (omega arith) (λ k within. c.loop-number.invariant k (omega arith)), λ _. refl)

@@ -1,7 +1,0 @@
-use Rattle.std.proofs.Common.{◌≡◌, ℕ, ◌<◌}
-use Rattle.mp_netlist.specs.Circuit.{wire_at}
-use Rattle.mp_version.proofs.same_record.same_wires.Given as goal
-
--- those before are the same
-abbrev pub invariant-loop-number : goal.invariant-loop-number
-invariant-loop-number l = (k : ℕ) → k < l.number → wire_at l.a k ≡ wire_at l.b k
