@@ -75,7 +75,9 @@ class Check:
         """The sets of inputs of which each holds an output."""
         kind, params, _, _ = self.netlist.modules[number]
         levels, outputs, served, waits = self.states[number][self.end]
-        if kind in ("XOR", "SUM"):
+        if kind == "MUX":
+            return [[levels[2], 2]]
+        if kind in ("XOR", "SUM", "AND", "OR", "SUB", "LESS", "JOIN"):
             return [[0, 1]]
         if kind == "C":
             return [[place] for place in (0, 1) if levels[place] ^ params[1 + place] == outputs[0]]

@@ -51,7 +51,8 @@ def dump(netlist, levels):
 def text(netlist):
     """The netlist's text."""
     name = lambda wire: netlist.wires[wire][0]
-    form = 4 if netlist.is_large else 2 if netlist.horizon > 65536 else 1
+    is_later = any(found and found[0] in reference.LATER for found in netlist.modules)
+    form = 4 if netlist.is_large or is_later else 2 if netlist.horizon > 65536 else 1
     lines = ([f"format {form}"] if form > 1 else []) + [f"horizon {netlist.horizon}"]
     lines += [f"wire {wire[0]} {wire[1]} {wire[2]}" for wire in netlist.wires if wire]
     for number, found in enumerate(netlist.modules):

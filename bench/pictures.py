@@ -14,8 +14,8 @@ ASCII = "_-/\\#=X"
 
 SHAPES = {"C": "circle", "XOR": "diamond"}
 SHAPES |= dict.fromkeys(["BUF", "NOT"], "triangle orientation=270 margin=0")
-SHAPES |= dict.fromkeys(["ADDC", "XORC", "SUM", "BIT"], "ellipse")
-SHAPES |= dict.fromkeys(["REG", "TOGGLE", "SELECT", "CALL", "ARBITER"], "record")
+SHAPES |= dict.fromkeys(["ADDC", "XORC", "SUM", "BIT", "AND", "OR"], "ellipse")
+SHAPES |= dict.fromkeys(["REG", "TOGGLE", "SELECT", "CALL", "ARBITER", "SUB", "LESS", "MUX", "JOIN"], "record")
 
 
 ROUND = [digit * 10**power for power in range(10) for digit in (1, 2, 5)]
@@ -319,6 +319,10 @@ CELLS = {
     "CALL": ("r1 r2 d", "r d1 d2"),
     "ARBITER": ("r1 r2 d1 d2", "g1 g2"),
     "REG": ("d c p", "q cd pd"),
+    "SUB": ("a b", "y"),
+    "LESS": ("a b", "y"),
+    "MUX": ("a b s", "y"),
+    "JOIN": ("a b", "y"),
 }
 
 

@@ -68,24 +68,24 @@ def output(word):
     return (None if name == "-" else name), delay
 
 
-def module(words):
-    """The edit of a `module` statement."""
+def module(words, kinds=reference.KINDS):
+    """The edit of a `module` statement, of one of these kinds."""
     want(3, len(words) > 3 and ":" in words[3:])
     colon = words.index(":", 3)
     want(3, ">" in words[colon:])
     arrow = words.index(">", colon)
     want(3, arrow > colon + 1 and len(words) > arrow + 1)
-    want(2, words[2] in reference.KINDS)
+    want(2, words[2] in kinds)
     inputs = [divided(word) if "/" in word else (word, 0) for word in words[colon + 1 : arrow]]
     params, outputs = [number(word) for word in words[3:colon]], [output(word) for word in words[arrow + 1 :]]
     return "add_module", (words[1], words[2], params, inputs, outputs)
 
 
-def edit(words):
-    """The edit of a line that begins with a word of `EDITS`, as a method of `Circuit` and what is given to it."""
+def edit(words, kinds=reference.KINDS):
+    """The edit of a line that begins with a word of `EDITS`, as a method of `Circuit` and what is given to it. A module has one of these kinds."""
     first, rest = words[0], words[1:]
     if first == "module":
-        return module(words)
+        return module(words, kinds)
     if first == "stim":
         want(3, rest)
         return "set_stimulus", (rest[0], [pair(word) for word in rest[1:]])
@@ -200,7 +200,7 @@ def statement(circuit, words, is_first, greatest):
     want(5, first in ("format", "horizon") or circuit is not None)
     if first in STATEMENTS:
         try:
-            return edited(circuit, edit(words)), greatest
+            return edited(circuit, edit(words, reference.KINDS if circuit.is_large else reference.KINDS.keys() - reference.LATER)), greatest
         except Refused as refused:
             raise Fault(7, f": {refused}") from None
     want(3, len(words) == 2)

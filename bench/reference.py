@@ -16,7 +16,16 @@ KINDS = {
     "XORC": lambda w: ([1 << w], [w], [w]),
     "SUM": lambda w: ([], [w, w], [w]),
     "BIT": lambda w: ([w], [w], [1]),
+    "AND": lambda w: ([], [w, w], [w]),
+    "OR": lambda w: ([], [w, w], [w]),
+    "SUB": lambda w: ([], [w, w], [w]),
+    "LESS": lambda w: ([], [w, w], [1]),
+    "MUX": lambda w: ([], [w, w, 1], [w]),
+    "JOIN": lambda w: ([], [min(w, 63), 1], [w + 1]),
 }
+
+# the kinds that a text has only in the format 4
+LATER = {"AND", "OR", "SUB", "LESS", "MUX", "JOIN"}
 
 # the codes of findings, by number
 CODES = """merge-collision withdrawn select-unstable call-overlap done-without-call repeat-request done-without-grant capture-while-held
@@ -166,6 +175,12 @@ def built(kind, params, width):
         "XORC": lambda a: a ^ params[0],
         "SUM": lambda a, b: (a + b) % modulus,
         "BIT": lambda a: a >> params[0] & 1,
+        "AND": lambda a, b: a & b,
+        "OR": lambda a, b: a | b,
+        "SUB": lambda a, b: (a - b) % modulus,
+        "LESS": lambda a, b: int(a < b),
+        "MUX": lambda a, b, s: b if s else a,
+        "JOIN": lambda a, b: 2 * a + b,
     }
     if kind in combinations:
         return Combination(combinations[kind])

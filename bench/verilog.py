@@ -18,6 +18,12 @@ KINDS = {
     "XORC": ("K", "a", "y", True),
     "SUM": ("", "a b", "y", True),
     "BIT": ("K", "a", "y", True),
+    "AND": ("", "a b", "y", True),
+    "OR": ("", "a b", "y", True),
+    "SUB": ("", "a b", "y", True),
+    "LESS": ("", "a b", "y", True),
+    "MUX": ("", "a b s", "y", True),
+    "JOIN": ("", "a b", "y", True),
 }
 
 # the reserved words of Verilog-2005 and of SystemVerilog, and those that `iverilog` has besides
@@ -73,7 +79,7 @@ def instance(netlist, number):
     kind, params, inputs, outputs = netlist.modules[number]
     name, wires = netlist.module_names[number], netlist.wires
     named, read, driven, is_wide = KINDS[kind]
-    width = wires[inputs[0][0]][1] if is_wide else 1
+    width = wires[inputs[0][0]][1] + (kind == "JOIN") if is_wide else 1  # a JOIN is as wide as its output
     lines, values, ports = [], [], []
     for port, (wire, delay) in zip(read.split(), inputs):
         source = identifier(wires[wire][0])

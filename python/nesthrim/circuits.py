@@ -1,4 +1,4 @@
-"""Circuits that a netlist is made of: pipelines, FIFOs, rings, arbitrated stages, forks and joins.
+"""Circuits that a netlist is made of: pipelines, FIFOs, rings, arbitrated stages, forks, joins, and a loop that computes.
 
 Each adds wires and modules by the methods that anybody has, so it is also an example of how to write one's own.
 """
@@ -124,6 +124,54 @@ class Circuits(Kinds):
         part = self.part(name)
         part.c("", _rendezvous(part, reqs, delay), ~ack, out=out or part.wire("q"), delay=delay)
         return part
+
+    def gcd(self, name: str, req: Wire, ack: Wire, a: Wire, b: Wire, delay: int = 4, setup: int = 2) -> Part:
+        """The greatest common divisor of two numbers of one width, by repeated subtraction in a loop.
+
+        It takes the numbers `a` and `b`, neither of them 0, with a request `req`, and hands on their divisor `x` with the request `done`,
+        which `ack` acknowledges: the bundle `name`. The numbers have to stay until then, and the next ones may come after it. `delay` is
+        that of a comparison and of a subtraction. Steps begin with an event of `go`, and registers hold `x` and `y` meanwhile.
+        """
+        part = self.part(name)
+        part.wires("go", "again", "done", "late", "taken", "cap", "opened", "free", "lt", "gt", "differ")
+        part.wires("shut", "held", "ready", level=1)
+        part.wires("x", "y", "less_x", "less_y", "new_x", "new_y", width=a.width)
+        for wire, number in (("x", a), ("y", b)):
+            part.wires(f"next_{wire}", f"kept_{wire}", width=a.width, level=number.level)
+        _gcd_control(part, req, delay)
+        _gcd_data(part, a, b, delay)
+        part.bundle("", part["done"], ack, part["x"], setup)
+        for wire in ("x", "y"):
+            part.bundle(wire, part["go"], part["free"], part[f"next_{wire}"], setup)
+        return part
+
+
+def _gcd_control(part: Part, req: Wire, delay: int) -> None:
+    """Adds what begins a step, has the registers take its numbers in turn, and ends it or begins another one."""
+    part.xor("start", req, part["again"], out="go")
+    part.not_("shut", part["opened"], out="shut", delay=2)
+    part.not_("free", part["held"], out="free")
+    part.buf("match", part["held"], out="ready", delay=delay + 5)
+    part.select("turn", part["ready"], part["differ"], true="again", false="done")
+    part.reg("seen", req, part["shut"], part["cap"], q=part["late"] / 6)
+    part.xor("busy", part["late"], part["done"], out="taken")
+
+
+def _gcd_data(part: Part, a: Wire, b: Wire, delay: int) -> None:
+    """Adds what keeps the two numbers, compares and subtracts them, and chooses the numbers of the next step."""
+    for wire, number in (("x", a), ("y", b)):
+        part.mux(f"next_{wire}", number, part[f"new_{wire}"], part["taken"], out=f"next_{wire}", delay=3)
+    part.reg("kept_x", part["next_x"], part["go"], part["free"], q="kept_x", cd="cap")
+    part.reg("kept_y", part["next_y"], part["go"], part["free"], q="kept_y")
+    part.reg("x", part["kept_x"], part["shut"], part["cap"], q="x", cd="held", pd="opened")
+    part.reg("y", part["kept_y"], part["shut"], part["cap"], q="y")
+    part.less("lt", part["x"], part["y"], out="lt", delay=delay)
+    part.less("gt", part["y"], part["x"], out="gt", delay=delay)
+    part.or_("differ", part["lt"], part["gt"], out="differ")
+    part.sub("less_x", part["x"], part["y"], out="less_x", delay=delay)
+    part.sub("less_y", part["y"], part["x"], out="less_y", delay=delay)
+    part.mux("new_x", part["less_x"], part["x"], part["lt"], out="new_x", delay=3)
+    part.mux("new_y", part["y"], part["less_y"], part["lt"], out="new_y", delay=3)
 
 
 def _want_each(count: int, stages: int) -> None:

@@ -9,7 +9,7 @@ from typing import Any, Dict, Iterable, Iterator, List, Mapping, Optional, Tuple
 from .builder import Builder
 from .errors import AnswerError, Refused
 from .faults import Origin
-from .modules import Module, Statement
+from .modules import LATER_KINDS, Module, Statement
 from .names import asked_name, not_there, plain_name
 from .program import Program
 from .reading import statement_of
@@ -29,7 +29,8 @@ class Contents(Builder):
     """The things of a netlist, and its horizon.
 
     Wires, modules, stimuli and bundles are added in any order, changed and removed. `str` of it is its text. `program` is asked, and that of
-    `find_program` if it is `None`; `form` is that of the text (1, 2 or 4), the least that fits if it is `None`.
+    `find_program` if it is `None`; `form` is that of the text (1, 2 or 4), the least that fits if it is `None`; a
+    kind of module may need 4.
     """
 
     __slots__ = ("program", "_horizon", "_form", "_wires", "_modules", "_stimuli", "_bundles", "_made_at", "_revision", "__weakref__")
@@ -182,6 +183,8 @@ class Contents(Builder):
         yield from self._bundles.values()
 
     def _least_form(self, size: int) -> int:
+        if any(module.kind in LATER_KINDS for module in self._modules.values()):
+            return 4
         many = len(self._wires) > _WIRES or len(self._modules) > _MODULES or len(self._bundles) > _BUNDLES
         if self._form is not None:
             return self._form

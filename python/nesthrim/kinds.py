@@ -129,3 +129,27 @@ class Kinds(ABC):
     def bit(self, name: str, a: End, k: int, *, out: Optional[End] = None, delay: int = 1) -> Module:
         """Bit k of data, bit 0 being the least."""
         return self.module(name, "BIT", [a], [out], [k], delay)
+
+    def and_(self, name: str, a: End, b: End, *, out: Optional[End] = None, delay: int = 1) -> Module:
+        """The bits that are 1 in both of two data of one width."""
+        return self.module(name, "AND", [a, b], [out], delay=delay)
+
+    def or_(self, name: str, a: End, b: End, *, out: Optional[End] = None, delay: int = 1) -> Module:
+        """The bits that are 1 in one of two data of one width."""
+        return self.module(name, "OR", [a, b], [out], delay=delay)
+
+    def sub(self, name: str, a: End, b: End, *, out: Optional[End] = None, delay: int = 1) -> Module:
+        """a less b, modulo two to the power of their width."""
+        return self.module(name, "SUB", [a, b], [out], delay=delay)
+
+    def less(self, name: str, a: End, b: End, *, out: Optional[End] = None, delay: int = 1) -> Module:
+        """1 if a is less than b, and otherwise 0."""
+        return self.module(name, "LESS", [a, b], [out], delay=delay)
+
+    def mux(self, name: str, a: End, b: End, s: End, *, out: Optional[End] = None, delay: int = 1) -> Module:
+        """a if s is 0, and b if it is 1."""
+        return self.module(name, "MUX", [a, b, s], [out], delay=delay)
+
+    def join_(self, name: str, a: End, b: End, *, out: Optional[End] = None, delay: int = 1) -> Module:
+        """a with the bit b below it: one bit more than a."""
+        return self.module(name, "JOIN", [a, b], [out], delay=delay)

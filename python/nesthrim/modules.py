@@ -38,8 +38,17 @@ SHAPES: Dict[str, Shape] = {
     "XORC": _shape("k", "a", "y"),
     "SUM": _shape("", "a b", "y"),
     "BIT": _shape("k", "a", "y"),
+    "AND": _shape("", "a b", "y"),
+    "OR": _shape("", "a b", "y"),
+    "SUB": _shape("", "a b", "y"),
+    "LESS": _shape("", "a b", "y"),
+    "MUX": _shape("", "a b s", "y"),
+    "JOIN": _shape("", "a b", "y"),
 }
 _NO_SHAPE = _shape("", "", "")
+
+# the kinds that a text has only in the format 4
+LATER_KINDS = frozenset(("AND", "OR", "SUB", "LESS", "MUX", "JOIN"))
 
 
 class Module(Thing):

@@ -2,6 +2,9 @@
 
 from __future__ import annotations
 
+import math
+import random
+
 from nesthrim import FifoStage, Netlist
 from tests.support import Case
 
@@ -187,6 +190,22 @@ class Circuits(Case):
         n.events(r, 2, 8, 30)
         self.assert_same_waves(n, FORK_AND_JOIN.replace("_q", "1_q"))
         self.assertEqual([3, 3, 3, 3], [len(n.waves()[name].changes) for name in ("b11.q", "b21.q", "b31.q", "met")])
+
+    def test_a_greatest_common_divisor(self) -> None:
+        numbers = random.Random(50)
+        pairs = [(numbers.randint(1, 60), numbers.randint(1, 60)) for _ in range(50)]
+        n = Netlist(50 * 1200)
+        r, k = n.wires("r", "k")
+        a, b = n.wires("a", "b", width=8)
+        loop = n.gcd("g", r, k, a, b)
+        n.buf("sink", loop.done, out=k, delay=15)
+        for wire, place in ((a, 0), (b, 1)):
+            n.stim(wire, {10 + 1200 * at: pair[place] for at, pair in enumerate(pairs)})
+        n.events(r, *(20 + 1200 * at for at in range(50)))
+        waves = n.waves()
+        found = [waves["g_x"].level(time) for time in waves["g_done"].times]
+        self.assertEqual([math.gcd(*pair) for pair in pairs], found)
+        self.assertFalse(n.report())
 
     def test_a_fork_and_a_join_drive_wires_of_their_own(self) -> None:
         n = Netlist(40)

@@ -49,6 +49,49 @@ bundle p a k d 4
 """
 
 
+# the kinds that need a form of text
+COMPUTING = """format 4
+horizon 20
+wire a 8 200
+wire b 8 7
+wire s 1 0
+wire y1 8 0
+wire y2 8 207
+wire y3 8 193
+wire y4 1 0
+wire y5 8 200
+wire y6 9 400
+module m1 AND : a b > y1/1
+module m2 OR : a b/3 > y2/2
+module m3 SUB : a b > y3/1
+module m4 LESS : a b > y4/1
+module m5 MUX : a b s/2 > y5/3
+module m6 JOIN : a s > y6/1
+stim a 4=9
+stim s 6=1
+"""
+
+
+def computing() -> Netlist:
+    n = Netlist(20)
+    a, b, s = n.wire("a", 8, 200), n.wire("b", 8, 7), n.wire("s")
+    n.wire("y1", 8)
+    n.wire("y2", 8, 207)
+    n.wire("y3", 8, 193)
+    n.wire("y4")
+    n.wire("y5", 8, 200)
+    n.wire("y6", 9, 400)
+    n.and_("m1", a, b, out="y1")
+    n.or_("m2", a, b / 3, out="y2", delay=2)
+    n.sub("m3", a, b, out="y3")
+    n.less("m4", a, b, out="y4")
+    n.mux("m5", a, b, s / 2, out="y5", delay=3)
+    n.join_("m6", a, s, out="y6")
+    n.stim(a, {4: 9})
+    n.stim(s, {6: 1})
+    return n
+
+
 def all_kinds() -> Netlist:
     n = Netlist(90)
     a, b, k = n.wire("a"), n.wire("b", 1, 1), n.wire("k")
@@ -81,6 +124,12 @@ class Texts(Case):
     def test_each_kind_is_written_as_by_hand(self) -> None:
         self.assertEqual(ALL_KINDS, str(all_kinds()))
         self.assertEqual(ALL_KINDS, all_kinds().text())
+
+    def test_kinds_that_need_a_form_are_written_in_it(self) -> None:
+        self.assertEqual(COMPUTING, str(computing()))
+        self.assertEqual(COMPUTING, str(Netlist.read(COMPUTING)))
+        self.assertEqual(((5, 18), (7, 19)), computing().waves()["y6"].changes)
+        self.assertEqual(((11, 7),), tuple(computing().waves()["y5"].changes)[-1:])
 
     def test_what_is_read_is_written_as_the_program_writes_it(self) -> None:
         for name in examples():

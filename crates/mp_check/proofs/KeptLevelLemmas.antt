@@ -4,6 +4,7 @@ use Rattle.std.proofs.lemmas.Bool.{cases_lt, leb-true, le-leb}
 use Rattle.mp_modules.specs.declared.kind.Kind.{Kind}
 use Rattle.mp_modules.specs.declared.kind.Kind.TheVariants as kinds
 use Rattle.mp_modules.specs.declared.memory.Memory.{Memory}
+use Rattle.mp_modules.proofs.KindLemmas.{one_function_output}
 use Rattle.mp_modules.specs.CElement.{joined}
 use Rattle.mp_modules.specs.Kinds.{output_count}
 use Rattle.mp_modules.specs.Memories.{input_levels, output_of, with_one_output, with_outputs}
@@ -28,15 +29,9 @@ use Rattle.mp_check.proofs.StillLemmas.{since_still, still_since}
 told_alike : (kind : Kind) (params : List ℕ) (width : ℕ) → is_told_by_output kind ≡ true → (s t : Memory) (x : List ℕ) → output_of s 0 ≡ output_of t 0
     → step (any_part_of kind params width) s x ≡ step (any_part_of kind params width) t x
 unfolding any_part_of step
-told_alike kinds.Buf params width told s t x same = refl
-told_alike kinds.Not params width told s t x same = refl
-told_alike kinds.Xor params width told s t x same = refl
 told_alike kinds.C params width told s t x same = ap (λ q. with_one_output x (joined (rendezvous params) q x)) same
 told_alike kinds.Reg params width told s t x same = ap (λ q. with_outputs x (latched q x ∷ slice_index x 1 ∷ slice_index x 2 ∷ [])) same
-told_alike kinds.AddC params width told s t x same = refl
-told_alike kinds.XorC params width told s t x same = refl
-told_alike kinds.Sum params width told s t x same = refl
-told_alike kinds.Bit params width told s t x same = refl
+told_alike (kinds.Function f) params width told s t x same = refl
 told_alike kinds.Toggle params width told s t x same = let no : ⊥ = cc in absurd no
 told_alike kinds.Select params width told s t x same = let no : ⊥ = cc in absurd no
 told_alike kinds.Call params width told s t x same = let no : ⊥ = cc in absurd no
@@ -45,14 +40,8 @@ told_alike kinds.Arbiter params width told s t x same = let no : ⊥ = cc in abs
 -- of these kinds a REG alone has a further output
 pub only_reg : (kind : Kind) (p : ℕ) → is_told_by_output kind ≡ true → 0 < p → p < output_count kind → kind ≡ kinds.Reg
 only_reg kinds.Reg p told some low = refl
-only_reg kinds.Buf p told some low = absurd (omega (arith, some, low))
-only_reg kinds.Not p told some low = absurd (omega (arith, some, low))
-only_reg kinds.Xor p told some low = absurd (omega (arith, some, low))
 only_reg kinds.C p told some low = absurd (omega (arith, some, low))
-only_reg kinds.AddC p told some low = absurd (omega (arith, some, low))
-only_reg kinds.XorC p told some low = absurd (omega (arith, some, low))
-only_reg kinds.Sum p told some low = absurd (omega (arith, some, low))
-only_reg kinds.Bit p told some low = absurd (omega (arith, some, low))
+only_reg (kinds.Function f) p told some low = absurd (omega (arith, some, low, one_function_output f))
 only_reg kinds.Toggle p told some low = let no : ⊥ = cc in absurd no
 only_reg kinds.Select p told some low = let no : ⊥ = cc in absurd no
 only_reg kinds.Call p told some low = let no : ⊥ = cc in absurd no

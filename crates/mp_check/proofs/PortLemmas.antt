@@ -2,9 +2,7 @@
 use Rattle.std.proofs.Common.{◌≡◌, ◌⊎◌, ℕ, ◌+◌, ◌<◌, ◌≤◌, ◌&&◌, Bool, true, false, List, [], ◌∷◌, length, get_or, take, Option, Some, None, is_some, zero, suc, refl, ap, sym, subst, ◌∙◌, inl, inr, arith}
 use Rattle.std.specs.List.{list_all}
 use Rattle.std.proofs.lemmas.List.Folds.{list_all_more}
-use Rattle.mp_modules.specs.declared.kind.Kind.{Kind}
-use Rattle.mp_modules.specs.declared.kind.Kind.TheVariants as kinds
-use Rattle.mp_modules.specs.Kinds.{output_count}
+use Rattle.mp_modules.proofs.KindLemmas.{few_outputs}
 use Rattle.mp_records.specs.declared.ids.ModuleId.{ModuleId}
 use Rattle.mp_records.specs.declared.ids.WireId.{WireId}
 use Rattle.mp_records.specs.declared.module_record.ModuleRecord.{ModuleRecord}
@@ -18,21 +16,6 @@ use Rattle.mp_netlist.proofs.LimitLemmas.{modules_within}
 use Rattle.mp_netlist.proofs.TableLemmas.{slot_within}
 use Rattle.mp_netlist.proofs.UseLemmas.{output_within}
 use Rattle.mp_check.specs.Dead.{port_numbers, port_number, port_slots}
-
-pub few_outputs : (kind : Kind) → output_count kind ≤ port_numbers
-few_outputs kinds.Buf = omega arith
-few_outputs kinds.Not = omega arith
-few_outputs kinds.Xor = omega arith
-few_outputs kinds.C = omega arith
-few_outputs kinds.Toggle = omega arith
-few_outputs kinds.Select = omega arith
-few_outputs kinds.Call = omega arith
-few_outputs kinds.Arbiter = omega arith
-few_outputs kinds.Reg = omega arith
-few_outputs kinds.AddC = omega arith
-few_outputs kinds.XorC = omega arith
-few_outputs kinds.Sum = omega arith
-few_outputs kinds.Bit = omega arith
 
 module _ (n : Circuit) (ok : IsCircuit n) where
   abbrev IsLow : Driver → Type 0

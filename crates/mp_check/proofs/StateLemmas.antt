@@ -30,27 +30,21 @@ use Rattle.mp_questions.proofs.lemmas.timing.EarLemmas.{map_at}
 use Rattle.mp_check.proofs.StillLemmas.{since_still}
 
 core_inputs : (part : CoreModule) (m : Memory) (x : List ℕ) → (tables.step part m x).inputs ≡ input_levels x
-core_inputs core.Buf m x = refl
-core_inputs core.Not m x = refl
-core_inputs core.Xor m x = refl
 core_inputs (core.C c) m x = refl
-core_inputs core.Toggle m x = refl
-core_inputs core.Select m x = refl
-core_inputs core.Call m x = refl
-core_inputs core.Arbiter m x = refl
+core_inputs _ m x = refl
 
 -- a state holds the levels of its inputs
 step_inputs : (part : AnyModule) (m : Memory) (x : List ℕ) → (step part m x).inputs ≡ input_levels x
 unfolding step
 step_inputs (parts.Core part) m x = core_inputs part m x
 step_inputs (parts.Reg part) m x = refl
-step_inputs (parts.Computed part) m x = refl
+step_inputs (parts.Function part) m x = refl
 
 pub settle_is : (part : AnyModule) (x : List ℕ) → settle part x ≡ step part (seen x (start part)) x
 unfolding settle step start
 settle_is (parts.Core part) x = refl
 settle_is (parts.Reg part) x = refl
-settle_is (parts.Computed part) x = refl
+settle_is (parts.Function part) x = refl
 
 padded : (x : List ℕ) (q : ℕ) → q < 4 → slice_index (input_levels x) q ≡ slice_index x q
 padded x zero low = refl

@@ -55,8 +55,7 @@ fn is_told_by_output(kind: Kind) -> bool
 {
     match kind {
         Kind::Toggle | Kind::Select | Kind::Call | Kind::Arbiter => false,
-        Kind::Buf | Kind::Not | Kind::Xor | Kind::C | Kind::Reg => true,
-        Kind::AddC | Kind::XorC | Kind::Sum | Kind::Bit => true,
+        Kind::C | Kind::Reg | Kind::Function(_) => true,
     }
 }
 

@@ -2,6 +2,7 @@ pub mod Names
 pub mod Ports
 pub mod EventModules
 pub mod DataModules
+pub mod FunctionModules
 pub mod Kinds
 pub mod Lists
 pub mod Declarations

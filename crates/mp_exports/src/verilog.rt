@@ -4,6 +4,7 @@ mod bench;
 mod data_modules;
 mod declarations;
 mod event_modules;
+mod function_modules;
 mod instances;
 mod kinds;
 mod listed;

@@ -1,22 +1,43 @@
 -- What holds the outputs of modules that serve nobody.
-use Rattle.std.proofs.Common.{◌≡◌, ℕ, ◌==◌, ◌⊎◌, inl, inr, Bool, true, false, not, cond, List, [], ◌∷◌, slice_index, refl, ap, sym, ◌∙◌, eq-eqb}
+use Rattle.std.proofs.Common.{◌≡◌, ℕ, ◌+◌, ◌-◌, ◌/◌, ◌%◌, ◌^◌, ◌==◌, ◌⊎◌, inl, inr, Bool, true, false, not, cond, List, [], ◌∷◌, slice_index, refl, ap, sym, ◌∙◌, eq-eqb}
+use Rattle.std.specs.Prelude.{bit_xor}
 use Rattle.std.proofs.lemmas.Bool.{cases_Bool, eqb-true}
+use Rattle.mp_modules.specs.declared.function.Function.{Function}
+use Rattle.mp_modules.specs.declared.function.Function.TheVariants as functions
 use Rattle.mp_modules.specs.declared.memory.Memory.{Memory}
 use Rattle.mp_modules.specs.declared.rendezvous.Rendezvous.{Rendezvous}
 use Rattle.mp_modules.specs.CElement.{bubbled, joined}
 use Rattle.mp_modules.specs.Memories.{output_of, flipped, seen, with_outputs, with_one_output}
-use Rattle.mp_modules.specs.Merge.{merged}
 use Rattle.mp_modules.specs.Select.{select_step, chosen}
 use Rattle.mp_modules.specs.Toggle.{toggle_step, turn}
+use Rattle.mp_modules.specs.storage.Functions.{result_of}
 use Rattle.mp_modules.specs.storage.Reg.{is_open, latched}
-use Rattle.mp_holding.specs.Holding.{where_so, joining_sets, storing_sets}
+use Rattle.mp_modules.specs.storage.Widths.{modulus}
+use Rattle.mp_holding.specs.Holding.{where_so, joining_sets, storing_sets, function_set}
 use Rattle.mp_holding.specs.Laws.{HasSet, AreSame}
 use Rattle.mp_holding.proofs.SetLemmas.{has_left, has_right, has_cases, where_is, has_where, same_for, no_event}
 
--- ---- XOR
+-- ---- functions
 
-pub merged_same : (x y : List ℕ) → slice_index y 0 ≡ slice_index x 0 → slice_index y 1 ≡ slice_index x 1 → merged y ≡ merged x
-merged_same x y first second = ap (λ v. cond (v == slice_index y 1) 0 1) first ∙ ap (λ v. cond (slice_index x 0 == v) 0 1) second
+-- what a function gives goes by the inputs that hold it
+module _ (width k : ℕ) (x y : List ℕ) where
+  abbrev Keeps : Function → Type 0
+  Keeps f = AreSame (function_set f (with_one_output x 0)) x y
+      → result_of f width k (slice_index y 0) (slice_index y 1) (slice_index y 2) ≡ result_of f width k (slice_index x 0) (slice_index x 1) (slice_index x 2)
+
+  chosen_keeps : (first : Bool) → (slice_index x 2 == 0) ≡ first → AreSame (cond first 0 1 ∷ 2 ∷ []) x y
+      → cond (slice_index y 2 == 0) (slice_index y 0) (slice_index y 1) ≡ cond (slice_index x 2 == 0) (slice_index x 0) (slice_index x 1)
+  chosen_keeps true is same = rw (same.1.0, is) same.0
+  chosen_keeps false is same = rw (same.1.0, is) same.0
+
+  pub function_keeps : (f : Function) → Keeps f
+  function_keeps functions.Buf same = same.0
+  function_keeps functions.Not same = ap (λ v. 1 - v) same.0
+  function_keeps functions.AddC same = ap (λ v. (v + k) % modulus width) same.0
+  function_keeps functions.XorC same = ap (λ v. bit_xor v k) same.0
+  function_keeps functions.Bit same = ap (λ v. v / 2 ^ k % 2) same.0
+  function_keeps functions.Mux same = chosen_keeps (slice_index x 2 == 0) refl same
+  function_keeps _ same = rw (same.0, same.1.0) refl
 
 -- ---- TOGGLE and SELECT
 

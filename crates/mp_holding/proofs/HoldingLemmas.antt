@@ -1,20 +1,20 @@
 -- An output that inputs hold keeps its level as long as they keep theirs.
-use Rattle.std.proofs.Common.{◌≡◌, ℕ, ◌+◌, ◌-◌, ◌/◌, ◌%◌, ◌^◌, ◌<◌, List, [], ◌∷◌, slice_index, zero, suc, refl, ap, ◌∙◌, arith}
-use Rattle.std.specs.Prelude.{bit_xor}
+use Rattle.std.proofs.Common.{◌≡◌, ℕ, ◌<◌, ◌==◌, cond, List, [], ◌∷◌, slice_index, zero, suc, refl, sym, ap, subst, arith}
 use Rattle.mp_modules.specs.declared.kind.Kind.{Kind}
 use Rattle.mp_modules.specs.declared.kind.Kind.TheVariants as kinds
+use Rattle.mp_modules.specs.declared.function.Function.{Function}
+use Rattle.mp_modules.specs.declared.function.Function.TheVariants as functions
 use Rattle.mp_modules.specs.declared.memory.Memory.{Memory}
 use Rattle.mp_modules.specs.CElement.{joined}
 use Rattle.mp_modules.specs.Kinds.{output_count}
-use Rattle.mp_modules.specs.Memories.{output_of}
+use Rattle.mp_modules.specs.Memories.{output_of, with_one_output}
 use Rattle.mp_modules.specs.Tables.{rendezvous}
 use Rattle.mp_modules.specs.storage.AnyModules.{any_part_of, step}
 use Rattle.mp_modules.specs.storage.Reg.{latched}
-use Rattle.mp_modules.specs.storage.Widths.{modulus}
-use Rattle.mp_holding.specs.Holding.{holding_sets}
+use Rattle.mp_holding.specs.Holding.{holding_sets, function_set}
 use Rattle.mp_holding.specs.Laws.{HasSet, AreSame, StaysHeld, KeepsHeldOutputs, after_one}
 use Rattle.mp_holding.proofs.SetLemmas.{only, same_for}
-use Rattle.mp_holding.proofs.FunctionLemmas.{merged_same, toggle_keeps, select_keeps, joins_keep, stores_keep}
+use Rattle.mp_holding.proofs.FunctionLemmas.{function_keeps, toggle_keeps, select_keeps, joins_keep, stores_keep}
 use Rattle.mp_holding.proofs.CallLemmas.{call_keeps}
 use Rattle.mp_holding.proofs.ArbiterLemmas.{grant_keeps}
 
@@ -22,44 +22,26 @@ module _ (params : List ℕ) (width : ℕ) (s : Memory) (x y : List ℕ) (p : �
   first : HasSet ((0 ∷ []) ∷ []) set → slice_index y 0 ≡ slice_index x 0
   first has = (same_for (0 ∷ []) set x y (only (0 ∷ []) set has) same).0
 
-  both : HasSet ((0 ∷ 1 ∷ []) ∷ []) set → AreSame (0 ∷ 1 ∷ []) x y
-  both has = same_for (0 ∷ 1 ∷ []) set x y (only (0 ∷ 1 ∷ []) set has) same
-
   abbrev Goal : Kind → Type 0
   Goal kind = p < output_count kind → HasSet (holding_sets kind params (after_one kind params width s x) p) set → StaysHeld kind params width s x y p set
 
-  buf_keeps : Goal kinds.Buf
-  unfolding any_part_of step
-  buf_keeps low has = record { output = ap (λ v. slice_index (v ∷ 0 ∷ 0 ∷ []) p) (first has); holds = has }
+  -- the set of a function, in the state after the levels
+  set_of : Function → List ℕ → List ℕ
+  set_of f z = function_set f (with_one_output z 0)
 
-  not_keeps : Goal kinds.Not
-  unfolding any_part_of step
-  not_keeps low has = record { output = ap (λ v. slice_index ((1 - v) ∷ 0 ∷ 0 ∷ []) p) (first has); holds = has }
+  -- which is the same after the next levels, if they are the same at its inputs
+  same_set : (f : Function) → AreSame (set_of f x) x y → set_of f y ≡ set_of f x
+  same_set functions.Mux same = ap (λ v. cond (v == 0) 0 1 ∷ 2 ∷ []) same.1.0
+  same_set _ same = refl
 
-  xor_keeps : Goal kinds.Xor
+  function_holds : (f : Function) → Goal (kinds.Function f)
   unfolding any_part_of step
-  xor_keeps low has = let stay = both has in record { output = ap (λ v. slice_index (v ∷ 0 ∷ 0 ∷ []) p) (merged_same x y stay.0 stay.1.0); holds = has }
-
-  sum_keeps : Goal kinds.Sum
-  unfolding any_part_of step
-  sum_keeps low has =
-      let stay = both has in
+  function_holds f low has =
+      let stay = same_for (set_of f x) set x y (only (set_of f x) set has) same in
       record {
-        output = ap (λ v. slice_index ((v + slice_index y 1) % modulus width ∷ 0 ∷ 0 ∷ []) p) stay.0 ∙ ap (λ v. slice_index ((slice_index x 0 + v) % modulus width ∷ 0 ∷ 0 ∷ []) p) stay.1.0;
-        holds = has;
+        output = ap (λ v. slice_index (v ∷ 0 ∷ 0 ∷ []) p) (function_keeps width (slice_index params 0) x y f stay);
+        holds = subst (λ one. HasSet (one ∷ []) set) (sym (same_set f stay)) has;
       }
-
-  addc_keeps : Goal kinds.AddC
-  unfolding any_part_of step
-  addc_keeps low has = record { output = ap (λ v. slice_index ((v + slice_index params 0) % modulus width ∷ 0 ∷ 0 ∷ []) p) (first has); holds = has }
-
-  xorc_keeps : Goal kinds.XorC
-  unfolding any_part_of step
-  xorc_keeps low has = record { output = ap (λ v. slice_index (bit_xor v (slice_index params 0) ∷ 0 ∷ 0 ∷ []) p) (first has); holds = has }
-
-  bit_keeps : Goal kinds.Bit
-  unfolding any_part_of step
-  bit_keeps low has = record { output = ap (λ v. slice_index (v / 2 ^ slice_index params 0 % 2 ∷ 0 ∷ 0 ∷ []) p) (first has); holds = has }
 
   toggle_holds : Goal kinds.Toggle
   unfolding any_part_of step
@@ -97,16 +79,10 @@ module _ (params : List ℕ) (width : ℕ) (s : Memory) (x y : List ℕ) (set : 
   reg_keeps (suc (suc (suc p))) low has = absurd (omega (arith, low))
 
 pub keeps_held_outputs : KeepsHeldOutputs
-keeps_held_outputs kinds.Buf params width s x y p set low has same = buf_keeps params width s x y p set same low has
-keeps_held_outputs kinds.Not params width s x y p set low has same = not_keeps params width s x y p set same low has
-keeps_held_outputs kinds.Xor params width s x y p set low has same = xor_keeps params width s x y p set same low has
 keeps_held_outputs kinds.C params width s x y p set low has same = c_keeps params width s x y p set same low has
 keeps_held_outputs kinds.Toggle params width s x y p set low has same = toggle_holds params width s x y p set same low has
 keeps_held_outputs kinds.Select params width s x y p set low has same = select_holds params width s x y p set same low has
 keeps_held_outputs kinds.Call params width s x y p set low has same = call_holds params width s x y p set same low has
 keeps_held_outputs kinds.Arbiter params width s x y p set low has same = arbiter_holds params width s x y p set same low has
 keeps_held_outputs kinds.Reg params width s x y p set low has same = reg_keeps params width s x y set same p low has
-keeps_held_outputs kinds.AddC params width s x y p set low has same = addc_keeps params width s x y p set same low has
-keeps_held_outputs kinds.XorC params width s x y p set low has same = xorc_keeps params width s x y p set same low has
-keeps_held_outputs kinds.Sum params width s x y p set low has same = sum_keeps params width s x y p set same low has
-keeps_held_outputs kinds.Bit params width s x y p set low has same = bit_keeps params width s x y p set same low has
+keeps_held_outputs (kinds.Function f) params width s x y p set low has same = function_holds params width s x y p set same f low has

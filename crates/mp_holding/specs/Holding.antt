@@ -2,11 +2,14 @@
 use Rattle.std.specs.Prelude.{ℕ, Bool, not, ◌==◌, List, [], ◌∷◌, ◌++◌, slice_index, zero, suc, if◌then◌else◌}
 use Rattle.mp_modules.specs.declared.kind.Kind.{Kind}
 use Rattle.mp_modules.specs.declared.kind.Kind.TheVariants as kinds
+use Rattle.mp_modules.specs.declared.function.Function.{Function}
+use Rattle.mp_modules.specs.declared.function.Function.TheVariants as functions
 use Rattle.mp_modules.specs.declared.memory.Memory.{Memory}
 use Rattle.mp_modules.specs.declared.memory.Client.{Client}
 use Rattle.mp_modules.specs.declared.memory.Client.TheVariants.{Nobody, First, Second}
 use Rattle.mp_modules.specs.declared.rendezvous.Rendezvous.{Rendezvous}
 use Rattle.mp_modules.specs.CElement.{bubbled}
+use Rattle.mp_modules.specs.Kinds.{function_shape}
 use Rattle.mp_modules.specs.Clients.{is_free, is_same, waits}
 use Rattle.mp_modules.specs.Memories.{output_of}
 use Rattle.mp_modules.specs.Tables.{rendezvous}
@@ -56,12 +59,16 @@ abbrev pub register_sets : Memory → ℕ → List (List ℕ)
 register_sets s zero = storing_sets s
 register_sets s (suc p) = (suc p ∷ []) ∷ []
 
+-- a function: all inputs; MUX: the input that it chooses, and the one by which it does
+abbrev pub function_set : Function → Memory → List ℕ
+function_set functions.Mux s = (if slice_index s.inputs 2 == 0 then 0 else 1) ∷ 2 ∷ []
+function_set function s = if (function_shape function).inputs == 1 then 0 ∷ [] else 0 ∷ 1 ∷ []
+
 -- the sets of inputs of which each holds an output of a module in a state
 abbrev pub holding_sets : Kind → List ℕ → Memory → ℕ → List (List ℕ)
-holding_sets kinds.Xor params s p = (0 ∷ 1 ∷ []) ∷ []
-holding_sets kinds.Sum params s p = (0 ∷ 1 ∷ []) ∷ []
 holding_sets kinds.C params s p = joining_sets (rendezvous params) s
 holding_sets kinds.Call params s p = call_sets s p
 holding_sets kinds.Arbiter params s p = granting_sets (client_at p) p s
 holding_sets kinds.Reg params s p = register_sets s p
+holding_sets (kinds.Function function) params s p = function_set function s ∷ []
 holding_sets kind params s p = (0 ∷ []) ∷ []

@@ -1,11 +1,11 @@
 //! Which inputs hold an output.
 ghost use Rattle.std.specs.Prelude.{◌≡◌, [], ◌∷◌};
 ghost use Rattle.mp_modules.specs.CElement.{bubbled};
-ghost use Rattle.mp_holding.specs.Holding.{call_sets, calling_sets, client_at, granting_sets, holding_sets, joining_sets, owning_sets, register_sets, returning_sets};
+ghost use Rattle.mp_holding.specs.Holding.{call_sets, calling_sets, client_at, function_set, granting_sets, holding_sets, joining_sets, owning_sets, register_sets, returning_sets};
 ghost use Rattle.mp_holding.specs.InputSets.{set_list, sets_list};
 
 use crate::input_set::{InputSet, InputSets};
-use mp_modules::{Client, Kind, Memory, Rendezvous};
+use mp_modules::{Client, Function, Kind, Memory, Rendezvous};
 
 /// The sets of inputs of which each holds an output of a module, given its state: as long as all inputs of a set keep their levels, the output keeps its
 /// level.
@@ -13,20 +13,25 @@ pub fn holding_sets(kind: Kind, params: &[u64], memory: &Memory, port: u32) -> I
     ensures { sets_list result ≡ holding_sets kind params.now memory.now port }
 {
     match kind {
-        Kind::Buf | Kind::Not | Kind::AddC | Kind::XorC | Kind::Bit => first_input(),
-        Kind::Toggle | Kind::Select => first_input(),
-        Kind::Xor | Kind::Sum => InputSets::one(InputSet::Two(0, 1)),
+        Kind::Toggle | Kind::Select => InputSets::one(InputSet::One(0)),
         Kind::C => joining_sets(Rendezvous::from_params(params), memory),
         Kind::Call => call_sets(memory, port),
         Kind::Arbiter => granting_sets(memory, port),
         Kind::Reg => register_sets(memory, port),
+        Kind::Function(function) => InputSets::one(function_set(function, memory)),
     }
 }
 
-fn first_input() -> InputSets
-    ensures { sets_list result ≡ (0 ∷ []) ∷ [] }
+/// All inputs of a function; of a MUX the input that it chooses, and the one by which it does.
+fn function_set(function: Function, memory: &Memory) -> InputSet
+    ensures { set_list result ≡ function_set function memory.now ∷ [] }
 {
-    InputSets::one(InputSet::One(0))
+    match function {
+        Function::Mux if memory.inputs[2] == 0 => InputSet::Two(0, 2),
+        Function::Mux => InputSet::Two(1, 2),
+        _ if function.shape().inputs == 1 => InputSet::One(0),
+        _ => InputSet::Two(0, 1),
+    }
 }
 
 /// An input of a C that has the level of the output, behind its bubble.

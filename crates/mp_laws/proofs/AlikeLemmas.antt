@@ -2,7 +2,7 @@
 use Rattle.std.proofs.Common.{◌≡◌, ℕ, ◌+◌, ◌-◌, ◌<◌, ◌≤◌, cond, List, map, Option, Some, None, is_some, nat_lt, zero, suc, refl, ap, sym, subst, ◌∙◌, inl, inr, arith}
 use Rattle.std.proofs.lemmas.Bool.{cases_lt, lt-ltb}
 use Rattle.mp_modules.specs.declared.memory.Memory.{Memory}
-use Rattle.mp_modules.specs.Kinds.{has_width}
+use Rattle.mp_modules.specs.Kinds.{width_from}
 use Rattle.mp_modules.specs.Memories.{output_of}
 use Rattle.mp_modules.specs.storage.AnyModules.{any_part_of, settle, step}
 use Rattle.mp_records.specs.declared.wire_record.WireRecord.{WireRecord}
@@ -67,7 +67,7 @@ module _ (n later : Circuit) (ok : IsCircuit n) (later_ok : IsCircuit later) (en
 
   pub same_built : (r : ModuleRecord) → built later r ≡ built n r
   same_built r =
-      ap (λ v. any_part_of r.kind r.params (cond (has_width r.kind) v 1)) (slot_width end (wire_at n (input_at r 0).wire.0) (wire_at later (input_at r 0).wire.0) (goes.wires (input_at r 0).wire.0))
+      ap (λ v. any_part_of r.kind r.params (width_from r.kind v)) (slot_width end (wire_at n (input_at r 0).wire.0) (wire_at later (input_at r 0).wire.0) (goes.wires (input_at r 0).wire.0))
 
   -- levels by the states before
   port_same : (m p w t : ℕ) (slot : Option ModuleRecord) → ((r : ModuleRecord) → slot ≡ Some r → delay_of r p ≤ t → state later m (t - delay_of r p) ≡ state n m (t - delay_of r p))

@@ -30,7 +30,7 @@ use Rattle.mp_questions.specs.timing.Events.{since}
 use Rattle.mp_questions.specs.timing.Waits.{given}
 use Rattle.mp_check.specs.Dead.{dead, port_numbers, port_number, is_still, is_still_in, is_driven_within, are_still, last_unit}
 use Rattle.mp_check.proofs.DeadLemmas.{IsKept, kept_of, dead_is_kept, kept_are_dead}
-use Rattle.mp_check.proofs.PortLemmas.{few_outputs}
+use Rattle.mp_modules.proofs.KindLemmas.{few_outputs}
 use Rattle.mp_check.proofs.QuietLemmas.{from_on}
 use Rattle.mp_check.proofs.StateLemmas.{next_state, after_step}
 use Rattle.mp_check.proofs.StillLemmas.{since_still}

@@ -10,6 +10,7 @@ use Rattle.mp_modules.specs.declared.core_module.CoreModule.TheVariants as core
 use Rattle.mp_modules.specs.declared.finding_code.FindingCode.TheVariants.{Withdrawn}
 use Rattle.mp_modules.specs.declared.kind.Kind.{Kind}
 use Rattle.mp_modules.specs.declared.kind.Kind.TheVariants as kinds
+use Rattle.mp_modules.specs.declared.function.Function.TheVariants.{Xor}
 use Rattle.mp_modules.specs.declared.memory.Memory.{Memory}
 use Rattle.mp_modules.specs.declared.rendezvous.Rendezvous.{Rendezvous}
 use Rattle.mp_modules.specs.CElement.{bubbled, joined, is_withdrawn, is_withdrawn_at}
@@ -17,7 +18,6 @@ use Rattle.mp_modules.specs.Findings.{has_code, no_findings, with_code_if}
 use Rattle.mp_modules.specs.Histories.{has_event, events}
 use Rattle.mp_modules.specs.Kinds.{input_width}
 use Rattle.mp_modules.specs.Memories.{input_levels, output_of}
-use Rattle.mp_modules.specs.Merge.{merged}
 use Rattle.mp_modules.specs.Tables as tables
 use Rattle.mp_modules.specs.Tables.{rendezvous, first_output}
 use Rattle.mp_modules.specs.declared.storage.any_module.AnyModule.{AnyModule}
@@ -86,8 +86,12 @@ differ_says true false = (λ _. true≢false, λ _. refl)
 differ_says false true = (λ _. λ same. true≢false (sym same), λ _. refl)
 differ_says false false = (λ fails. absurd (true≢false (sym fails)), λ other. absurd (other refl))
 
+-- 1 where two levels differ, as an XOR gives it
+abbrev merged : List ℕ → ℕ
+merged x = bit (not (slice_index x 0 == slice_index x 1))
+
 -- the levels of two inputs differ anew exactly where one of them changes
-differ_anew : (a b c d : ℕ) → a < 2 → b < 2 → c < 2 → d < 2 → not (cond (a == b) 0 1 == cond (c == d) 0 1) ≡ differ (not (a == c)) (not (b == d))
+differ_anew : (a b c d : ℕ) → a < 2 → b < 2 → c < 2 → d < 2 → not (bit (not (a == b)) == bit (not (c == d))) ≡ differ (not (a == c)) (not (b == d))
 differ_anew a b c d low_a low_b low_c low_d = grind (arith, nat_tests)
 
 -- ---- a module of a netlist over time
@@ -132,19 +136,19 @@ module _ (n : Circuit) (ok : IsCircuit n) (m : ℕ) (r : ModuleRecord) (at : mod
 
   -- ---- XOR
 
-  module _ (xor : r.kind ≡ kinds.Xor) where
-    xor_built : built n r ≡ Core core.Xor
-    unfolding any_part_of
-    xor_built = built_at kinds.Xor xor
-
+  module _ (xor : r.kind ≡ kinds.Function Xor) where
     xor_output : (t : ℕ) → output n m 0 t ≡ merged (x t)
-    xor_output zero = ap (λ (s : Memory). output_of s 0) (first_state core.Xor xor_built)
-    xor_output (suc t) = ap (λ (s : Memory). output_of s 0) (next_state core.Xor xor_built t)
+    unfolding any_part_of settle step
+    xor_output zero =
+        ap (λ (s : Memory). output_of s 0) ((satisfies n ok).settled m r at ∙ ap (λ (b : AnyModule). settle b (x 0)) (built_at (kinds.Function Xor) xor))
+    xor_output (suc t) =
+        let is = subst (λ k. state n m k ≡ step (built n r) (state n m t) (x k)) (add-one t) ((satisfies n ok).stepped m t r at) in
+        ap (λ (s : Memory). output_of s 0) (is ∙ ap (λ (b : AnyModule). step b (state n m t) (x (suc t))) (built_at (kinds.Function Xor) xor))
 
     xor_event : (t : ℕ) → IsTrue (has_event (output n m 0) t) ↔ (has_event (input n r 0) t ≢ has_event (input n r 1) t)
     xor_event zero = differ_says false false
     xor_event (suc t) =
-        let low = low_inputs (narrow_at kinds.Xor xor (λ w p. ap (λ test. cond test w 1) (le-ltb p 0 (omega arith)))) in
+        let low = low_inputs (narrow_at (kinds.Function Xor) xor (λ w p. ap (λ test. cond test w 1) (le-ltb p 0 (omega arith)))) in
         let is : not (output n m 0 t == output n m 0 (suc t)) ≡ differ (has_event (input n r 0) (suc t)) (has_event (input n r 1) (suc t)) =
         ap (λ a. not (a == output n m 0 (suc t))) (xor_output t) ∙ ap (λ b. not (merged (x t) == b)) (xor_output (suc t))
         ∙ differ_anew (input n r 0 t) (input n r 1 t) (input n r 0 (suc t)) (input n r 1 (suc t)) (low 0 t) (low 1 t) (low 0 (suc t)) (low 1 (suc t)) in

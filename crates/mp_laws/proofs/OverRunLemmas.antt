@@ -107,18 +107,12 @@ depends_cases : (kind : Kind) (p : ℕ) (inputs : List Input)
     → (depends_on kind p inputs ≡ inputs) ⊎ ((kind ≡ kinds.Reg) × (0 < p) × (depends_on kind p inputs ≡ option_to_list (slice_get inputs p)))
 depends_cases kinds.Reg zero inputs = inl refl
 depends_cases kinds.Reg (suc p) inputs = inr (refl, omega arith, refl)
-depends_cases kinds.Buf p inputs = inl refl
-depends_cases kinds.Not p inputs = inl refl
-depends_cases kinds.Xor p inputs = inl refl
 depends_cases kinds.C p inputs = inl refl
 depends_cases kinds.Toggle p inputs = inl refl
 depends_cases kinds.Select p inputs = inl refl
 depends_cases kinds.Call p inputs = inl refl
 depends_cases kinds.Arbiter p inputs = inl refl
-depends_cases kinds.AddC p inputs = inl refl
-depends_cases kinds.XorC p inputs = inl refl
-depends_cases kinds.Sum p inputs = inl refl
-depends_cases kinds.Bit p inputs = inl refl
+depends_cases (kinds.Function f) p inputs = inl refl
 
 unread : (f g : Input → ℕ) (inputs : List Input) (p : ℕ) → slice_get inputs p ≡ None → slice_index (map f inputs) p ≡ slice_index (map g inputs) p
 unread f g [] p none = refl

@@ -9,6 +9,8 @@ use Rattle.mp_netlist.specs.declared.format.Format.{Format as NetlistFormat}
 use Rattle.mp_netlist.specs.declared.format.Format.TheVariants.{Standard, Large}
 use Rattle.mp_netlist.specs.Circuit.{Circuit, empty_circuit}
 use Rattle.mp_netlist.specs.Edits.{after_single}
+use Rattle.mp_records.specs.declared.single_edit.SingleEdit.{SingleEdit}
+use Rattle.mp_text.specs.declared.lexing.line_error.LineError.{LineError}
 use Rattle.mp_text.specs.declared.lexing.line_error.LineError.TheVariants.{NotAscii, BadNumber}
 use Rattle.mp_text.specs.lexing.Lines.{is_allowed, lines_of}
 use Rattle.mp_text.specs.lexing.Numbers.{spelled_number, number_from}
@@ -25,7 +27,7 @@ use Rattle.mp_text.specs.Formats.{format_of, max_horizon_of, netlist_format}
 use Rattle.mp_text.specs.Laws.{statements, format_by}
 use Rattle.mp_text.specs.Sizes.{text_limit}
 use Rattle.mp_text.specs.Texts.{in_text, formatted, text_at, after_lines, after_line, after_statement, next_line, finished}
-use Rattle.mp_text.specs.Statements.{Statement, Blank, Unknown, Format, Start, Change, statement_of}
+use Rattle.mp_text.specs.Statements.{Statement, Blank, Unknown, Format, Start, Change, stated_edit, statement_of}
 use Rattle.mp_text.proofs.ReplayLemmas.{format_numbered}
 use Rattle.mp_text.proofs.TextLemmas.{text_within}
 use Rattle.mp_laws.specs.RefusedTexts.{AreRead, LackHorizon, AreRefusedAt, TextsAreRefusedByLines}
@@ -173,12 +175,15 @@ module _ (next : TextState) (is : IsUnopened next) where
   open_by lines net later Unknown leads = cc
   open_by lines net later (Format number) leads = cc
   open_by lines net later (Start horizon) leads = cc
-  open_by lines net later (Change (Err code)) leads = cc
-  open_by lines net later (Change (Ok edit)) leads = by (after_single net edit) leads
+  open_by lines net later (Change word words) leads = said (stated_edit net.format word words) leads
     where
-      by : (r : Result Circuit EditError) → (result_map_both Open Refused r >>= λ mid. led mid lines) ≡ Ok next → ⊥
-      by (Ok m) leads = later m leads
-      by (Err error) leads = cc
+      said : (read : Result SingleEdit LineError) → ((in_text read >>= λ e. result_map_both Open Refused (after_single net e)) >>= λ mid. led mid lines) ≡ Ok next → ⊥
+      said (Err code) leads = cc
+      said (Ok edit) leads = by (after_single net edit) leads
+        where
+          by : (r : Result Circuit EditError) → (result_map_both Open Refused r >>= λ mid. led mid lines) ≡ Ok next → ⊥
+          by (Ok m) leads = later m leads
+          by (Err error) leads = cc
 
   -- a netlist that was opened stays open
   stays_open : (lines : List (List ℕ)) (net : Circuit) → led (Open net) lines ≡ Ok next → ⊥
@@ -199,7 +204,7 @@ module _ (next : TextState) (is : IsUnopened next) where
   formed_by lines form later (Format number) leads = cc
   formed_by lines form later (Start (Ok h)) leads = begun_by lines _ (netlist_format form) h (nat_le 1 h && nat_le h (max_horizon_of form)) leads
   formed_by lines form later (Start (Err code)) leads = cc
-  formed_by lines form later (Change edit) leads = cc
+  formed_by lines form later (Change word words) leads = cc
 
   -- a form that was stated stays
   stays_formed : (lines : List (List ℕ)) (form : TextFormat) → led (Formatted form) lines ≡ Ok next → format_at next ≡ netlist_format form
@@ -216,7 +221,7 @@ module _ (next : TextState) (is : IsUnopened next) where
   fresh_by lines later (Format (Err code)) leads = cc
   fresh_by lines later (Start (Ok h)) leads = begun_by lines _ Standard h (nat_le 1 h && nat_le h (max_horizon_of First)) leads
   fresh_by lines later (Start (Err code)) leads = cc
-  fresh_by lines later (Change edit) leads = cc
+  fresh_by lines later (Change word words) leads = cc
   fresh_by lines later (Format (Ok number)) leads = by (format_of number) refl leads
     where
       by : (r : Result TextFormat TextCode) → format_of number ≡ r → (formatted r >>= λ mid. led mid lines) ≡ Ok next → format_at next ≡ (if number == 4 then Large else Standard)

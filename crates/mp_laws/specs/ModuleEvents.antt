@@ -3,6 +3,7 @@ use Rattle.std.specs.Prelude.{◌≡◌, ◌≢◌, ◌↔◌, ℕ, ◌+◌, ◌
 use Rattle.std.specs.List.{Contains}
 use Rattle.mp_modules.specs.declared.kind.Kind.{Kind}
 use Rattle.mp_modules.specs.declared.kind.Kind.TheVariants as kinds
+use Rattle.mp_modules.specs.declared.function.Function.TheVariants.{Xor}
 use Rattle.mp_modules.specs.CElement.{bubbled}
 use Rattle.mp_modules.specs.Histories.{has_event, events}
 use Rattle.mp_modules.specs.Memories.{output_of}
@@ -29,7 +30,7 @@ pub record IsOfKind (n : Circuit) (m : ℕ) (kind : Kind) : Type 0 where
 
 -- XOR: its output has an event exactly where one input has an event and the other has none
 abbrev pub MergesEvents : Type 0
-MergesEvents = (n : Circuit) → IsCircuit n → (m t : ℕ) (x : IsOfKind n m kinds.Xor) →
+MergesEvents = (n : Circuit) → IsCircuit n → (m t : ℕ) (x : IsOfKind n m (kinds.Function Xor)) →
     IsTrue (has_event (output n m 0) t) ↔ (has_event (input n x.part 0) t ≢ has_event (input n x.part 1) t)
 
 -- nothing is found at a module up to a time

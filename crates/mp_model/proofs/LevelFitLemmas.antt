@@ -6,11 +6,11 @@ use Rattle.std.proofs.lemmas.Bool.Decides.{nat_tests}
 use Rattle.std.proofs.lemmas.Nat.{pow_pos}
 use Rattle.mp_wave.specs.Waveform.{level_from}
 use Rattle.mp_modules.specs.declared.kind.Kind.{Kind}
-use Rattle.mp_modules.specs.declared.kind.Kind.TheVariants as kinds
 use Rattle.mp_modules.specs.declared.memory.Memory.{Memory}
-use Rattle.mp_modules.specs.Kinds.{has_width, input_width, output_width, wide_outputs}
+use Rattle.mp_modules.specs.Kinds.{shape_of, input_width, output_width}
 use Rattle.mp_modules.specs.Levels.{fits_width}
 use Rattle.mp_modules.specs.Memories.{output_of}
+use Rattle.mp_modules.proofs.KindLemmas.{one_wide_output, width_from_low}
 use Rattle.mp_records.specs.declared.wire_record.WireRecord.{WireRecord}
 use Rattle.mp_records.specs.declared.module_record.ModuleRecord.{ModuleRecord}
 use Rattle.mp_records.specs.declared.ports.Input.{Input}
@@ -64,24 +64,9 @@ stimulus_fits horizon (Some r) t wires = by r.stimulus (wires r refl).stimulus
 
 one_bit : (kind : Kind) (width p : ℕ) → output_width kind width (suc p) ≡ 1
 one_bit kind width p =
-    let few = at_most_one kind in
-    let none : nat_lt (suc p) (wide_outputs kind) ≡ false = grind (arith, nat_tests) in
+    let few = one_wide_output kind in
+    let none : nat_lt (suc p) (shape_of kind).wide_outputs ≡ false = grind (arith, nat_tests) in
     ap (λ test. cond test width 1) none
-  where
-    at_most_one : (kind : Kind) → wide_outputs kind ≤ 1
-    at_most_one kinds.Buf = omega arith
-    at_most_one kinds.Reg = omega arith
-    at_most_one kinds.AddC = omega arith
-    at_most_one kinds.XorC = omega arith
-    at_most_one kinds.Sum = omega arith
-    at_most_one kinds.Not = omega arith
-    at_most_one kinds.Xor = omega arith
-    at_most_one kinds.C = omega arith
-    at_most_one kinds.Toggle = omega arith
-    at_most_one kinds.Select = omega arith
-    at_most_one kinds.Call = omega arith
-    at_most_one kinds.Arbiter = omega arith
-    at_most_one kinds.Bit = omega arith
 
 output_fits : (kind : Kind) (width : ℕ) (memory : Memory) (p : ℕ) → OutputsFit kind width memory → output_of memory p < 2 ^ output_width kind width p
 output_fits kind width memory zero fits = fits.first
@@ -114,11 +99,7 @@ module _ (n : Circuit) (ok : IsCircuit n) where
   narrow_slot w (Some r) at = (wires w r at).narrow
 
   narrow : (r : ModuleRecord) → module_width n r ≤ 64
-  narrow r = by (has_width r.kind)
-    where
-      by : (test : Bool) → cond test (width_of (wire_at n (input_at r 0).wire.0)) 1 ≤ 64
-      by true = narrow_slot (input_at r 0).wire.0 (wire_at n (input_at r 0).wire.0) refl
-      by false = omega arith
+  narrow r = width_from_low r.kind _ (narrow_slot (input_at r 0).wire.0 (wire_at n (input_at r 0).wire.0) refl)
 
   -- the levels at a time, from the states before
   driven_fits : (w t : ℕ) → ((s : ℕ) → s < t → StatesFit s) → level n w t < 2 ^ width_of (wire_at n w)

@@ -1,22 +1,24 @@
 -- The levels at the outputs of a module are no wider than the outputs.
-use Rattle.std.proofs.Common.{◌≡◌, ℕ, ◌+◌, ◌-◌, ◌%◌, ◌^◌, ◌<◌, ◌≤◌, Bool, true, false, cond, ◌==◌, List, [], ◌∷◌, length, slice_index, slice_set, zero, suc, sym, subst, arith}
+use Rattle.std.proofs.Common.{◌≡◌, ℕ, ◌+◌, ◌-◌, ◌*◌, ◌%◌, ◌^◌, ◌<◌, ◌≤◌, Bool, true, false, not, cond, ◌==◌, List, [], ◌∷◌, length, slice_index, slice_set, zero, suc, sym, subst, arith}
 use Rattle.std.specs.Prelude.{min, nat_lt}
 use Rattle.std.specs.List.{list_all}
 use Rattle.std.proofs.lemmas.Bool.{and_parts, ltb-true}
-use Rattle.std.proofs.lemmas.Nat.{pow_pos, mod_below, xor_lt}
+use Rattle.std.proofs.lemmas.Nat.{pow_pos, mod_below, and_le_l, or_lt, xor_lt}
 use Rattle.mp_modules.specs.declared.kind.Kind.{Kind}
 use Rattle.mp_modules.specs.declared.kind.Kind.TheVariants as kinds
+use Rattle.mp_modules.specs.declared.function.Function.{Function}
+use Rattle.mp_modules.specs.declared.function.Function.TheVariants as functions
 use Rattle.mp_modules.specs.declared.memory.Memory.{Memory}
 use Rattle.mp_modules.specs.declared.rendezvous.Rendezvous.{Rendezvous}
 use Rattle.mp_modules.specs.Kinds.{input_width, output_width, param_count, param_bound, are_params}
 use Rattle.mp_modules.specs.Memories.{with_one_output, output_of, seen}
-use Rattle.mp_modules.specs.Merge.{merged}
 use Rattle.mp_modules.specs.CElement.{bubbled, joined}
 use Rattle.mp_modules.specs.Toggle.{toggle_step}
 use Rattle.mp_modules.specs.Select.{select_step}
 use Rattle.mp_modules.specs.Call.{call_step}
 use Rattle.mp_modules.specs.Arbiter.{arbiter_step}
 use Rattle.mp_modules.specs.Tables.{rendezvous}
+use Rattle.mp_modules.specs.storage.Functions.{result_of}
 use Rattle.mp_modules.specs.storage.Reg.{is_open}
 use Rattle.mp_modules.specs.storage.Widths.{modulus}
 use Rattle.mp_modules.specs.storage.AnyModules.{any_part_of, start, settle, step}
@@ -100,12 +102,27 @@ bits_behind x one two (suc zero) = two
 bits_behind x one two (suc (suc p)) = omega arith
 
 module _ (width : ℕ) (params : List ℕ) (narrow : width ≤ 64) where
+  -- what a function gives is no wider than its output
+  function_fits : (f : Function) (x : List ℕ) → are_params (kinds.Function f) width params ≡ true → InputsFit (kinds.Function f) width x
+      → result_of f width (slice_index params 0) (slice_index x 0) (slice_index x 1) (slice_index x 2) < 2 ^ output_width (kinds.Function f) width 0
+  function_fits functions.Buf x valid inputs = inputs 0
+  function_fits functions.Not x valid inputs = omega arith
+  function_fits functions.Xor x valid inputs = below_cond (not (slice_index x 0 == slice_index x 1)) 1 0 2 (omega arith) (omega arith)
+  function_fits functions.AddC x valid inputs = below_modulus width (slice_index x 0 + slice_index params 0) narrow
+  function_fits functions.XorC x valid inputs =
+      xor_lt width (slice_index x 0) (slice_index params 0) (inputs 0) (param_below (kinds.Function functions.XorC) width params (pow_pos width) valid)
+  function_fits functions.Sum x valid inputs = below_modulus width (slice_index x 0 + slice_index x 1) narrow
+  function_fits functions.Bit x valid inputs = omega arith
+  function_fits functions.And x valid inputs = omega (arith, and_le_l (slice_index x 0) (slice_index x 1), inputs 0)
+  function_fits functions.Or x valid inputs = or_lt width (slice_index x 0) (slice_index x 1) (inputs 0) (inputs 1)
+  function_fits functions.Sub x valid inputs = below_modulus width (slice_index x 0 + (2 ^ 64 - slice_index x 1)) narrow
+  function_fits functions.Less x valid inputs = below_cond (nat_lt (slice_index x 0) (slice_index x 1)) 1 0 2 (omega arith) (omega arith)
+  function_fits functions.Mux x valid inputs = below_cond (slice_index x 2 == 0) (slice_index x 0) (slice_index x 1) (2 ^ width) (inputs 0) (inputs 1)
+  function_fits functions.Join x valid inputs = below_modulus width (2 * slice_index x 0 + slice_index x 1) narrow
+
   pub step_fits : (kind : Kind) (memory : Memory) (x : List ℕ) → are_params kind width params ≡ true → InputsFit kind width x → OutputsFit kind width memory
       → OutputsFit kind width (step (any_part_of kind params width) memory x)
   unfolding any_part_of step
-  step_fits kinds.Buf memory x valid inputs fits = fits_one (2 ^ width) x (slice_index x 0) (inputs 0)
-  step_fits kinds.Not memory x valid inputs fits = fits_one 2 x (1 - slice_index x 0) (omega arith)
-  step_fits kinds.Xor memory x valid inputs fits = fits_one 2 x (merged x) (below_cond (slice_index x 0 == slice_index x 1) 0 1 2 (omega arith) (omega arith))
   step_fits kinds.C memory x valid inputs fits = fits_one 2 x (joined (rendezvous params) (output_of memory 0) x) (low_joined (rendezvous params) (output_of memory 0) x (inputs 0) fits.first)
   step_fits kinds.Toggle memory x valid inputs fits = fits_low (toggle_step memory x) (by_toggle LowOutputs low_flips memory x (low_fits memory fits))
   step_fits kinds.Select memory x valid inputs fits = fits_low (select_step memory x) (by_select LowOutputs low_flips memory x (low_fits memory fits))
@@ -115,27 +132,18 @@ module _ (width : ℕ) (params : List ℕ) (narrow : width ≤ 64) where
     first = below_cond (is_open x) (slice_index x 0) (output_of memory 0) (2 ^ width) (inputs 0) fits.first;
     others = bits_behind x (inputs 1) (inputs 2);
   }
-  step_fits kinds.AddC memory x valid inputs fits = fits_one (2 ^ width) x _ (below_modulus width (slice_index x 0 + slice_index params 0) narrow)
-  step_fits kinds.XorC memory x valid inputs fits =
-      fits_one (2 ^ width) x _ (xor_lt width (slice_index x 0) (slice_index params 0) (inputs 0) (param_below kinds.XorC width params (pow_pos width) valid))
-  step_fits kinds.Sum memory x valid inputs fits = fits_one (2 ^ width) x _ (below_modulus width (slice_index x 0 + slice_index x 1) narrow)
-  step_fits kinds.Bit memory x valid inputs fits = fits_one 2 x _ (omega arith)
+  step_fits (kinds.Function f) memory x valid inputs fits = fits_one (2 ^ output_width (kinds.Function f) width 0) x _ (function_fits f x valid inputs)
 
   start_fits : (kind : Kind) → are_params kind width params ≡ true → OutputsFit kind width (start (any_part_of kind params width))
   unfolding any_part_of start
-  start_fits kinds.Buf valid = fits_one (2 ^ width) [] 0 (pow_pos width)
-  start_fits kinds.Not valid = fits_one 2 [] 1 (omega arith)
-  start_fits kinds.Xor valid = fits_one 2 [] 0 (omega arith)
   start_fits kinds.C valid = fits_one 2 [] _ (below_cond (slice_index params 0 == 1) 1 0 2 (omega arith) (omega arith))
   start_fits kinds.Toggle valid = fits_one 2 [] 0 (omega arith)
   start_fits kinds.Select valid = fits_one 2 [] 0 (omega arith)
   start_fits kinds.Call valid = fits_one 2 [] 0 (omega arith)
   start_fits kinds.Arbiter valid = fits_one 2 [] 0 (omega arith)
   start_fits kinds.Reg valid = record { first = param_below kinds.Reg width params (pow_pos width) valid; others = low_in }
-  start_fits kinds.AddC valid = fits_one (2 ^ width) [] _ (below_modulus width (0 + slice_index params 0) narrow)
-  start_fits kinds.XorC valid = fits_one (2 ^ width) [] _ (xor_lt width 0 (slice_index params 0) (pow_pos width) (param_below kinds.XorC width params (pow_pos width) valid))
-  start_fits kinds.Sum valid = fits_one (2 ^ width) [] _ (below_modulus width 0 narrow)
-  start_fits kinds.Bit valid = fits_one 2 [] _ (omega arith)
+  start_fits (kinds.Function f) valid =
+      fits_one (2 ^ output_width (kinds.Function f) width 0) [] _ (function_fits f [] valid (λ p. pow_pos (input_width (kinds.Function f) width p)))
 
   seen_fits : (bound : ℕ) (memory : Memory) (x : List ℕ) → Fits bound memory → Fits bound (seen x memory)
   seen_fits bound memory x fits = record { first = fits.first; others = fits.others }

@@ -12,9 +12,6 @@ use Rattle.mp_modules.specs.Select.{select_step, chosen}
 use Rattle.mp_modules.specs.Call.{returned, ended, called, before_calls, after_first_call, call_step}
 use Rattle.mp_modules.specs.Arbiter.{is_owner_done, released, granted, promoted, made_wait, requested, is_engaged, before_requests, after_first_request, arbiter_step}
 use Rattle.mp_modules.specs.Tables as tables
-use Rattle.mp_modules.specs.declared.storage.computed.Computed.{Computed}
-use Rattle.mp_modules.specs.declared.storage.computed.Computed.TheVariants as computed
-use Rattle.mp_modules.specs.storage.Computed as parts_computed
 use Rattle.mp_modules.specs.declared.storage.any_module.AnyModule.{AnyModule}
 use Rattle.mp_modules.specs.declared.storage.any_module.AnyModule.TheVariants as parts
 use Rattle.mp_modules.specs.storage.AnyModules.{step, settle, start}
@@ -22,32 +19,20 @@ use Rattle.mp_modules.specs.storage.AnyModules.{step, settle, start}
 -- ---- a step goes by the levels of the four ports that a module can have
 
 core_padded : (part : CoreModule) (m : Memory) (x : List ℕ) → tables.step part m (input_levels x) ≡ tables.step part m x
-core_padded core.Buf m x = refl
-core_padded core.Not m x = refl
-core_padded core.Xor m x = refl
 core_padded (core.C c) m x = refl
-core_padded core.Toggle m x = refl
-core_padded core.Select m x = refl
-core_padded core.Call m x = refl
-core_padded core.Arbiter m x = refl
-
-computed_padded : (part : Computed) (m : Memory) (x : List ℕ) → parts_computed.step part m (input_levels x) ≡ parts_computed.step part m x
-computed_padded (computed.AddC addend width) m x = refl
-computed_padded (computed.XorC mask) m x = refl
-computed_padded (computed.Sum width) m x = refl
-computed_padded (computed.Bit place) m x = refl
+core_padded _ m x = refl
 
 pub step_padded : (part : AnyModule) (m : Memory) (x : List ℕ) → step part m (input_levels x) ≡ step part m x
 unfolding step
 step_padded (parts.Core part) m x = core_padded part m x
 step_padded (parts.Reg part) m x = refl
-step_padded (parts.Computed part) m x = computed_padded part m x
+step_padded (parts.Function part) m x = refl
 
 pub settle_steps : (part : AnyModule) (x : List ℕ) → settle part x ≡ step part (seen x (start part)) x
 unfolding step settle start
 settle_steps (parts.Core part) x = refl
 settle_steps (parts.Reg part) x = refl
-settle_steps (parts.Computed part) x = refl
+settle_steps (parts.Function part) x = refl
 
 pub settle_padded : (part : AnyModule) (x : List ℕ) → settle part (input_levels x) ≡ settle part x
 settle_padded part x = settle_steps part (input_levels x) ∙ step_padded part (seen x (start part)) x ∙ sym (settle_steps part x)

@@ -3,6 +3,7 @@ use Rattle.std.specs.Prelude.{◌≡◌, ℕ, List, [], ◌∷◌, Option, Some,
 use Rattle.mp_wave.specs.Waveform.{Waveform}
 use Rattle.mp_modules.specs.declared.kind.Kind.{Kind}
 use Rattle.mp_modules.specs.declared.kind.Kind.TheVariants as kinds
+use Rattle.mp_modules.specs.declared.function.Function.TheVariants as functions
 use Rattle.mp_records.specs.declared.wire_record.WireRecord.{WireRecord}
 use Rattle.mp_records.specs.declared.module_record.ModuleRecord.{ModuleRecord}
 use Rattle.mp_records.specs.declared.ids.WireId.{WireId}
@@ -39,7 +40,7 @@ self_loop = record {
   format = Standard;
   horizon = 5;
   wires = wire (codes "y") None ∷ wire (codes "z") None ∷ [];
-  modules = part (codes "n") kinds.Not [] (reading 0 ∷ []) (output 0 1) ∷ part (codes "b") kinds.Buf [] (reading 0 ∷ []) (output 1 3) ∷ [];
+  modules = part (codes "n") (kinds.Function functions.Not) [] (reading 0 ∷ []) (output 0 1) ∷ part (codes "b") (kinds.Function functions.Buf) [] (reading 0 ∷ []) (output 1 3) ∷ [];
   bundles = [];
 }
 
@@ -71,7 +72,7 @@ late_buffer = record {
   format = Standard;
   horizon = 20;
   wires = wire (codes "a") (Some ((2, 1) ∷ (5, 0) ∷ [])) ∷ wire (codes "y") None ∷ [];
-  modules = part (codes "b") kinds.Buf [] ((let port : Input = record { wire = number 0; delay = 4 } in port) ∷ []) (output 1 3) ∷ [];
+  modules = part (codes "b") (kinds.Function functions.Buf) [] ((let port : Input = record { wire = number 0; delay = 4 } in port) ∷ []) (output 1 3) ∷ [];
   bundles = [];
 }
 

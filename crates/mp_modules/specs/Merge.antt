@@ -1,11 +1,7 @@
--- XOR, the merge of two events, with its finding.
-use Rattle.std.specs.Prelude.{ℕ, Bool, List, slice_index, ◌==◌, ◌&&◌, if◌then◌else◌}
+-- The merge of two events by an XOR, with its finding.
+use Rattle.std.specs.Prelude.{ℕ, Bool, List, ◌&&◌}
 use Rattle.mp_modules.specs.declared.memory.Memory.{Memory}
 use Rattle.mp_modules.specs.Memories.{is_event}
-
--- 1 where the inputs differ
-abbrev pub merged : List ℕ → ℕ
-merged x = if slice_index x 0 == slice_index x 1 then 0 else 1
 
 -- merge-collision: both inputs change
 abbrev pub is_collision : Memory → List ℕ → Bool

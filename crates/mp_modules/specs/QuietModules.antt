@@ -11,9 +11,6 @@ use Rattle.mp_modules.specs.Quiet as quiet
 use Rattle.mp_modules.specs.QuietArbiter.{arbiter_stays}
 
 pub stepped_stays : (part : CoreModule) (memory : Memory) (x : List ℕ) → step part (step part memory x) x ≡ step part memory x
-stepped_stays parts.Buf memory x = refl
-stepped_stays parts.Not memory x = refl
-stepped_stays parts.Xor memory x = refl
 stepped_stays (parts.C c) memory x = ap (with_one_output x) (quiet.joined_stays c (output_of memory 0) x)
 stepped_stays parts.Toggle memory x = quiet.toggle_stays memory x
 stepped_stays parts.Select memory x = quiet.select_stays memory x
@@ -25,9 +22,6 @@ settled_stays part x = stepped_stays part (seen x (start part)) x
 
 -- nothing is found in a unit whose levels the state holds
 none_found : (part : CoreModule) (m : Memory) (x : List ℕ) → found part (seen x m) x ≡ no_findings
-none_found parts.Buf m x = refl
-none_found parts.Not m x = refl
-none_found parts.Xor m x = rw (quiet.no_collision m x) refl
 none_found (parts.C c) m x = rw (quiet.none_withdrawn c m x) refl
 none_found parts.Toggle m x = refl
 none_found parts.Select m x = rw (quiet.none_unstable m x) refl
@@ -36,14 +30,8 @@ none_found parts.Arbiter m x = rw (quiet.no_repeat_request m x, quiet.no_done_wi
 
 -- each step ends with the levels in the state
 holds_levels : (part : CoreModule) (memory : Memory) (x : List ℕ) → seen x (step part memory x) ≡ step part memory x
-holds_levels parts.Buf memory x = refl
-holds_levels parts.Not memory x = refl
-holds_levels parts.Xor memory x = refl
 holds_levels (parts.C c) memory x = refl
-holds_levels parts.Toggle memory x = refl
-holds_levels parts.Select memory x = refl
-holds_levels parts.Call memory x = refl
-holds_levels parts.Arbiter memory x = refl
+holds_levels _ memory x = refl
 
 pub stepped_quiet : (part : CoreModule) (memory : Memory) (x : List ℕ) → found part (step part memory x) x ≡ no_findings
 stepped_quiet part memory x = ap (λ (m : Memory). found part m x) (sym (holds_levels part memory x)) ∙ none_found part (step part memory x) x

@@ -1,5 +1,5 @@
--- What each kind of module without data does. A level of an input is that at its port, 0 where there is none.
-use Rattle.std.specs.Prelude.{ℕ, ◌-◌, List, [], slice_index, ◌==◌, if◌then◌else◌}
+-- What each kind of module does that joins or steers events. A level of an input is that at its port, 0 where there is none.
+use Rattle.std.specs.Prelude.{ℕ, List, [], slice_index, ◌==◌, if◌then◌else◌}
 use Rattle.mp_modules.specs.declared.core_module.CoreModule.{CoreModule}
 use Rattle.mp_modules.specs.declared.core_module.CoreModule.TheVariants as parts
 use Rattle.mp_modules.specs.declared.memory.Memory.{Memory}
@@ -8,7 +8,6 @@ use Rattle.mp_modules.specs.declared.finding_code.FindingCode.TheVariants as cod
 use Rattle.mp_modules.specs.declared.finding_set.FindingSet.{FindingSet}
 use Rattle.mp_modules.specs.Memories.{with_one_output, output_of, seen}
 use Rattle.mp_modules.specs.Findings.{no_findings, with_code_if}
-use Rattle.mp_modules.specs.Merge.{merged, is_collision}
 use Rattle.mp_modules.specs.CElement.{joined, is_withdrawn}
 use Rattle.mp_modules.specs.Toggle.{toggle_step}
 use Rattle.mp_modules.specs.Select.{select_step, is_unstable}
@@ -17,7 +16,6 @@ use Rattle.mp_modules.specs.Arbiter.{arbiter_step, is_repeat_request, is_done_wi
 
 -- the first output before time 0; the others are 0
 abbrev pub first_output : CoreModule → ℕ
-first_output parts.Not = 1
 first_output (parts.C c) = if c.initial then 1 else 0
 first_output _ = 0
 
@@ -27,9 +25,6 @@ start part = with_one_output [] (first_output part)
 
 -- the state at a time from 1 on, after that of the unit before
 abbrev pub step : CoreModule → Memory → List ℕ → Memory
-step parts.Buf memory x = with_one_output x (slice_index x 0)
-step parts.Not memory x = with_one_output x (1 - slice_index x 0)
-step parts.Xor memory x = with_one_output x (merged x)
 step (parts.C c) memory x = with_one_output x (joined c (output_of memory 0) x)
 step parts.Toggle memory x = toggle_step memory x
 step parts.Select memory x = select_step memory x
@@ -42,7 +37,6 @@ settle part x = step part (seen x (start part)) x
 
 -- what is found at a time from 1 on, after the state of the unit before
 abbrev pub found : CoreModule → Memory → List ℕ → FindingSet
-found parts.Xor memory x = with_code_if codes.MergeCollision (is_collision memory x) no_findings
 found (parts.C c) memory x = with_code_if codes.Withdrawn (is_withdrawn c memory x) no_findings
 found parts.Select memory x = with_code_if codes.SelectUnstable (is_unstable memory x) no_findings
 found parts.Call memory x =

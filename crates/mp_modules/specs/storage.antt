@@ -1,8 +1,9 @@
 pub mod Widths
 pub mod Reg
 pub mod RegLaws
-pub mod Computed
+pub mod Functions
 pub mod QuietStorage
+pub mod QuietFunctions
 pub mod AnyModules
 pub mod QuietAny
-pub mod Sums
+pub mod Arithmetic

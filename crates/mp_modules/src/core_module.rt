@@ -1,4 +1,4 @@
-//! The modules without data.
+//! The modules that steer events.
 ghost use Rattle.std.specs.Prelude.{◌≡◌};
 ghost use Rattle.mp_modules.specs.Tables.{first_output};
 
@@ -7,18 +7,14 @@ use crate::call::{call_step, is_done_without_call, is_overlap};
 use crate::event_module::EventModule;
 use crate::finding_code::FindingCode;
 use crate::finding_set::FindingSet;
-use crate::memory::{Memory, level_at};
-use crate::merge::{is_collision, merged};
+use crate::memory::Memory;
 use crate::rendezvous::Rendezvous;
 use crate::select::{is_unstable, select_step};
 use crate::toggle::toggle_step;
 
-/// An event module without data, with its parameters.
+/// An event module that joins or steers events, with its parameters.
 #[derive(Clone, Copy, PartialEq, Eq)]
 pub enum CoreModule {
-    Buf,
-    Not,
-    Xor,
     C(Rendezvous),
     Toggle,
     Select,
@@ -31,7 +27,6 @@ impl CoreModule {
         ensures { result ≡ first_output self }
     {
         match self {
-            CoreModule::Not => 1,
             CoreModule::C(c) => u64::from(c.initial),
             _ => 0,
         }
@@ -75,11 +70,6 @@ impl EventModule for CoreModule {
     #[inline(always)]
     fn step(&self, memory: &mut Memory, levels: &[u64]) {
         match *self {
-            CoreModule::Buf => memory.set_one_output(levels, level_at(levels, 0)),
-            CoreModule::Not => {
-                memory.set_one_output(levels, 1u64.saturating_sub(level_at(levels, 0)));
-            }
-            CoreModule::Xor => memory.set_one_output(levels, merged(levels)),
             CoreModule::C(c) => memory.set_one_output(levels, c.join(memory.output(0), levels)),
             CoreModule::Toggle => *memory = toggle_step(*memory, levels),
             CoreModule::Select => *memory = select_step(*memory, levels),
@@ -95,10 +85,7 @@ impl EventModule for CoreModule {
     fn findings(&self, memory: Memory, levels: &[u64]) -> FindingSet {
         let none = FindingSet::empty();
         match *self {
-            CoreModule::Buf | CoreModule::Not | CoreModule::Toggle => none,
-            CoreModule::Xor => {
-                none.with_if(FindingCode::MergeCollision, is_collision(memory, levels))
-            }
+            CoreModule::Toggle => none,
             CoreModule::C(c) => {
                 none.with_if(FindingCode::Withdrawn, c.is_withdrawn(memory, levels))
             }

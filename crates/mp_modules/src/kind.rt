@@ -1,81 +1,101 @@
 //! The kinds of event module.
-ghost use Rattle.std.specs.Prelude.{◌≡◌, ◌≤◌, ◌^◌, nat_lt};
-ghost use Rattle.std.specs.List.{list_all};
-ghost use Rattle.mp_modules.specs.Kinds.{input_count, output_count, param_count, word_of, kind_named, steering_or_data_kind_named, data_kind_named, wide_inputs, wide_outputs, has_width, input_width, output_width, param_bound, are_params};
-
+use crate::function::Function;
 use crate::level::fits_width;
 use crate::memory::{MOST_INPUTS, MOST_OUTPUTS};
+use crate::shape::Shape;
 
-/// A kind of event module (Sutherland 1989). BUF is a delay, NOT an inverter, XOR the merge of two events, C their rendezvous; TOGGLE,
-/// SELECT, CALL and ARBITER steer events; REG holds data from a capture to a pass; ADDC, XORC, SUM and BIT compute on data.
+/// A kind of event module (Sutherland 1989). C is the rendezvous of two events; TOGGLE, SELECT, CALL and ARBITER steer events; REG holds data from a
+/// capture to a pass; a function holds nothing.
 ///
-/// The width of a module is that of the wire at its first input if its kind has ports of any width, and otherwise 1.
+/// The width of a module comes from that of the wire at its first input (`width_from`).
 #[derive(Clone, Copy, PartialEq, Eq)]
 pub enum Kind {
-    Buf,
-    Not,
-    Xor,
     C,
     Toggle,
     Select,
     Call,
     Arbiter,
     Reg,
-    AddC,
-    XorC,
-    Sum,
-    Bit,
+    Function(Function),
 }
 
 impl Kind {
+    ghost use Rattle.std.specs.Prelude.{◌≡◌, ◌≤◌, nat_lt};
+    ghost use Rattle.std.specs.List.{list_all};
+    ghost use Rattle.mp_modules.specs.Kinds.{all_kinds, shape_of, input_count, output_count, param_count, word_of, kind_named, is_function, has_width, width_from, wide_input_width, input_width, output_width, param_bound, are_params};
+
+    /// All kinds: the first thirteen, and then those that only larger texts have.
+    pub fn all() -> &'static [Kind]
+        ensures { result.now ≡ all_kinds }
+    {
+        &[
+            Kind::Function(Function::Buf),
+            Kind::Function(Function::Not),
+            Kind::Function(Function::Xor),
+            Kind::C,
+            Kind::Toggle,
+            Kind::Select,
+            Kind::Call,
+            Kind::Arbiter,
+            Kind::Reg,
+            Kind::Function(Function::AddC),
+            Kind::Function(Function::XorC),
+            Kind::Function(Function::Sum),
+            Kind::Function(Function::Bit),
+            Kind::Function(Function::And),
+            Kind::Function(Function::Or),
+            Kind::Function(Function::Sub),
+            Kind::Function(Function::Less),
+            Kind::Function(Function::Mux),
+            Kind::Function(Function::Join),
+        ]
+    }
+
+    fn shape(self) -> Shape
+        ensures { result ≡ shape_of self }
+    {
+        match self {
+            Kind::C => Shape::narrow(2, 1, 3),
+            Kind::Toggle => Shape::narrow(1, 2, 0),
+            Kind::Select => Shape::narrow(2, 2, 0),
+            Kind::Call => Shape::narrow(3, 3, 0),
+            Kind::Arbiter => Shape::narrow(4, 2, 0),
+            Kind::Reg => Shape {
+                inputs: 3,
+                wide_inputs: 1,
+                outputs: 3,
+                wide_outputs: 1,
+                params: 1,
+            },
+            Kind::Function(function) => function.shape(),
+        }
+    }
+
+    #[tactic(auto, using(crate::proofs::KindLemmas::few_inputs))]
     /// The number of input ports.
     pub fn inputs(self) -> usize
         ensures count { result ≡ input_count self }
         ensures few { result ≤ MOST_INPUTS }
     {
-        match self {
-            Kind::Buf | Kind::Not | Kind::Toggle | Kind::AddC | Kind::XorC | Kind::Bit => 1,
-            Kind::Xor | Kind::C | Kind::Select | Kind::Sum => 2,
-            Kind::Call | Kind::Reg => 3,
-            Kind::Arbiter => 4,
-        }
+        self.shape().inputs
     }
 
+    #[tactic(auto, using(crate::proofs::KindLemmas::few_outputs))]
     /// The number of output ports.
     pub fn outputs(self) -> usize
         ensures count { result ≡ output_count self }
         ensures few { result ≤ MOST_OUTPUTS }
     {
-        match self {
-            Kind::Buf
-            | Kind::Not
-            | Kind::Xor
-            | Kind::C
-            | Kind::AddC
-            | Kind::XorC
-            | Kind::Sum
-            | Kind::Bit => 1,
-            Kind::Toggle | Kind::Select | Kind::Arbiter => 2,
-            Kind::Call | Kind::Reg => 3,
-        }
+        self.shape().outputs
     }
 
+    #[tactic(auto, using(crate::proofs::KindLemmas::few_params))]
     /// The number of parameters.
     pub fn params(self) -> usize
-        ensures { result ≡ param_count self }
+        ensures count { result ≡ param_count self }
+        ensures few { result ≤ 3 }
     {
-        match self {
-            Kind::Buf
-            | Kind::Not
-            | Kind::Xor
-            | Kind::Toggle
-            | Kind::Select
-            | Kind::Call
-            | Kind::Arbiter
-            | Kind::Sum => 0,
-            Kind::C => 3,
-            Kind::Reg | Kind::AddC | Kind::XorC | Kind::Bit => 1,
-        }
+        self.shape().params
     }
 
     /// Its name in texts.
@@ -83,19 +103,13 @@ impl Kind {
         ensures { result.now ≡ word_of self }
     {
         match self {
-            Kind::Buf => "BUF",
-            Kind::Not => "NOT",
-            Kind::Xor => "XOR",
             Kind::C => "C",
             Kind::Toggle => "TOGGLE",
             Kind::Select => "SELECT",
             Kind::Call => "CALL",
             Kind::Arbiter => "ARBITER",
             Kind::Reg => "REG",
-            Kind::AddC => "ADDC",
-            Kind::XorC => "XORC",
-            Kind::Sum => "SUM",
-            Kind::Bit => "BIT",
+            Kind::Function(function) => function.word(),
         }
     }
 
@@ -104,69 +118,79 @@ impl Kind {
     pub fn from_word(word: &[u8]) -> Option<Kind>
         ensures { result ≡ kind_named word.now }
     {
-        if word == b"BUF".as_slice() {
-            Some(Kind::Buf)
-        } else if word == b"NOT".as_slice() {
-            Some(Kind::Not)
-        } else if word == b"XOR".as_slice() {
-            Some(Kind::Xor)
-        } else if word == b"C".as_slice() {
+        if word == b"C".as_slice() {
             Some(Kind::C)
+        } else if word == b"TOGGLE".as_slice() {
+            Some(Kind::Toggle)
+        } else if word == b"SELECT".as_slice() {
+            Some(Kind::Select)
+        } else if word == b"CALL".as_slice() {
+            Some(Kind::Call)
+        } else if word == b"ARBITER".as_slice() {
+            Some(Kind::Arbiter)
+        } else if word == b"REG".as_slice() {
+            Some(Kind::Reg)
         } else {
-            steering_or_data_kind(word)
+            Some(Kind::Function(Function::from_word(word)?))
         }
     }
 
-    /// Whether it has ports of any width. Their width is then that of the wire at the first input.
+    /// Whether it holds nothing: what it gives depends only on the levels at its inputs.
+    pub fn is_function(self) -> bool
+        ensures { result ≡ is_function self }
+    {
+        matches!(self, Kind::Function(_))
+    }
+
+    /// Whether it has ports of any width.
     pub fn has_width(self) -> bool
         ensures { result ≡ has_width self }
     {
-        self.wide_inputs() > 0
+        self.shape().wide_inputs > 0
+    }
+
+    /// The width of a module whose first input reads a wire of this width: this one if the kind has ports of any width, and otherwise 1. A JOIN is one
+    /// bit wider, as its output is; 0 if no wire is so wide.
+    pub fn width_from(self, first: u32) -> u32
+        ensures { result ≡ width_from self first }
+    {
+        match self {
+            Kind::Function(Function::Join) if first < 64 => first + 1,
+            Kind::Function(Function::Join) => 0,
+            _ if self.has_width() => first,
+            _ => 1,
+        }
     }
 
     /// The width of an input port of a module of this kind and width.
     pub fn input_width(self, width: u32, port: usize) -> u32
         ensures { result ≡ input_width self width port }
     {
-        if port < self.wide_inputs() { width } else { 1 }
+        if port < self.shape().wide_inputs {
+            self.wide_input_width(width)
+        } else {
+            1
+        }
+    }
+
+    /// The width of the wide inputs of a module of this kind and width.
+    fn wide_input_width(self, width: u32) -> u32
+        ensures { result ≡ wide_input_width self width }
+    {
+        match self {
+            Kind::Function(Function::Join) => width.saturating_sub(1).max(1),
+            _ => width,
+        }
     }
 
     /// The width of an output port of a module of this kind and width.
     pub fn output_width(self, width: u32, port: usize) -> u32
         ensures { result ≡ output_width self width port }
     {
-        if port < self.wide_outputs() { width } else { 1 }
-    }
-
-    fn wide_inputs(self) -> usize
-        ensures { result ≡ wide_inputs self }
-    {
-        match self {
-            Kind::Buf | Kind::Reg | Kind::AddC | Kind::XorC | Kind::Bit => 1,
-            Kind::Not
-            | Kind::Xor
-            | Kind::C
-            | Kind::Toggle
-            | Kind::Select
-            | Kind::Call
-            | Kind::Arbiter => 0,
-            Kind::Sum => 2,
-        }
-    }
-
-    fn wide_outputs(self) -> usize
-        ensures { result ≡ wide_outputs self }
-    {
-        match self {
-            Kind::Buf | Kind::Reg | Kind::AddC | Kind::XorC | Kind::Sum => 1,
-            Kind::Not
-            | Kind::Xor
-            | Kind::C
-            | Kind::Toggle
-            | Kind::Select
-            | Kind::Call
-            | Kind::Arbiter
-            | Kind::Bit => 0,
+        if port < self.shape().wide_outputs {
+            width
+        } else {
+            1
         }
     }
 
@@ -185,51 +209,15 @@ impl Kind {
     }
 
     #[tactic(auto, unfolding(crate::specs::Levels::fits_width))]
-    /// Whether the number is below the bound of the kind's parameters.
-    fn is_in_range(self, width: u32, param: u64) -> bool
+    /// Whether the number is below the bound of the kind's parameters, in a module of this width.
+    pub fn is_in_range(self, width: u32, param: u64) -> bool
         ensures { result ≡ nat_lt param (param_bound self width) }
     {
         match self {
             Kind::C => param < 2,
-            Kind::Reg | Kind::AddC | Kind::XorC => fits_width(param, u64::from(width)),
-            Kind::Bit => param < u64::from(width),
-            _ => false,
+            Kind::Reg => fits_width(param, u64::from(width)),
+            Kind::Function(function) => function.is_in_range(width, param),
+            Kind::Toggle | Kind::Select | Kind::Call | Kind::Arbiter => false,
         }
-    }
-}
-
-/// The kind that steers events, or one with data, that has this name in texts; `None` for any other word.
-fn steering_or_data_kind(word: &[u8]) -> Option<Kind>
-    ensures { result ≡ steering_or_data_kind_named word.now }
-{
-    if word == b"TOGGLE".as_slice() {
-        Some(Kind::Toggle)
-    } else if word == b"SELECT".as_slice() {
-        Some(Kind::Select)
-    } else if word == b"CALL".as_slice() {
-        Some(Kind::Call)
-    } else if word == b"ARBITER".as_slice() {
-        Some(Kind::Arbiter)
-    } else {
-        data_kind(word)
-    }
-}
-
-/// The kind with data that has this name in texts; `None` for any other word.
-fn data_kind(word: &[u8]) -> Option<Kind>
-    ensures { result ≡ data_kind_named word.now }
-{
-    if word == b"REG".as_slice() {
-        Some(Kind::Reg)
-    } else if word == b"ADDC".as_slice() {
-        Some(Kind::AddC)
-    } else if word == b"XORC".as_slice() {
-        Some(Kind::XorC)
-    } else if word == b"SUM".as_slice() {
-        Some(Kind::Sum)
-    } else if word == b"BIT".as_slice() {
-        Some(Kind::Bit)
-    } else {
-        None
     }
 }

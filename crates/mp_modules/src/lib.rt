@@ -1,7 +1,7 @@
 //! The kinds of event module: what each kind holds, how an input event changes it, and which rules its environment can break.
 //!
-//! `CoreModule` has the kinds without data, a file for each kind with more than a table of answers. The folder `storage` has the kinds that hold
-//! data or compute on it, and `AnyModule`, which is any kind at all. Begin with `kind.rt` and `event_module.rt`.
+//! `CoreModule` has the kinds that join or steer events, a file for each kind with more than a table of answers. The folder `storage` has REG, the kinds
+//! that hold nothing (`Function`), and `AnyModule`, which is any kind at all. Begin with `kind.rt` and `event_module.rt`.
 #![tactic(auto)]
 
 mod arbiter;
@@ -10,6 +10,7 @@ mod core_module;
 mod event_module;
 mod finding_code;
 mod finding_set;
+mod function;
 mod kind;
 pub mod laws;
 mod level;
@@ -17,6 +18,7 @@ mod memory;
 mod merge;
 mod rendezvous;
 mod select;
+mod shape;
 pub mod storage;
 mod toggle;
 
@@ -24,8 +26,10 @@ pub use core_module::CoreModule;
 pub use event_module::EventModule;
 pub use finding_code::FindingCode;
 pub use finding_set::{CODES, FindingSet};
+pub use function::Function;
 pub use kind::Kind;
 pub use level::fits_width;
 pub use memory::{Client, MOST_INPUTS, MOST_OUTPUTS, Memory, Waiting, level_at};
 pub use rendezvous::Rendezvous;
-pub use storage::{AnyModule, Computed, Reg};
+pub use shape::Shape;
+pub use storage::{AnyModule, FunctionModule, Reg};

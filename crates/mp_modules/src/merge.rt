@@ -1,19 +1,8 @@
-//! XOR, the merge of two events.
+//! The merge of two events by an XOR.
 ghost use Rattle.std.specs.Prelude.{◌≡◌};
-ghost use Rattle.mp_modules.specs.Merge.{merged, is_collision};
+ghost use Rattle.mp_modules.specs.Merge.{is_collision};
 
-use crate::memory::{Memory, level_at};
-
-/// 1 if the inputs differ, and otherwise 0.
-pub(crate) fn merged(levels: &[u64]) -> u64
-    ensures { result ≡ merged levels.now }
-{
-    if level_at(levels, 0) == level_at(levels, 1) {
-        0
-    } else {
-        1
-    }
-}
+use crate::memory::Memory;
 
 /// Whether both inputs change.
 pub(crate) fn is_collision(memory: Memory, levels: &[u64]) -> bool

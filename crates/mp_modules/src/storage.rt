@@ -1,10 +1,10 @@
-//! The event modules that hold data or compute on it, and all kinds as one type.
+//! The event modules that hold data, those that hold nothing, and all kinds as one type.
 
 mod any_module;
-mod computed;
+mod function_module;
 pub mod laws;
 mod reg;
 
 pub use any_module::AnyModule;
-pub use computed::Computed;
+pub use function_module::FunctionModule;
 pub use reg::Reg;

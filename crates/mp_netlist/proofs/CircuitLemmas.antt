@@ -6,7 +6,7 @@ use Rattle.std.proofs.Math.ListN.{length-set}
 use Rattle.std.proofs.lemmas.List.{get_or_append_left, length_push}
 use Rattle.std.specs.Prelude.{slice_index_or}
 use Rattle.mp_modules.proofs.KindLemmas.{some_input}
-use Rattle.mp_modules.specs.Kinds.{has_width, input_width, output_width, are_params}
+use Rattle.mp_modules.specs.Kinds.{width_from, input_width, output_width, are_params}
 use Rattle.mp_records.specs.declared.ids.WireId.{WireId}
 use Rattle.mp_records.specs.declared.wire_record.WireRecord.{WireRecord}
 use Rattle.mp_records.specs.declared.module_record.ModuleRecord.{ModuleRecord}
@@ -55,7 +55,7 @@ module_width-keep : (n m : Circuit) (r : ModuleRecord) → KeepsWidths (of_modul
 module_width-keep n m r same ok =
     let some : 0 < length r.inputs = omega (arith, ok.inputs, some_input r.kind) in
     let first = ok.reads 0 no_input some in
-    ap (λ width. cond (has_width r.kind) width 1) (same.keeps _ (input_is_named r 0 no_input some) first.0).1
+    ap (width_from r.kind) (same.keeps _ (input_is_named r 0 no_input some) first.0).1
 
 drives-keep : (n m : Circuit) (r : ModuleRecord) (p width : ℕ) → KeepsWidths (of_module r) n m → IfSome (output_at r p).wire (λ w. HasWidth n w.0 width)
     → IfSome (output_at r p).wire (λ w. HasWidth m w.0 width)

@@ -8,7 +8,7 @@ use Rattle.std.proofs.lemmas.List.{get_or_past, get_or-map, length-map}
 use Rattle.std.proofs.lemmas.List.FromFn.{get_or-enumerate_from, length-enumerate_from}
 use Rattle.std.proofs.lemmas.List.Recursion.{and_at}
 use Rattle.mp_modules.specs.declared.kind.Kind.{Kind}
-use Rattle.mp_modules.specs.Kinds.{input_count, output_count, has_width, input_width, output_width, are_params}
+use Rattle.mp_modules.specs.Kinds.{input_count, output_count, width_from, input_width, output_width, are_params}
 use Rattle.mp_records.specs.declared.ids.WireId.{WireId}
 use Rattle.mp_records.specs.declared.module_record.ModuleRecord.{ModuleRecord}
 use Rattle.mp_records.specs.declared.new_module.NewModule.{NewModule}
@@ -71,7 +71,7 @@ module _ (n : Circuit) (new : NewModule) (ports : ArePorts n new.kind new.inputs
       let wire = input_stands 0 some in
       let here = ap (λ (i : Input). i.wire.0) (get_or-map (input_of n) new.inputs 0 nowhere no_input some) in
       let same = ap (λ w. width_of (wire_at n w)) here ∙ ap width_of wire.at ∙ sym wire.width ∙ sym (first_is new.inputs some) in
-      ap (λ width. cond (has_width new.kind) width 1) same
+      ap (width_from new.kind) same
 
   reads : (p : ℕ) (i : Input) → p < length (map (input_of n) new.inputs) → HasWidth n (slice_index_or (map (input_of n) new.inputs) p i).wire.0 (input_width new.kind (module_width n added) p)
   reads p i long =

@@ -4,7 +4,7 @@ use Rattle.std.specs.Prelude.{nat_le}
 use Rattle.std.specs.List.{list_all, enumerate_from}
 use Rattle.std.proofs.lemmas.Bool.{and_parts, leb-true}
 use Rattle.mp_modules.specs.declared.kind.Kind.{Kind}
-use Rattle.mp_modules.specs.Kinds.{has_width, input_width, output_width}
+use Rattle.mp_modules.specs.Kinds.{width_from, input_width, output_width}
 use Rattle.mp_records.specs.declared.new_module.NewModule.{NewModule}
 use Rattle.mp_records.specs.declared.ports.Input.{Input}
 use Rattle.mp_records.specs.declared.ports.Output.{Output}
@@ -24,8 +24,8 @@ width_found : (n : Circuit) (name : List ℕ) → stands n name ≡ true → wid
 width_found n name is = let wire = stands_from n name is in ap width_of wire.at ∙ sym wire.width
 
 pub width_named_first : (n : Circuit) (kind : Kind) (inputs : List InputName) → inputs_stand n inputs ≡ true
-    → cond (has_width kind) (width_of_first n (map (named_input n) inputs)) 1 ≡ new_width n kind inputs
-width_named_first n kind inputs stand = ap (λ width. cond (has_width kind) width 1) (by inputs stand)
+    → width_from kind (width_of_first n (map (named_input n) inputs)) ≡ new_width n kind inputs
+width_named_first n kind inputs stand = ap (width_from kind) (by inputs stand)
   where
     by : (ports : List InputName) → inputs_stand n ports ≡ true → width_of_first n (map (named_input n) ports) ≡ first_width n ports
     by [] stand = refl

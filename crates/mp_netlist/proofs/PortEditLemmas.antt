@@ -7,8 +7,7 @@ use Rattle.std.specs.Prelude.{nat_le, slice_index_or}
 use Rattle.std.proofs.Math.ListN.{set, length-set}
 use Rattle.std.proofs.lemmas.Bool.{and_parts, leb-true, cases_eq}
 use Rattle.std.proofs.lemmas.List.{get_or-set_same, get_or-set_other}
-use Rattle.mp_modules.proofs.KindLemmas.{first_is_wide}
-use Rattle.mp_modules.specs.Kinds.{has_width, input_width, output_width, are_params}
+use Rattle.mp_modules.specs.Kinds.{width_from, input_width, output_width, are_params}
 use Rattle.mp_records.specs.declared.ids.WireId.{WireId}
 use Rattle.mp_records.specs.declared.module_record.ModuleRecord.{ModuleRecord}
 use Rattle.mp_records.specs.declared.ports.Input.{Input}
@@ -76,23 +75,19 @@ module _ (n : Circuit) (r : ModuleRecord) (port : ℕ) (input : Input) (within :
   abbrev first_of : ModuleRecord → ℕ
   first_of s = width_of (wire_at n (input_at s 0).wire.0)
 
-  first_is : has_width r.kind ≡ true → first_of reading ≡ first_of r
-  first_is has = by (cases_eq 0 port)
+  first_is : IsModule n r → first_of reading ≡ first_of r
+  first_is ok = by (cases_eq 0 port)
     where
       by : (0 ≡ port) ⊎ (0 ≡ port → ⊥) → first_of reading ≡ first_of r
       by (inl same) =
           let at : slice_index_or (set r.inputs port input) 0 no_input ≡ input =
           ap (λ k. slice_index_or (set r.inputs port input) k no_input) same ∙ get_or-set_same r.inputs port input no_input within in
           ap (λ (i : Input). width_of (wire_at n i.wire.0)) at ∙ wide.1 ∙ ap (input_width r.kind (module_width n r)) (sym same)
-          ∙ first_is_wide r.kind (module_width n r) has ∙ ap (λ b. cond b (first_of r) 1) has
+          ∙ sym (ok.reads 0 no_input (omega (arith, within))).1
       by (inr other) = ap (λ (i : Input). width_of (wire_at n i.wire.0)) (get_or-set_other r.inputs port 0 input no_input other)
 
-  width_is : module_width n reading ≡ module_width n r
-  width_is = by (has_width r.kind) refl
-    where
-      by : (has : Bool) → has_width r.kind ≡ has → cond has (first_of reading) 1 ≡ cond has (first_of r) 1
-      by true has = first_is has
-      by false has = refl
+  width_is : IsModule n r → module_width n reading ≡ module_width n r
+  width_is ok = ap (width_from r.kind) (first_is ok)
 
   reads_at : (p : ℕ) (i : Input) → p < length r.inputs → IsModule n r → HasWidth n (slice_index_or (set r.inputs port input) p i).wire.0 (input_width r.kind (module_width n r) p)
   reads_at p i here ok = by (cases_eq p port)
@@ -107,7 +102,7 @@ module _ (n : Circuit) (r : ModuleRecord) (port : ℕ) (input : Input) (within :
 
   IsModule-reading : IsInputDelay input.delay → IsModule n r → IsModule n reading
   IsModule-reading early ok =
-      let width = sym width_is in
+      let width = sym (width_is ok) in
       record {
         inputs = length-set r.inputs port input ∙ ok.inputs;
         outputs = ok.outputs;

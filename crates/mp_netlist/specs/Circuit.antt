@@ -1,6 +1,6 @@
 -- A netlist without where it lies in memory.
 use Rattle.std.specs.Prelude.{◌≡◌, ℕ, ◌<◌, ◌≤◌, List, [], Option, Some, None, true, All, IsSome, IfSome, IsTrue, length, slice_index_or, if◌then◌else◌, option_and_then}
-use Rattle.mp_modules.specs.Kinds.{input_count, output_count, has_width, input_width, output_width, are_params}
+use Rattle.mp_modules.specs.Kinds.{input_count, output_count, width_from, input_width, output_width, are_params}
 use Rattle.mp_records.specs.declared.ports.Input.{Input}
 use Rattle.mp_records.specs.declared.wire_record.WireRecord.{WireRecord}
 use Rattle.mp_records.specs.declared.module_record.ModuleRecord.{ModuleRecord}
@@ -48,9 +48,9 @@ abbrev pub width_of : Option WireRecord → ℕ
 width_of None = 0
 width_of (Some wire) = wire.width
 
--- the width of a module: that of the wire at its first input where its kind has ports of any width, and else 1
+-- the width of a module, from that of the wire at its first input
 abbrev pub module_width : Circuit → ModuleRecord → ℕ
-module_width n r = if has_width r.kind then width_of (wire_at n (input_at r 0).wire.0) else 1
+module_width n r = width_from r.kind (width_of (wire_at n (input_at r 0).wire.0))
 
 -- a delay that an output may have
 abbrev pub IsDelay : ℕ → Type 0

@@ -3,7 +3,7 @@ use Rattle.std.specs.Prelude.{◌≡◌, ◌⊎◌, IsTrue, ℕ, ◌+◌, Bool, 
 use Rattle.std.specs.List.{list_all, list_any, filter_map, enumerate_from}
 use Rattle.std.specs.Str.{bytes_eq}
 use Rattle.mp_modules.specs.declared.kind.Kind.{Kind}
-use Rattle.mp_modules.specs.Kinds.{input_count, output_count, has_width, input_width, output_width, are_params}
+use Rattle.mp_modules.specs.Kinds.{input_count, output_count, width_from, input_width, output_width, are_params}
 use Rattle.mp_records.specs.declared.ids.WireId.{WireId}
 use Rattle.mp_records.specs.declared.ids.ModuleId.{ModuleId}
 use Rattle.mp_records.specs.declared.ids.BundleId.{BundleId}
@@ -128,9 +128,9 @@ abbrev pub first_width : Circuit → List InputName → ℕ
 first_width n [] = 0
 first_width n (first ∷ others) = width_named n first.wire
 
--- the width of a module with these inputs: that of the wire at the first where its kind has ports of any width, and else 1
+-- the width of a module with these inputs, from that of the wire at the first
 abbrev pub new_width : Circuit → Kind → List InputName → ℕ
-new_width n kind inputs = if has_width kind then first_width n inputs else 1
+new_width n kind inputs = width_from kind (first_width n inputs)
 
 -- each wire that is to be read has the width of its port
 abbrev pub inputs_fit : Circuit → Kind → ℕ → List InputName → Bool

@@ -8,9 +8,7 @@ use Rattle.std.proofs.lemmas.List.FromFn.{length-enumerate_from, get_or-enumerat
 use Rattle.mp_records.specs.declared.ids.ModuleId.{ModuleId}
 use Rattle.mp_records.specs.declared.ports.Input.{Input}
 use Rattle.mp_records.specs.declared.module_record.ModuleRecord.{ModuleRecord}
-use Rattle.mp_modules.specs.declared.kind.Kind.{Kind}
-use Rattle.mp_modules.specs.declared.kind.Kind.TheVariants as kinds
-use Rattle.mp_modules.specs.Kinds.{input_count}
+use Rattle.mp_modules.proofs.KindLemmas.{few_inputs}
 use Rattle.mp_netlist.specs.Circuit.{Circuit, IsModule}
 use Rattle.mp_netlist.specs.Readers.{ports_at, readers, readers_in}
 use Rattle.mp_picture.specs.ReaderRows.{AreReaders, HasMore, port_at, row_at}
@@ -105,10 +103,6 @@ port_outside rows m port input past = record {
 }
 
 -- ---- all modules
-
-few_inputs : (kind : Kind) → input_count kind ≤ 4
-few_inputs kinds.Buf = omega arith
-few_inputs _ = omega arith
 
 -- the inputs of a module can be numbered
 pub inputs_few : (n : Circuit) (r : ModuleRecord) → IsModule n r → length r.inputs < 2 ^ 32

@@ -4,6 +4,7 @@ use Rattle.std.specs.Prelude as prelude
 use Rattle.std.specs.Fmt.{decimal}
 use Rattle.mp_modules.specs.declared.kind.Kind.{Kind}
 use Rattle.mp_modules.specs.declared.kind.Kind.TheVariants as kinds
+use Rattle.mp_modules.specs.declared.function.Function.TheVariants as functions
 use Rattle.mp_records.specs.declared.module_record.ModuleRecord.{ModuleRecord}
 use Rattle.mp_picture.specs.declared.edge_port.EdgePort.{EdgePort}
 use Rattle.mp_picture.specs.declared.edge_port.EdgePort.TheVariants.{Whole, Input, Output}
@@ -15,16 +16,11 @@ input_cells kinds.Select = codes "{{<i0>a|<i1>diamond}|"
 input_cells kinds.Call = codes "{{<i0>r1|<i1>r2|<i2>d}|"
 input_cells kinds.Arbiter = codes "{{<i0>r1|<i1>r2|<i2>d1|<i3>d2}|"
 input_cells kinds.Reg = codes "{{<i0>d|<i1>c|<i2>p}|"
+input_cells (kinds.Function functions.Sub) = codes "{{<i0>a|<i1>b}|"
+input_cells (kinds.Function functions.Less) = codes "{{<i0>a|<i1>b}|"
+input_cells (kinds.Function functions.Join) = codes "{{<i0>a|<i1>b}|"
+input_cells (kinds.Function functions.Mux) = codes "{{<i0>a|<i1>b|<i2>s}|"
 input_cells _ = []
-
--- its outputs, as cells behind the module's kind
-abbrev pub output_cells : Kind → List ℕ
-output_cells kinds.Toggle = codes "|{<o0>dot|<o1>blank}}"
-output_cells kinds.Select = codes "|{<o0>true|<o1>false}}"
-output_cells kinds.Call = codes "|{<o0>r|<o1>d1|<o2>d2}}"
-output_cells kinds.Arbiter = codes "|{<o0>g1|<o1>g2}}"
-output_cells kinds.Reg = codes "|{<o0>q|<o1>cd|<o2>pd}}"
-output_cells _ = []
 
 -- the ports of a kind differ, and are drawn as cells
 abbrev pub has_cells : Kind → Bool
@@ -33,7 +29,20 @@ has_cells kinds.Select = true
 has_cells kinds.Call = true
 has_cells kinds.Arbiter = true
 has_cells kinds.Reg = true
+has_cells (kinds.Function functions.Sub) = true
+has_cells (kinds.Function functions.Less) = true
+has_cells (kinds.Function functions.Mux) = true
+has_cells (kinds.Function functions.Join) = true
 has_cells _ = false
+
+-- its outputs, as cells behind the module's kind
+abbrev pub output_cells : Kind → List ℕ
+output_cells kinds.Toggle = codes "|{<o0>dot|<o1>blank}}"
+output_cells kinds.Select = codes "|{<o0>true|<o1>false}}"
+output_cells kinds.Call = codes "|{<o0>r|<o1>d1|<o2>d2}}"
+output_cells kinds.Arbiter = codes "|{<o0>g1|<o1>g2}}"
+output_cells kinds.Reg = codes "|{<o0>q|<o1>cd|<o2>pd}}"
+output_cells kind = if has_cells kind then codes "|{<o0>y}}" else []
 
 -- where an edge meets a module: at the cell of a port, or anywhere
 abbrev pub input_port : Option ModuleRecord → ℕ → EdgePort

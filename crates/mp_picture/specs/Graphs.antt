@@ -4,6 +4,8 @@ use Rattle.std.specs.List.{flat_map}
 use Rattle.std.specs.Fmt.{decimal}
 use Rattle.mp_modules.specs.declared.kind.Kind.{Kind}
 use Rattle.mp_modules.specs.declared.kind.Kind.TheVariants as kinds
+use Rattle.mp_modules.specs.declared.function.Function.{Function}
+use Rattle.mp_modules.specs.declared.function.Function.TheVariants as functions
 use Rattle.mp_modules.specs.Kinds.{word_of}
 use Rattle.mp_records.specs.declared.ids.ModuleId.{ModuleId}
 use Rattle.mp_records.specs.declared.ids.WireId.{WireId}
@@ -42,20 +44,24 @@ two_lines first second = first ++ (92 ∷ 110 ∷ second)
 -- ---- modules
 
 -- the shape of a kind, as an attribute: a triangle points to the right
+abbrev pub function_shape : Function → List ℕ
+function_shape functions.Buf = codes " shape=triangle orientation=270 margin=0"
+function_shape functions.Not = codes " shape=triangle orientation=270 margin=0"
+function_shape functions.Xor = codes " shape=diamond"
+function_shape functions.Sub = codes " shape=record"
+function_shape functions.Less = codes " shape=record"
+function_shape functions.Mux = codes " shape=record"
+function_shape functions.Join = codes " shape=record"
+function_shape _ = codes " shape=ellipse"
+
 abbrev pub shape_of : Kind → List ℕ
 shape_of kinds.C = codes " shape=circle"
 shape_of kinds.Reg = codes " shape=record"
-shape_of kinds.AddC = codes " shape=ellipse"
-shape_of kinds.XorC = codes " shape=ellipse"
-shape_of kinds.Sum = codes " shape=ellipse"
-shape_of kinds.Bit = codes " shape=ellipse"
-shape_of kinds.Xor = codes " shape=diamond"
 shape_of kinds.Toggle = codes " shape=record"
 shape_of kinds.Select = codes " shape=record"
 shape_of kinds.Call = codes " shape=record"
 shape_of kinds.Arbiter = codes " shape=record"
-shape_of kinds.Buf = codes " shape=triangle orientation=270 margin=0"
-shape_of kinds.Not = codes " shape=triangle orientation=270 margin=0"
+shape_of (kinds.Function function) = function_shape function
 
 -- numbers, each behind a space
 abbrev pub params_text : List ℕ → List ℕ

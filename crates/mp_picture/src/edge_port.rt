@@ -3,7 +3,7 @@ ghost use Rattle.std.specs.Prelude.{◌≡◌};
 ghost use Rattle.mp_netlist.specs.Circuit.{module_at};
 ghost use Rattle.mp_picture.specs.GraphPorts.{has_cells, input_cells, output_cells, input_port, output_port, bubble, is_bubble};
 
-use mp_modules::Kind;
+use mp_modules::{Function, Kind};
 use mp_netlist::{ModuleId, ModuleRecord, Netlist};
 use mp_streams::{Failed, Out, Sink, Text};
 
@@ -38,6 +38,7 @@ fn has_cells(kind: Kind) -> bool
 {
     match kind {
         Kind::Toggle | Kind::Select | Kind::Call | Kind::Arbiter | Kind::Reg => true,
+        Kind::Function(Function::Sub | Function::Less | Function::Mux | Function::Join) => true,
         _ => false,
     }
 }
@@ -52,6 +53,8 @@ pub(crate) fn input_cells(kind: Kind) -> &'static str
         Kind::Call => "{{<i0>r1|<i1>r2|<i2>d}|",
         Kind::Arbiter => "{{<i0>r1|<i1>r2|<i2>d1|<i3>d2}|",
         Kind::Reg => "{{<i0>d|<i1>c|<i2>p}|",
+        Kind::Function(Function::Sub | Function::Less | Function::Join) => "{{<i0>a|<i1>b}|",
+        Kind::Function(Function::Mux) => "{{<i0>a|<i1>b|<i2>s}|",
         _ => "",
     }
 }
@@ -66,6 +69,7 @@ pub(crate) fn output_cells(kind: Kind) -> &'static str
         Kind::Call => "|{<o0>r|<o1>d1|<o2>d2}}",
         Kind::Arbiter => "|{<o0>g1|<o1>g2}}",
         Kind::Reg => "|{<o0>q|<o1>cd|<o2>pd}}",
+        _ if has_cells(kind) => "|{<o0>y}}",
         _ => "",
     }
 }

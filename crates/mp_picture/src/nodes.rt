@@ -2,10 +2,10 @@
 ghost use Rattle.std.specs.Prelude.{◌≡◌, Some};
 ghost use Rattle.mp_streams.specs.Outgoing.{Writes};
 ghost use Rattle.mp_netlist.specs.Circuit.{module_at};
-ghost use Rattle.mp_picture.specs.Graphs.{node, module_node, shape_of};
+ghost use Rattle.mp_picture.specs.Graphs.{node, module_node, shape_of, function_shape};
 
 use crate::edge_port::{input_cells, output_cells};
-use mp_modules::Kind;
+use mp_modules::{Function, Kind};
 use mp_netlist::{ModuleId, ModuleRecord, Netlist};
 use mp_streams::{Failed, Out, Sink, Text};
 use mp_text::Spaced;
@@ -74,9 +74,18 @@ fn shape_of(kind: Kind) -> &'static str
 {
     match kind {
         Kind::C => " shape=circle",
-        Kind::AddC | Kind::XorC | Kind::Sum | Kind::Bit => " shape=ellipse",
-        Kind::Xor => " shape=diamond",
         Kind::Reg | Kind::Toggle | Kind::Select | Kind::Call | Kind::Arbiter => " shape=record",
-        Kind::Buf | Kind::Not => " shape=triangle orientation=270 margin=0",
+        Kind::Function(function) => function_shape(function),
+    }
+}
+
+fn function_shape(function: Function) -> &'static str
+    ensures { result.now ≡ function_shape function }
+{
+    match function {
+        Function::Buf | Function::Not => " shape=triangle orientation=270 margin=0",
+        Function::Xor => " shape=diamond",
+        Function::Sub | Function::Less | Function::Mux | Function::Join => " shape=record",
+        _ => " shape=ellipse",
     }
 }

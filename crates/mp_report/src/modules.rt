@@ -5,7 +5,7 @@ ghost use Rattle.mp_modules.specs.storage.AnyModules.{any_part_of, found};
 ghost use Rattle.mp_records.specs.declared.ports.Input.{Input as Port};
 
 use mp_model::{Findings, InPiece, Waves, built, cut, cut_delayed, respond};
-use mp_modules::{EventModule, Kind};
+use mp_modules::{EventModule, Function, Kind};
 use mp_netlist::{Input, ModuleId, Netlist};
 use mp_wave::Wave;
 use std::alloc::{AllocError, Global};
@@ -41,9 +41,9 @@ fn finds_nothing(kind: Kind) -> bool
     ensures { result ≡ true → (params : List ℕ) (width : ℕ) (memory : Memory) (x : List ℕ) → found (any_part_of kind params width) memory x ≡ no_findings }
 {
     match kind {
-        Kind::Buf | Kind::Not | Kind::Toggle => true,
-        Kind::AddC | Kind::XorC | Kind::Sum | Kind::Bit => true,
-        Kind::Xor | Kind::C | Kind::Select | Kind::Call | Kind::Arbiter | Kind::Reg => false,
+        Kind::Function(Function::Xor) => false,
+        Kind::Toggle | Kind::Function(_) => true,
+        Kind::C | Kind::Select | Kind::Call | Kind::Arbiter | Kind::Reg => false,
     }
 }
 

@@ -2,6 +2,7 @@
 
 mod check_word;
 mod checks;
+mod computing_kinds;
 mod data_kinds;
 mod entries;
 mod entry;

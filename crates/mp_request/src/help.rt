@@ -32,6 +32,13 @@ Kinds of module, as KIND PARAM .. : IN .. > OUT ..
   XORC K : a > y
   SUM : a b > y
   BIT K : a > y
+with `format 4` also
+  AND : a b > y
+  OR : a b > y
+  SUB : a b > y
+  LESS : a b > y
+  MUX : a b s > y
+  JOIN : a b > y
 
 Exit status, and what standard error says:
   0                                        success

@@ -74,17 +74,11 @@ one_same f g q (i ∷ is) (suc p) all same = one_same f g q is p all same
 pub passes_reg : (kind : Kind) (p : ℕ) → passes_on kind p ≡ true → (kind ≡ kinds.Reg) × (0 < p)
 passes_reg kinds.Reg p is = (refl, ltb-true 0 p is)
 passes_reg kinds.C p is = let no : ⊥ = cc in absurd no
-passes_reg kinds.Buf p is = let no : ⊥ = cc in absurd no
-passes_reg kinds.Not p is = let no : ⊥ = cc in absurd no
-passes_reg kinds.AddC p is = let no : ⊥ = cc in absurd no
-passes_reg kinds.XorC p is = let no : ⊥ = cc in absurd no
-passes_reg kinds.Bit p is = let no : ⊥ = cc in absurd no
 passes_reg kinds.Toggle p is = let no : ⊥ = cc in absurd no
 passes_reg kinds.Select p is = let no : ⊥ = cc in absurd no
-passes_reg kinds.Xor p is = let no : ⊥ = cc in absurd no
 passes_reg kinds.Call p is = let no : ⊥ = cc in absurd no
 passes_reg kinds.Arbiter p is = let no : ⊥ = cc in absurd no
-passes_reg kinds.Sum p is = let no : ⊥ = cc in absurd no
+passes_reg (kinds.Function f) p is = let no : ⊥ = cc in absurd no
 
 reg_outputs : (a b : ℕ) (x y : List ℕ) (p : ℕ) → 0 < p → slice_index x p ≡ slice_index y p
     → slice_index (a ∷ slice_index x 1 ∷ slice_index x 2 ∷ []) p ≡ slice_index (b ∷ slice_index y 1 ∷ slice_index y 2 ∷ []) p

@@ -43,13 +43,7 @@ heard_piece n ok i from to found piece is made within t low high =
 -- without memory a step comes to the same state from any
 memoryless : (kind : Kind) (params : List ℕ) (width : ℕ) (s t : Memory) (x : List ℕ) → has_memory kind ≡ false → step (any_part_of kind params width) s x ≡ step (any_part_of kind params width) t x
 unfolding any_part_of step
-memoryless kinds.Buf params width s t x none = refl
-memoryless kinds.Not params width s t x none = refl
-memoryless kinds.Xor params width s t x none = refl
-memoryless kinds.AddC params width s t x none = refl
-memoryless kinds.XorC params width s t x none = refl
-memoryless kinds.Sum params width s t x none = refl
-memoryless kinds.Bit params width s t x none = refl
+memoryless (kinds.Function f) params width s t x none = refl
 memoryless kinds.C params width s t x none = let no : ⊥ = cc in absurd no
 memoryless kinds.Toggle params width s t x none = let no : ⊥ = cc in absurd no
 memoryless kinds.Select params width s t x none = let no : ⊥ = cc in absurd no

@@ -123,18 +123,7 @@ fn state_at(alloc: Global, set: WireSet<'_>, id: ModuleId, time: u32) -> Result<
 fn first_heard(kind: Kind, time: u32) -> u32
     ensures { result ≡ (if has_memory kind then 0 else time) }
 {
-    if has_memory(kind) { 0 } else { time }
-}
-
-/// Whether a module of the kind does what it does after what its inputs did before.
-fn has_memory(kind: Kind) -> bool
-    ensures { result ≡ has_memory kind }
-{
-    match kind {
-        Kind::C | Kind::Toggle | Kind::Select | Kind::Call | Kind::Arbiter | Kind::Reg => true,
-        Kind::Buf | Kind::Not | Kind::Xor => false,
-        Kind::AddC | Kind::XorC | Kind::Sum | Kind::Bit => false,
-    }
+    if kind.is_function() { time } else { 0 }
 }
 
 /// Whether two states are the same.

@@ -1,5 +1,6 @@
 -- The edits of a netlist's bundles, once its wires are added, are not refused.
-use Rattle.mp_text.proofs.Names.{◌≡◌, ◌<◌, ◌≤◌, ◌∷◌, ◌++◌, each_end, each_ok, All-get_or, added_bundle, ℕ, List, [], length, get_or, All, Option, Some, None, Ok, is_none, refl, ap, ◌∙◌, arith, length-append, flat_map, eq-eqb, nat_tests, get_or_at, ModuleRecord, BundleRecord, Circuit, IsCircuit, IsBundle, bundle_at, HasNames, bundle_by_name, bundle_edits, and_from, refusal, edited, after_single, bundle_checks, new_bundle, bundle_limit}
+use Rattle.mp_text.proofs.Names.{◌≡◌, ◌<◌, ◌≤◌, ◌∷◌, ◌++◌, each_end, each_ok, All-get_or, added_bundle, ℕ, List, [], length, get_or, All, Option, Some, None, Ok, is_none, refl, ap, ◌∙◌, arith, length-append, flat_map, eq-eqb, nat_tests, get_or_at, ModuleRecord, BundleRecord, Circuit, IsCircuit, IsBundle, bundle_at, HasNames, bundle_by_name, bundle_edits, and_from, refusal, edited, after_single, bundle_checks, new_bundle, bundle_limit, written_format}
+use Rattle.mp_text.proofs.FormatLemmas.{bundles_fit}
 use Rattle.mp_text.proofs.GivenLemmas.{wanting_given, front_none}
 use Rattle.mp_text.proofs.SlotLemmas.{Unnamed, named_nowhere, front_unnamed}
 use Rattle.mp_text.proofs.StageLemmas.{none_failing, is_done, Reaches, Added, AddsOne, added_reached, unnamed_again}
@@ -56,7 +57,7 @@ module _ (n : Circuit) (circuit : IsCircuit n) (named : HasNames n) (modules : L
         let free = ap is_none (named_nowhere bundle_name r.name bundles unnamed) in
         let found = and_from _ _ (and_from _ _ request.found acknowledge.found) payload.found in
         let wide = and_from _ _ (eq-eqb _ _ (request.width ∙ is.request.1)) (eq-eqb _ _ (acknowledge.width ∙ is.acknowledge.1)) in
-        let within : length front < bundle_limit n.format = omega (arith, ap length split, length-append front (Some r ∷ back), circuit.bundles_few) in
+        let within : length front < bundle_limit (written_format n) = omega (arith, ap length split, length-append front (Some r ∷ back), circuit.bundles_few, bundles_fit n) in
         is_done c (added_bundle n r) (none_failing (bundle_checks c (bundle_by_name n r)) (grind (arith, nat_tests, valid, free, found, wide, is.setup)))
 
     bundle_added : AddsOne n.bundles (added_bundle n) (added_bundle (bundled [])) bundled r bundles

@@ -1,4 +1,5 @@
 mod Names
+pub mod FormatLemmas
 pub mod RecordBackLemmas
 pub mod ReplayLemmas
 pub mod RoundTripLemmas

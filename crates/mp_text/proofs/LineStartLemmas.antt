@@ -1,5 +1,5 @@
 -- How a line begins decides what it says.
-use Rattle.mp_text.proofs.Names.{◌≡◌, ◌-◌, ◌<◌, ◌==◌, ◌||◌, ◌∷◌, if◌then◌else◌, rest_ascii, texts_behind, ℕ, zero, suc, min, Bool, true, false, cond, List, [], length, drop, None, Some, Result, Ok, Err, IfErr, refl, ap, ◌∙◌, arith, true≢false, length-take, length-drop, nat_le, slice_get, byte, bytes_eq, codes, before_first, after_first, list_all, cases_eq, leb-false, nat_tests, LineError, WordCount, UnknownStatement, NotAscii, OutOfMemory, is_allowed, words_of, ◌>>=◌, statement_takes, single_takes, question_takes, takes, is_begun, HasForm, is_mark, module_edit, stated_edit, line_word, stated_line, line_of, line_at, each_word, EditWord, SingleWord, LineWord, Single, Batch, Question, QuestionWord, Empty}
+use Rattle.mp_text.proofs.Names.{◌≡◌, ◌-◌, ◌<◌, ◌==◌, ◌||◌, ◌∷◌, if◌then◌else◌, rest_ascii, texts_behind, ℕ, zero, suc, min, Bool, true, false, cond, List, [], length, drop, None, Some, Result, Ok, Err, IfErr, refl, ap, ◌∙◌, arith, true≢false, length-take, length-drop, nat_le, slice_get, byte, bytes_eq, codes, before_first, after_first, list_all, cases_eq, leb-false, nat_tests, LineError, WordCount, UnknownStatement, NotAscii, OutOfMemory, is_allowed, words_of, ◌>>=◌, statement_takes, single_takes, question_takes, takes, is_begun, HasForm, is_mark, module_edit, stated_edit, line_word, stated_line, line_of, line_at, each_word, EditWord, Large, SingleWord, LineWord, Single, Batch, Question, QuestionWord, Empty}
 use Rattle.mp_text.specs.declared.script_line.Line.{Line}
 use Rattle.mp_text.proofs.GivenLemmas.{wanting_given}
 use Rattle.mp_text.specs.Questions.{check_question, range_of, stated_question}
@@ -29,7 +29,7 @@ few_ports : (words : Words) → length words < 4
     → (length (before_first is_angle (after_first is_colon words)) == 0 || length (after_first is_angle (after_first is_colon words)) == 0) ≡ true
 few_ports words few = grind (arith, nat_tests, cases_eq, length-drop, length-take)
 
-statement_refused : (first : EditWord) (words : Words) → statement_takes first (length words) ≡ false → stated_edit first words ≡ Err WordCount
+statement_refused : (first : EditWord) (words : Words) → statement_takes first (length words) ≡ false → stated_edit Large first words ≡ Err WordCount
 statement_refused first words wrong = grind (arith, nat_tests, not_so_many, few_ports, leb-false)
 
 -- a range of times has two words, or none

@@ -1,5 +1,6 @@
 -- The edits of a netlist's modules, once its wires are added, are not refused.
-use Rattle.mp_text.proofs.Names.{lt-ltb, ◌≡◌, ◌<◌, ◌≤◌, ◌==◌, ◌∷◌, ◌++◌, added_module, ℕ, true, List, [], length, map, get_or, All, Option, Some, None, Ok, option_map, is_none, refl, sym, ap, subst, ◌∙◌, arith, length-append, IsSome, IfSome, slice_index_or, flat_map, list_all, eq-eqb, nat_tests, get_or_at, get_or_append_left, get_or-map, length-map, All-map, All-from_get_or, input_width, output_width, are_params, WireId, ModuleRecord, Input, InputName, OutputName, no_input, output_in, Circuit, IsCircuit, IsModule, HasWidth, Drives, wire_at, module_at, width_of, module_width, HasNames, no_name, some_input, wire_name, module_by_name, module_edits, input_by_name, output_by_name, list_all-from_AllPass, and_from, refusal, edited, after_single, stands, wire_id, width_named, is_undriven, is_delay, is_input_delay, delays_fit, driven_names, first_width, new_width, inputs_stand, inputs_fit, output_fits, outputs_fit, module_checks, input_of, output_of, new_module, without_stimulus, module_limit, map_fixed, map-map}
+use Rattle.mp_text.proofs.Names.{lt-ltb, ◌≡◌, ◌<◌, ◌≤◌, ◌==◌, ◌∷◌, ◌++◌, added_module, ℕ, true, List, [], length, map, get_or, All, Option, Some, None, Ok, option_map, is_none, refl, sym, ap, subst, ◌∙◌, arith, length-append, IsSome, IfSome, slice_index_or, flat_map, list_all, eq-eqb, nat_tests, get_or_at, get_or_append_left, get_or-map, length-map, All-map, All-from_get_or, input_width, output_width, are_params, WireId, ModuleRecord, Input, InputName, OutputName, no_input, output_in, Circuit, IsCircuit, IsModule, HasWidth, Drives, wire_at, module_at, width_of, module_width, HasNames, no_name, some_input, wire_name, module_by_name, module_edits, input_by_name, output_by_name, list_all-from_AllPass, and_from, refusal, edited, after_single, stands, wire_id, width_named, is_undriven, is_delay, is_input_delay, delays_fit, driven_names, first_width, new_width, inputs_stand, inputs_fit, output_fits, outputs_fit, module_checks, input_of, output_of, new_module, without_stimulus, module_limit, map_fixed, map-map, written_format}
+use Rattle.mp_text.proofs.FormatLemmas.{modules_fit}
 use Rattle.mp_text.proofs.SlotLemmas.{Unnamed, named_nowhere, front_unnamed}
 use Rattle.mp_text.proofs.StageLemmas.{none_failing, is_done, Reaches, Added, AddsOne, added_reached, unnamed_again}
 use Rattle.mp_text.proofs.OutputLemmas.{output_named, is_output, DrivesNone, undriven_by_name, drives_none, is_nothing_driven, driven_all, driven_distinct, counted_all}
@@ -169,8 +170,8 @@ module _ (n : Circuit) (circuit : IsCircuit n) (named : HasNames n) where
         let found = and_from _ _ (inputs_found n c has r is) (outputs_found n c has r is) in
         let wide = and_from _ _ (inputs_wide n c has r is) (outputs_wide n c has r is) in
         let unset = and_from _ _ (driven_all (is_undriven c) outputs undriven) (driven_distinct outputs distinct) in
-        let within : length front < module_limit n.format = omega (arith, ap length split, length-append front (Some r ∷ back), circuit.modules_few) in
-        let room = lt-ltb (length modules) (module_limit n.format) (omega (arith, few)) in
+        let within : length front < module_limit (written_format n) = omega (arith, ap length split, length-append front (Some r ∷ back), circuit.modules_few, modules_fit n) in
+        let room = lt-ltb (length modules) (module_limit (written_format n)) (omega (arith, few)) in
         is_done c (added_module n r)
         (none_failing (module_checks c (module_by_name n r)) (valid, (free, (counts, (found, (wide, (params_ranged n c has r is, (delays_low n c has r is, (unset, (room, tt))))))))))
 

@@ -9,7 +9,7 @@ pub use Rattle.std.proofs.lemmas.List.Folds.{flat_map-map, list_all-append, list
 pub use Rattle.std.proofs.lemmas.List.Sums.{list_all-from_AllPass}
 pub use Rattle.std.proofs.lemmas.Simd.{map-map}
 pub use Rattle.std.proofs.lemmas.Result.{err_from_is_err_and}
-pub use Rattle.mp_modules.proofs.KindLemmas.{param_bound-low, some_input, some_output}
+pub use Rattle.mp_modules.proofs.KindLemmas.{param_bound-low, some_input, some_output, width_from_low}
 pub use Rattle.mp_netlist.proofs.LimitLemmas.{horizon_within}
 pub use Rattle.mp_netlist.proofs.PortLemmas.{no_name}
 pub use Rattle.mp_netlist.proofs.TableLemmas.{equal_name, same_name, slot_within}
@@ -24,7 +24,7 @@ unfoldable pub use Rattle.mp_records.specs.Stimuli.{is_stimulus}
 pub use Rattle.mp_records.specs.declared.edit_error.EditError.{EditError}
 pub use Rattle.mp_streams.proofs.LeftLemmas.{Left, left_as, left_failed, left_none, left_then, left_whole}
 pub use Rattle.mp_streams.proofs.OutLemmas.{puts_next, puts_stopped, writes_failed}
-pub use Rattle.mp_text.specs.Names.{AddBundle, AddModule, AddWire, AreAscii, BadNumber, Batch, BundleRecord, Bundles, Circuit, Drives, EditWord, Empty, Formatted, Fresh, Gives, HasNames, HasWidth, Input, InputName, IsBundle, IsCircuit, IsDelay, IsModule, Kind, Large, Line, LineError, LineWord, ModuleRecord, Modules, NewBundle, NewModule, NotAscii, Open, OutOfMemory, Output, OutputName, Question, QuestionWord, Refused, Second, Section, SetStimulus, Single, SingleEdit, SingleWord, Standard, Stimuli, TextCode, TextError, TextFormat, TextState, Fourth, TooLong, UnknownStatement, WireId, WireRecord, Wires, WordCount, Writes, after_first, after_single, are_distinct, are_params, before_first, bundle_at, bundle_checks, bundle_limit, byte, change_word, changes_text, delays_fit, driven_names, empty_circuit, enumerate_from, first_failing, first_width, go_on, horizon_limit, input_of, input_width, input_word, inputs_fit, inputs_stand, is_allowed, is_delay, is_gap, is_input_delay, is_line_feed, is_undriven, is_word, line_words, list_all, list_any, max_delay, max_horizon, max_setup, module_at, module_checks, module_limit, module_width, new_bundle, new_module, new_width, number_word, onto_first, output_fits, output_of, output_width, output_word, outputs_fit, pair_text, position_or_len, replay, replay_singles, result_map_both, slice_split, stands, statement_part, stimulus_at, stimulus_checks, stimulus_in, texts, unless, width_named, width_of, wire_at, wire_checks, wire_id, wire_limit, with_front, with_stimulus, without_stimulus, word_of, ◌>>=◌}
+pub use Rattle.mp_text.specs.Names.{AddBundle, Bundle, Module, Stimulus, Wire, AddModule, AddWire, AreAscii, BadNumber, Batch, BundleRecord, Bundles, Circuit, Drives, EditWord, Empty, Formatted, Fresh, Gives, HasNames, HasWidth, Input, InputName, IsBundle, IsCircuit, IsDelay, IsModule, Kind, Large, Line, LineError, LineWord, ModuleRecord, Modules, NewBundle, NewModule, NotAscii, Open, OutOfMemory, Output, OutputName, Question, QuestionWord, Refused, Second, Section, SetStimulus, Single, SingleEdit, SingleWord, Standard, Stimuli, TextCode, TextError, TextFormat, TextState, Fourth, TooLong, UnknownStatement, WireId, WireRecord, Wires, WordCount, Writes, after_first, after_single, are_distinct, are_params, before_first, bundle_at, bundle_checks, bundle_limit, byte, change_word, changes_text, delays_fit, driven_names, empty_circuit, enumerate_from, first_failing, first_width, go_on, horizon_limit, input_of, input_width, input_word, inputs_fit, inputs_stand, is_allowed, is_delay, is_gap, is_input_delay, is_line_feed, is_undriven, is_word, line_words, list_all, list_any, max_delay, max_horizon, max_setup, module_at, module_checks, module_limit, module_width, new_bundle, new_module, new_width, number_word, onto_first, output_fits, output_of, output_width, output_word, outputs_fit, pair_text, position_or_len, replay, replay_singles, result_map_both, slice_split, stands, statement_part, stimulus_at, stimulus_checks, stimulus_in, texts, unless, width_named, width_of, wire_at, wire_checks, wire_id, wire_limit, with_front, with_stimulus, without_stimulus, word_of, ◌>>=◌}
 unfoldable pub use Rattle.mp_text.specs.ScriptLines.{line_at, line_of}
 pub use Rattle.mp_text.specs.Sections.{section_text, slot_count, slot_line}
 unfoldable pub use Rattle.mp_text.specs.Sizes.{text_limit}
@@ -40,4 +40,4 @@ pub use Rattle.mp_text.proofs.lemmas.lexing.WordListLemmas.{each_end, each_err, 
 unfoldable pub use Rattle.mp_text.specs.lexing.Lines.{lines_of}
 unfoldable pub use Rattle.mp_text.specs.lexing.WordLists.{each_word}
 unfoldable pub use Rattle.mp_text.specs.lexing.Words.{words_of}
-pub use Rattle.mp_text.specs.Clauses.{Change, Format, GivesText, HasForm, IsReachedIn, IsReadAs, IsReadAsWritten, SameRecords, Start, Statement, added_bundle, added_module, bundle_by_name, bundle_edits, bundle_line, delay_text, each_part, edit_for, edits_by_name, finished, first_words, format_line, format_of, formatted, horizon_line, in_text, input_by_name, input_text, is_begun, is_mark, is_four, last_line, line_word, max_first_horizon, max_horizon_of, max_short_text, max_text, module_by_name, module_edit, module_edits, module_line, name_in, netlist_format, next_line, output_by_name, output_name, output_text, part_edit, part_texts, question_takes, set_edits, single_takes, spaced, standing, stated_edit, stated_line, statement_takes, states_fourth, stimulus_edits, stimulus_line, stimulus_words, takes, wire_edits, wire_line, wire_name, written_line}
+pub use Rattle.mp_text.specs.Clauses.{Change, Format, GivesText, HasForm, IsReachedIn, IsReadAs, IsReadAsWritten, SameRecords, Start, Statement, added_bundle, added_module, bundle_by_name, bundle_edits, bundle_line, delay_text, each_part, edit_for, edits_by_name, finished, first_words, format_line, format_of, formatted, horizon_line, in_text, input_by_name, input_text, is_begun, has_kind, is_mark, is_four, last_line, line_word, max_first_horizon, max_horizon_of, max_short_text, max_text, module_by_name, module_edit, module_edits, module_line, name_in, needs_fourth, netlist_format, next_line, output_by_name, output_name, output_text, part_edit, part_texts, question_takes, set_edits, single_takes, spaced, standing, stated_edit, stated_line, stands_fourth, statement_takes, states_fourth, stimulus_edits, stimulus_line, stimulus_words, takes, wire_edits, wire_line, wire_name, written_format, written_line}

@@ -1,18 +1,37 @@
 -- The netlist of a text is a replay.
-use Rattle.mp_text.proofs.Names.{◌≡◌, ◌+◌, ◌∷◌, if◌then◌else◌, ◌==◌, ℕ, Bool, true, false, cond, List, [], map, Result, Ok, Err, refl, ap, filter_map, list_all, SingleEdit, Circuit, empty_circuit, replay, replay_singles, NotAscii, BadNumber, Line, TextCode, TextState, Fresh, Formatted, Open, ◌>>=◌, TextError, lines_of, is_allowed, words_of, Statement, Format, Start, statement_of, in_text, text_at, after_lines, after_line, after_statement, formatted, next_line, Standard, Large, netlist_format, TextFormat, format_of, eqb-true, arith, nat_tests}
+use Rattle.mp_text.proofs.Names.{◌≡◌, ◌+◌, ◌∷◌, if◌then◌else◌, ◌==◌, ℕ, Bool, true, false, cond, List, [], map, Result, Ok, Err, refl, ap, filter_map, list_all, SingleEdit, Circuit, empty_circuit, replay, replay_singles, NotAscii, BadNumber, Line, TextCode, TextState, Fresh, Formatted, Open, ◌>>=◌, TextError, lines_of, is_allowed, words_of, Statement, Format, Start, Change, stated_edit, LineError, EditError, Refused, after_single, go_on, result_map_both, subst, statement_of, in_text, text_at, after_lines, after_line, after_statement, formatted, next_line, Standard, Large, netlist_format, TextFormat, format_of, eqb-true, arith, nat_tests}
 use Rattle.mp_netlist.specs.declared.format.Format.{Format as NetlistFormat}
+use Rattle.std.specs.List.{cons_option}
 use Rattle.mp_records.specs.declared.edit.Edit.TheVariants.{Single}
-use Rattle.mp_text.specs.Laws.{format_by, horizon_of, edit_of, statements, IsReplayed, IsReplay}
+use Rattle.mp_text.specs.Statements.{Blank, Unknown}
+use Rattle.mp_text.proofs.TextBackLemmas.{format_stays}
+use Rattle.mp_text.specs.Laws.{format_by, horizon_of, edit_of, edit_read, statements, IsReplayed, IsReplay}
 
--- the lines state no horizon, and lead from one netlist to the other by their edits
+-- the lines state no horizon, and lead from one netlist to the other by their edits, in the format of these
 abbrev LeadsOn : List Statement → Circuit → Circuit → Type 0
-LeadsOn ss n c = (filter_map horizon_of ss ≡ []) × (replay_singles n (filter_map edit_of ss) ≡ Ok c)
+LeadsOn ss n c = (filter_map horizon_of ss ≡ []) × (replay_singles n (filter_map (edit_of n.format) ss) ≡ Ok c)
 
 module _ (k : ℕ) (n c : Circuit) (ss : List Statement) (go : TextState → Result Circuit TextError)
     (next : (m : Circuit) → go (Open m) ≡ Ok c → LeadsOn ss m c) where
+  on_edit : (read : Result SingleEdit LineError) → next_line k go (in_text read >>= λ e. result_map_both Open Refused (after_single n e)) ≡ Ok c
+      → (filter_map horizon_of ss ≡ []) × (replay_singles n (cons_option (edit_read read) (filter_map (edit_of n.format) ss)) ≡ Ok c)
+  on_edit (Err error) h = cc
+  on_edit (Ok edit) h = by (after_single n edit) refl h
+    where
+      by : (made : Result Circuit EditError) → after_single n edit ≡ made → next_line k go (result_map_both Open Refused made) ≡ Ok c
+          → (filter_map horizon_of ss ≡ []) × (go_on (λ m. replay_singles m (filter_map (edit_of n.format) ss)) made ≡ Ok c)
+      by (Ok m) made h =
+          let rest = next m h in
+          (rest.0, subst (λ f. replay_singles m (filter_map (edit_of f) ss) ≡ Ok c) (format_stays n m edit made) rest.1)
+      by (Err error) made h = cc
+
   on_statement : (s : Statement) → next_line k go (after_statement (Open n) s) ≡ Ok c → LeadsOn (s ∷ ss) n c
   unfolding after_statement
-  on_statement s h = grind (arith, nat_tests)
+  on_statement Blank h = next n h
+  on_statement Unknown h = cc
+  on_statement (Format number) h = cc
+  on_statement (Start horizon) h = cc
+  on_statement (Change word words) h = on_edit (stated_edit n.format word words) h
 
 -- what holds of the statements of a line that is read holds of its words
 module _ (k : ℕ) (c : Circuit) (state : TextState) (go : TextState → Result Circuit TextError) (P : Statement → Type 0)
@@ -30,7 +49,7 @@ leads_on k n c (line ∷ lines) h =
 
 -- the lines state one horizon, and lead from its empty netlist to the other by their edits
 abbrev Opens : NetlistFormat → List Statement → Circuit → Type 0
-Opens f ss c = (h : ℕ) × ((filter_map horizon_of ss ≡ h ∷ []) × (replay_singles (empty_circuit f h) (filter_map edit_of ss) ≡ Ok c))
+Opens f ss c = (h : ℕ) × ((filter_map horizon_of ss ≡ h ∷ []) × (replay_singles (empty_circuit f h) (filter_map (edit_of f) ss) ≡ Ok c))
 
 -- the format of a text of the form of a number
 pub format_numbered : (number : ℕ) (form : TextFormat) → format_of number ≡ Ok form → netlist_format form ≡ (if number == 4 then Large else Standard)

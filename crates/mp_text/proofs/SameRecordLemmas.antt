@@ -1,5 +1,5 @@
 -- The edits of a netlist's records by name lead to a netlist with the same records.
-use Rattle.mp_text.proofs.Names.{AddModule, edit_for, map, option_map, ◌≡◌, ◌∷◌, ◌++◌, ℕ, suc, List, [], get_or, Option, Some, None, Ok, refl, flat_map, append-nil, WireId, WireRecord, ModuleRecord, Circuit, IsCircuit, empty_circuit, HasNames, replay_singles, name_in, wire_name, SameRecords, standing, module_edits, stimulus_edits, bundle_edits, edits_by_name, arith, nat_tests}
+use Rattle.mp_text.proofs.Names.{AddModule, edit_for, map, option_map, ◌≡◌, ◌∷◌, ◌++◌, ℕ, suc, List, [], get_or, Option, Some, None, Ok, refl, flat_map, append-nil, WireId, WireRecord, ModuleRecord, Circuit, IsCircuit, empty_circuit, HasNames, replay_singles, name_in, wire_name, SameRecords, standing, module_edits, stimulus_edits, bundle_edits, edits_by_name, arith, nat_tests, written_format}
 use Rattle.mp_text.proofs.WireStageLemmas.{bare, made, wires_reached}
 use Rattle.mp_text.proofs.ModuleStageLemmas.{modules_reached}
 use Rattle.mp_text.proofs.StimulusStageLemmas.{kept, stimuli_reached}
@@ -29,7 +29,7 @@ module _ (c d : Circuit) (names : (w : WireId) → wire_name c w ≡ wire_name d
 -- the edits of the records lead to a netlist with the same records
 pub record IsMadeAgain (n : Circuit) : Type 0 where
   pub again : Circuit
-  pub replayed : replay_singles (empty_circuit n.format n.horizon) (edits_by_name n) ≡ Ok again
+  pub replayed : replay_singles (empty_circuit (written_format n) n.horizon) (edits_by_name n) ≡ Ok again
   pub same : SameRecords n again
 
 module _ (n : Circuit) (circuit : IsCircuit n) (named : HasNames n) (modules : List (Option ModuleRecord))

@@ -1,5 +1,6 @@
 -- The edits of a netlist's wires, on an empty netlist, are not refused.
-use Rattle.mp_text.proofs.Names.{◌≡◌, ◌<◌, ◌∷◌, ◌++◌, ℕ, suc, true, List, [], length, get_or, Option, Some, None, is_none, Ok, refl, sym, ap, subst, ◌∙◌, arith, length-append, IsSome, flat_map, nat_tests, get_or_at, flat_map-append, WireId, WireRecord, ModuleRecord, BundleRecord, AddWire, Circuit, IsCircuit, wire_at, width_of, stimulus_in, HasNames, name_in, wire_name, wire_edits, and_from, refusal, edited, after_single, stands, wire_id, width_named, wire_checks, without_stimulus, wire_limit}
+use Rattle.mp_text.proofs.Names.{◌≡◌, ◌<◌, ◌∷◌, ◌++◌, ℕ, suc, true, List, [], length, get_or, Option, Some, None, is_none, Ok, refl, sym, ap, subst, ◌∙◌, arith, length-append, IsSome, flat_map, nat_tests, get_or_at, flat_map-append, WireId, WireRecord, ModuleRecord, BundleRecord, AddWire, Circuit, IsCircuit, wire_at, width_of, stimulus_in, HasNames, name_in, wire_name, wire_edits, and_from, refusal, edited, after_single, stands, wire_id, width_named, wire_checks, without_stimulus, wire_limit, written_format}
+use Rattle.mp_text.proofs.FormatLemmas.{wires_fit}
 use Rattle.mp_text.proofs.SlotLemmas.{compact, compact-none, compact_few, IsAt, IsAt-compact, named_nowhere, front_unnamed, compact_unnamed}
 use Rattle.mp_text.proofs.StageLemmas.{none_failing, is_done, Reaches, Reaches-none, Reaches-one, Steps, stage}
 
@@ -10,9 +11,9 @@ name_of r = r.name
 abbrev pub bare : Option WireRecord → List (Option WireRecord)
 bare slot = compact without_stimulus slot
 
--- a netlist with these records
+-- a netlist with these records, of the format in which they are written
 abbrev pub made : Circuit → List (Option WireRecord) → List (Option ModuleRecord) → List (Option BundleRecord) → Circuit
-made n wires modules bundles = record { format = n.format; horizon = n.horizon; wires = wires; modules = modules; bundles = bundles }
+made n wires modules bundles = record { format = written_format n; horizon = n.horizon; wires = wires; modules = modules; bundles = bundles }
 
 -- a wire of the one netlist has its name and its width in the other
 pub record IsKept (c : Circuit) (r : WireRecord) : Type 0 where
@@ -60,7 +61,7 @@ module _ (n : Circuit) (circuit : IsCircuit n) (named : HasNames n) where
       let at : wire_at n (length front) ≡ Some r = ap (λ xs. get_or xs (length front) None) same ∙ get_or_at front (Some r) back None (length front) refl in
       let ok = circuit.wires_ok (length front) r at in
       let free = named_nowhere name_of r.name (flat_map bare front) (compact_unnamed name_of without_stimulus (λ s. refl) r.name front (front_unnamed name_of n.wires front back r named.one_wire same)) in
-      let few : length front < wire_limit n.format = omega (arith, ap length same, length-append front (Some r ∷ back), circuit.wires_few) in
+      let few : length front < wire_limit (written_format n) = omega (arith, ap length same, length-append front (Some r ∷ back), circuit.wires_few, wires_fit n) in
       let none = none_failing (wire_checks (wired front) r.name r.width r.initial)
       (grind (arith, nat_tests, and_from, (named.wires (length front) r at), (ap is_none free), ok.wide, ok.narrow, ok.level, (compact_few without_stimulus front))) in
       is_done (wired front) (AddWire r.name r.width r.initial) none

@@ -1,5 +1,5 @@
 -- The lines of a netlist's text in pieces.
-use Rattle.mp_text.proofs.Names.{◌≡◌, ◌∷◌, ◌++◌, ℕ, List, [], Option, Some, append_assoc, append-nil, codes, flat_map, word_of, ModuleRecord, flat_map-map, changes_text, Circuit, Wires, Modules, Stimuli, Bundles, section_text, stimulus_words, input_text, output_text, format_line, module_line, written, arith, nat_tests, drop-cons, add-one, drop_of_length-le, ◌+◌, ◌<◌, ◌≤◌, left_none, left_as, left_then, left_whole, drop, slot_count, slot_line, wire_line, stimulus_line, bundle_line, Section}
+use Rattle.mp_text.proofs.Names.{◌≡◌, ◌∷◌, ◌++◌, ℕ, List, [], Option, Some, append_assoc, append-nil, codes, flat_map, word_of, ModuleRecord, flat_map-map, changes_text, Circuit, Wires, Modules, Stimuli, Bundles, section_text, stimulus_words, input_text, output_text, format_line, module_line, written, written_format, arith, nat_tests, drop-cons, add-one, drop_of_length-le, ◌+◌, ◌<◌, ◌≤◌, left_none, left_as, left_then, left_whole, drop, slot_count, slot_line, wire_line, stimulus_line, bundle_line, Section}
 use Rattle.std.specs.Fmt.{decimal}
 use Rattle.std.proofs.lemmas.Grind.{flat_map-append}
 
@@ -17,7 +17,7 @@ module_pieces n r = simp (flat_map-append, flat_map-map, append_assoc)
 
 -- the pieces of a netlist's text
 pub written_pieces : (n : Circuit) → written n
-    ≡ (format_line n.format n.horizon ++ (codes "horizon " ++ (decimal n.horizon ++ codes "\n")))
+    ≡ (format_line (written_format n) n.horizon ++ (codes "horizon " ++ (decimal n.horizon ++ codes "\n")))
     ++ (section_text n Wires ++ (section_text n Modules ++ (section_text n Stimuli ++ section_text n Bundles)))
 unfolding written
 written_pieces n = simp append_assoc

@@ -2,7 +2,7 @@
 pub use Rattle.std.specs.Io.KnownBytes.{Appends}
 pub use Rattle.std.specs.Prelude.{All, IfErr, IfOk, IfSome, IsAscii, List, OnOk, Some, length, position, take, ℕ}
 pub use Rattle.mp_text.specs.Batches.{batch_of, each_part, part_edit, part_texts}
-pub use Rattle.mp_text.specs.Formats.{format_of, max_horizon_of, netlist_format}
+pub use Rattle.mp_text.specs.Formats.{format_of, has_kind, max_horizon_of, needs_fourth, netlist_format}
 pub use Rattle.mp_text.specs.Laws.{IsReplay}
 pub use Rattle.mp_text.specs.Limits.{max_first_horizon, max_short_text, max_text}
 pub use Rattle.mp_text.specs.LineStarts.{HasForm, is_begun, question_takes, single_takes, statement_takes, takes}
@@ -14,8 +14,8 @@ pub use Rattle.mp_text.specs.ScriptLines.{batch_line, line_at, line_word, questi
 pub use Rattle.mp_text.specs.SingleEdits.{port_change, removal, single_edit, single_word}
 pub use Rattle.mp_text.specs.Sizes.{first_words, is_four, states_fourth, text_limit}
 pub use Rattle.mp_records.specs.declared.single_edit.SingleEdit.TheVariants.{AddModule}
-pub use Rattle.mp_text.specs.Statements.{Blank, Change, Format, Start, Statement, Unknown, edit_word, is_mark, module_edit, parts_edit, ports_edit, stated_edit, stated_number, statement_of}
+pub use Rattle.mp_text.specs.Statements.{Blank, Change, Format, Start, Statement, Unknown, edit_word, is_mark, kind_in, kind_word, module_edit, params_edit, parts_edit, ports_edit, stated_edit, stated_number, statement_of}
 pub use Rattle.mp_text.specs.Texts.{GivesText, IsReached, IsReachedIn, after_line, after_lines, after_statement, begun, finished, formatted, in_text, last_line, next_line, text_at, told}
-pub use Rattle.mp_text.specs.Written.{bundle_line, delay_text, format_line, horizon_line, input_text, module_line, name_in, output_name, output_text, spaced, stimulus_line, stimulus_words, wire_line, wire_name, written, written_line}
+pub use Rattle.mp_text.specs.Written.{bundle_line, delay_text, format_line, horizon_line, input_text, module_line, name_in, output_name, output_text, spaced, stands_fourth, stimulus_line, stimulus_words, wire_line, wire_name, written, written_format, written_line}
 pub use Rattle.mp_text.specs.declared.text_code.TextCode.TheVariants.{Line, Refused}
 pub use Rattle.mp_text.specs.declared.text_state.TextState.TheVariants.{Fresh, Open}

@@ -1,18 +1,23 @@
 -- What the netlist of a text is made of.
 use Rattle.std.specs.Prelude.{◌≡◌, ◌==◌, ◌∷◌, if◌then◌else◌}
-use Rattle.mp_text.specs.Names.{filter_map, SingleEdit, Circuit, empty_circuit, replay, lines_of, words_of, Standard, Large, ℕ, List, [], Option, Some, None, Ok, map}
+use Rattle.mp_text.specs.Names.{filter_map, SingleEdit, Circuit, empty_circuit, replay, lines_of, words_of, Standard, Large, ℕ, List, [], Option, Some, None, Result, Ok, Err, LineError, map}
 use Rattle.mp_records.specs.declared.edit.Edit.TheVariants.{Single}
 use Rattle.mp_netlist.specs.declared.format.Format.{Format as NetlistFormat}
-use Rattle.mp_text.specs.Statements.{Statement, Blank, Format, Start, Change, statement_of}
+use Rattle.mp_text.specs.Statements.{Statement, Blank, Format, Start, Change, stated_edit, statement_of}
 use Rattle.mp_text.specs.Texts.{text_at}
 
 abbrev pub horizon_of : Statement → Option ℕ
 horizon_of (Start (Ok horizon)) = Some horizon
 horizon_of statement = None
 
-abbrev pub edit_of : Statement → Option SingleEdit
-edit_of (Change (Ok edit)) = Some edit
-edit_of statement = None
+abbrev pub edit_read : Result SingleEdit LineError → Option SingleEdit
+edit_read (Ok edit) = Some edit
+edit_read (Err error) = None
+
+-- the edit that a statement states in a text of that format
+abbrev pub edit_of : NetlistFormat → Statement → Option SingleEdit
+edit_of format (Change word words) = edit_read (stated_edit format word words)
+edit_of format statement = None
 
 -- the statement of each line
 abbrev pub statements : List (List ℕ) → List Statement
@@ -29,7 +34,7 @@ format_by (other ∷ later) = Standard
 abbrev pub IsReplayed : List (List ℕ) → Circuit → Type 0
 IsReplayed lines n =
     (h : ℕ) × ((filter_map horizon_of (statements lines) ≡ h ∷ [])
-    × (replay (empty_circuit (format_by (statements lines)) h) (map Single (filter_map edit_of (statements lines))) ≡ Ok n))
+    × (replay (empty_circuit (format_by (statements lines)) h) (map Single (filter_map (edit_of (format_by (statements lines))) (statements lines))) ≡ Ok n))
 
 -- each text that is read is replayed
 abbrev pub IsReplay : Type 0

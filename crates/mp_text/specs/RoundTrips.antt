@@ -3,7 +3,7 @@ use Rattle.std.specs.Prelude.{◌≡◌, ◌≤◌, ◌∷◌, ◌++◌}
 use Rattle.mp_text.specs.Names.{flat_map, filter_map, WireRecord, ModuleRecord, BundleRecord, Input, Output, InputName, OutputName, SingleEdit, AddWire, AddModule, AddBundle, SetStimulus, Circuit, IsCircuit, ℕ, List, [], length, map, Option, Some, None, Ok, option_map, NewModule, NewBundle}
 use Rattle.mp_text.specs.Sizes.{text_limit}
 use Rattle.mp_text.specs.Texts.{text_at}
-use Rattle.mp_text.specs.Written.{written, wire_name}
+use Rattle.mp_text.specs.Written.{written, written_format, wire_name}
 
 -- the edit for what stands in a slot, and none where nothing does
 abbrev pub edit_for : {R : Type 0} → (R → SingleEdit) → Option R → List SingleEdit
@@ -65,9 +65,9 @@ edits_by_name n = flat_map wire_edits n.wires ++ (flat_map (module_edits n) n.mo
 abbrev pub standing : {R : Type 0} → List (Option R) → List R
 standing slots = filter_map (λ slot. slot) slots
 
--- the same format and horizon, the same wires with what is set on them, and the same modules and bundles with the names of their wires, each in order of number
+-- the format in which it is written, the same horizon, the same wires with what is set on them, and the same modules and bundles with the names of their wires, each in order of number
 pub record SameRecords (n m : Circuit) : Type 0 where
-  pub format : m.format ≡ n.format
+  pub format : m.format ≡ written_format n
   pub horizon : m.horizon ≡ n.horizon
   pub wires : standing m.wires ≡ standing n.wires
   pub modules : flat_map (module_edits m) m.modules ≡ flat_map (module_edits n) n.modules

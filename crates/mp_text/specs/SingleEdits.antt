@@ -1,6 +1,6 @@
 -- What a script's edit of one thing says.
 use Rattle.std.specs.Prelude.{◌∷◌, if◌then◌else◌}
-use Rattle.mp_text.specs.Names.{bytes_eq, SingleEdit, RemoveWire, RemoveModule, RemoveBundle, RewireInput, RewireOutput, SetInputDelay, SetDelay, ClearStimulus, LineError, UnknownStatement, WordCount, number_word, wire_or_none, ◌>>=◌, ℕ, List, [], Option, Some, Result, Ok, Err, codes, option_map, SingleWord}
+use Rattle.mp_text.specs.Names.{Large, bytes_eq, SingleEdit, RemoveWire, RemoveModule, RemoveBundle, RewireInput, RewireOutput, SetInputDelay, SetDelay, ClearStimulus, LineError, UnknownStatement, WordCount, number_word, wire_or_none, ◌>>=◌, ℕ, List, [], Option, Some, Result, Ok, Err, codes, option_map, SingleWord}
 use Rattle.mp_text.specs.declared.single_word.SingleWord.TheVariants.{Stated, Remove, Input, Output, InputDelay, Delay, Clear}
 use Rattle.mp_text.specs.Statements.{edit_word, stated_edit}
 
@@ -34,9 +34,9 @@ single_word word =
     else (if bytes_eq word (codes "clear") then Some Clear
     else option_map Stated (edit_word word))))))
 
--- the edit of that word and the words behind it
+-- the edit of that word and the words behind it; a line may have each kind of module
 abbrev pub single_edit : SingleWord → List (List ℕ) → Result SingleEdit LineError
-single_edit (Stated word) words = stated_edit word words
+single_edit (Stated word) words = stated_edit Large word words
 single_edit Remove (thing ∷ name ∷ []) = removal thing name
 single_edit Remove words = Err WordCount
 single_edit Clear (wire ∷ []) = Ok (ClearStimulus wire)

@@ -5,7 +5,7 @@ use Rattle.mp_records.specs.declared.edit_error.EditError.{EditError}
 use Rattle.mp_records.specs.declared.edit_error.EditError.TheVariants as edits
 use Rattle.mp_text.specs.Formats.{format_of, max_horizon_of, netlist_format}
 use Rattle.mp_text.specs.Sizes.{text_limit}
-use Rattle.mp_text.specs.Statements.{Statement, Blank, Unknown, Format, Start, Change, statement_of}
+use Rattle.mp_text.specs.Statements.{Statement, Blank, Unknown, Format, Start, Change, stated_edit, statement_of}
 
 -- what a line says, as a part of a text
 abbrev pub in_text : {A : Type 0} → Result A LineError → Result A TextCode
@@ -37,10 +37,10 @@ after_statement (Formatted format) (Start horizon) = do
   h ← in_text horizon
   begun format h
 after_statement (Open n) (Start horizon) = Err SecondHorizon
-after_statement Fresh (Change edit) = Err NoHorizon
-after_statement (Formatted format) (Change edit) = Err NoHorizon
-after_statement (Open n) (Change edit) = do
-  e ← in_text edit
+after_statement Fresh (Change word words) = Err NoHorizon
+after_statement (Formatted format) (Change word words) = Err NoHorizon
+after_statement (Open n) (Change word words) = do
+  e ← in_text (stated_edit n.format word words)
   result_map_both Open Refused (after_single n e)
 
 -- how an edit ended, as it is told of the line that states it: want of memory is that of the line

@@ -1,7 +1,9 @@
 -- How a netlist is written.
-use Rattle.std.specs.Prelude.{◌∷◌, ◌++◌, ◌==◌, if◌then◌else◌}
+use Rattle.std.specs.Prelude.{◌∷◌, ◌++◌, ◌==◌, Bool, false, if◌then◌else◌}
+use Rattle.std.specs.List.{list_any}
 use Rattle.mp_text.specs.Names.{flat_map, word_of, WireId, WireRecord, ModuleRecord, BundleRecord, Input, Output, Circuit, wire_at, pair_text, Standard, Large, ℕ, List, [], map, Option, Some, None, codes, nat_le, decimal}
 use Rattle.mp_netlist.specs.declared.format.Format.{Format as NetlistFormat}
+use Rattle.mp_text.specs.Formats.{needs_fourth}
 use Rattle.mp_text.specs.Limits.{max_first_horizon}
 
 -- words, each behind a space
@@ -16,6 +18,15 @@ written_line first words = first ++ (spaced words ++ (10 ∷ []))
 abbrev pub format_line : NetlistFormat → ℕ → List ℕ
 format_line Large horizon = written_line (codes "format") (codes "4" ∷ [])
 format_line Standard horizon = if nat_le horizon max_first_horizon then [] else written_line (codes "format") (codes "2" ∷ [])
+
+-- a module stands whose kind a text has only in the form 4
+abbrev pub stands_fourth : Option ModuleRecord → Bool
+stands_fourth None = false
+stands_fourth (Some r) = needs_fourth r.kind
+
+-- the format in which a netlist is written: that of large netlists also where a kind needs it
+abbrev pub written_format : Circuit → NetlistFormat
+written_format n = if list_any stands_fourth n.modules then Large else n.format
 
 abbrev pub horizon_line : ℕ → List ℕ
 horizon_line horizon = written_line (codes "horizon") (decimal horizon ∷ [])
@@ -73,7 +84,7 @@ bundle_line n (Some r) =
 -- the form where it is needed, the horizon, the wires, the modules, the stimuli by wire and the bundles, each by number
 unfoldable pub written : Circuit → List ℕ
 written n =
-    format_line n.format n.horizon
+    format_line (written_format n) n.horizon
     ++ (horizon_line n.horizon
     ++ (flat_map wire_line n.wires
     ++ (flat_map (module_line n) n.modules

@@ -6,10 +6,10 @@ ghost use Rattle.mp_text.specs.Clauses.{IfOk, IsAscii, OutOfMemory, Gives, wire_
 use crate::lexing::{LineError, is_text, name_of, number_word, wire_or_none};
 use crate::single_word::SingleWord;
 use crate::stated_edit::stated_edit;
-use mp_netlist::{Boxed, Name, SingleEdit};
+use mp_netlist::{Boxed, Format, Name, SingleEdit};
 use std::alloc::{AllocError, Global};
 
-/// The edit that a first word and the words after it state.
+/// The edit that a first word and the words after it state. A line may have each kind of module.
 #[tactic(auto, using(crate::proofs::GivenLemmas::word_steps))]
 pub fn single_edit(
     alloc: Global,
@@ -20,7 +20,7 @@ pub fn single_edit(
     ensures { Gives OutOfMemory (λ edit. edit) result (single_edit first (texts words.now)) }
 {
     match (first, words) {
-        (SingleWord::Stated(word), _) => stated_edit(alloc, word, words),
+        (SingleWord::Stated(word), _) => stated_edit(alloc, Format::Large, word, words),
         (SingleWord::Remove, [thing, name]) => removal(alloc, thing, name),
         (SingleWord::Clear, [wire]) => clearance(alloc, wire),
         (SingleWord::Remove | SingleWord::Clear, _) => Err(LineError::WordCount),

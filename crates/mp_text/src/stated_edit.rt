@@ -1,24 +1,31 @@
 //! The edits of statements.
 ghost use Rattle.std.specs.Prelude.{◌≡◌, ◌<◌, ◌∷◌, []};
 ghost use Rattle.mp_text.specs.declared.edit_word.EditWord.TheVariants.{Wire, Module, Stimulus, Bundle};
-ghost use Rattle.mp_text.specs.Clauses.{IsAscii, IfOk, IfSome, length, position, before_first, after_first, OutOfMemory, Gives, texts, AreAscii, stated_edit, parts_edit, ports_edit, module_edit, is_mark, AddModule};
+ghost use Rattle.mp_text.specs.Clauses.{IsAscii, IfOk, IfSome, length, position, before_first, after_first, OutOfMemory, Gives, texts, AreAscii, stated_edit, params_edit, ports_edit, module_edit, kind_word, is_mark, AddModule};
+ghost use Rattle.mp_netlist.specs.declared.format.Format.{Format as AnyFormat};
 
 use crate::edit_word::EditWord;
 use crate::lexing::{LineError, each_word, name_of, number_word};
+use crate::text_format::has_kind;
 use mp_modules::Kind;
 use mp_netlist::{
-    Boxed, Changes, InputNames, Name, NewBundle, NewModule, OutputNames, Params, SingleEdit,
+    Boxed, Changes, Format, InputNames, Name, NewBundle, NewModule, OutputNames, Params, SingleEdit,
 };
 use std::alloc::{AllocError, Global};
 
-/// The edit that a first word and the words after it state.
-pub fn stated_edit(alloc: Global, word: EditWord, words: &[&[u8]]) -> Result<SingleEdit, LineError>
+/// The edit that a first word and the words after it state. A module has a kind that a text of this format may have.
+pub fn stated_edit(
+    alloc: Global,
+    format: Format,
+    word: EditWord,
+    words: &[&[u8]],
+) -> Result<SingleEdit, LineError>
     requires { AreAscii words.now }
-    ensures { Gives OutOfMemory (λ edit. edit) result (stated_edit word (texts words.now)) }
+    ensures { Gives OutOfMemory (λ edit. edit) result (stated_edit format word (texts words.now)) }
 {
     match word {
         EditWord::Wire => wire_edit(alloc, words),
-        EditWord::Module => module_edit(alloc, words),
+        EditWord::Module => module_edit(alloc, format, words),
         EditWord::Stimulus => stimulus_edit(alloc, words),
         EditWord::Bundle => bundle_edit(alloc, words),
     }
@@ -28,7 +35,7 @@ pub fn stated_edit(alloc: Global, word: EditWord, words: &[&[u8]]) -> Result<Sin
 #[tactic(auto, using(crate::proofs::GivenLemmas::word_steps))]
 fn wire_edit(alloc: Global, words: &[&[u8]]) -> Result<SingleEdit, LineError>
     requires { AreAscii words.now }
-    ensures { Gives OutOfMemory (λ edit. edit) result (stated_edit Wire (texts words.now)) }
+    ensures { (format : AnyFormat) → Gives OutOfMemory (λ edit. edit) result (stated_edit format Wire (texts words.now)) }
 {
     let [name, width, level] = words else {
         return Err(LineError::WordCount);
@@ -42,11 +49,11 @@ fn wire_edit(alloc: Global, words: &[&[u8]]) -> Result<SingleEdit, LineError>
 
 /// The edit that the words after `module` state: it adds a module.
 #[tactic(auto, using(crate::proofs::GivenLemmas::wanting_given))]
-fn module_edit(alloc: Global, words: &[&[u8]]) -> Result<SingleEdit, LineError>
+fn module_edit(alloc: Global, format: Format, words: &[&[u8]]) -> Result<SingleEdit, LineError>
     requires { AreAscii words.now }
-    ensures { Gives OutOfMemory (λ edit. edit) result (stated_edit Module (texts words.now)) }
+    ensures { Gives OutOfMemory (λ edit. edit) result (stated_edit format Module (texts words.now)) }
 {
-    let module = stated_module(alloc, words)?;
+    let module = stated_module(alloc, format, words)?;
     Ok(SingleEdit::AddModule(Boxed::new(alloc, module)?))
 }
 
@@ -54,7 +61,7 @@ fn module_edit(alloc: Global, words: &[&[u8]]) -> Result<SingleEdit, LineError>
 #[tactic(auto, using(crate::proofs::GivenLemmas::word_steps))]
 fn stimulus_edit(alloc: Global, words: &[&[u8]]) -> Result<SingleEdit, LineError>
     requires { AreAscii words.now }
-    ensures { Gives OutOfMemory (λ edit. edit) result (stated_edit Stimulus (texts words.now)) }
+    ensures { (format : AnyFormat) → Gives OutOfMemory (λ edit. edit) result (stated_edit format Stimulus (texts words.now)) }
 {
     let [wire, others @ ..] = words else {
         return Err(LineError::WordCount);
@@ -69,7 +76,7 @@ fn stimulus_edit(alloc: Global, words: &[&[u8]]) -> Result<SingleEdit, LineError
 #[tactic(auto, using(crate::proofs::GivenLemmas::word_steps))]
 fn bundle_edit(alloc: Global, words: &[&[u8]]) -> Result<SingleEdit, LineError>
     requires { AreAscii words.now }
-    ensures { Gives OutOfMemory (λ edit. edit) result (stated_edit Bundle (texts words.now)) }
+    ensures { (format : AnyFormat) → Gives OutOfMemory (λ edit. edit) result (stated_edit format Bundle (texts words.now)) }
 {
     match words {
         [name, request, acknowledge, payload, setup] => bundle_of(
@@ -98,7 +105,7 @@ fn bundle_of(
     requires request { IsAscii request.now }
     requires acknowledge { IsAscii acknowledge.now }
     requires payload { IsAscii payload.now }
-    ensures { Gives OutOfMemory (λ edit. edit) result (stated_edit Bundle (name.now ∷ request.now ∷ acknowledge.now ∷ payload.now ∷ setup.now ∷ [])) }
+    ensures { (format : AnyFormat) → Gives OutOfMemory (λ edit. edit) result (stated_edit format Bundle (name.now ∷ request.now ∷ acknowledge.now ∷ payload.now ∷ setup.now ∷ [])) }
 {
     let setup = number_word(setup)?;
     let (name, request) = two_names(alloc, name, request)?;
@@ -124,25 +131,39 @@ fn two_names(alloc: Global, first: &[u8], second: &[u8]) -> Result<(Name, Name),
     Ok((first, second))
 }
 
-/// The module that the words after `module` state.
-pub fn stated_module(alloc: Global, words: &[&[u8]]) -> Result<NewModule, LineError>
+/// The module that the words after `module` state. Its kind is one that a text of this format may have.
+pub fn stated_module(alloc: Global, format: Format, words: &[&[u8]]) -> Result<NewModule, LineError>
     requires { AreAscii words.now }
-    ensures { Gives OutOfMemory AddModule result (module_edit (texts words.now)) }
+    ensures { Gives OutOfMemory AddModule result (module_edit format (texts words.now)) }
 {
     let [name, kind, others @ ..] = words else {
         return Err(LineError::WordCount);
     };
     let (params, ports) = divided(b':', others);
     let (inputs, outputs) = divided(b'>', ports);
+    if inputs.is_empty() || outputs.is_empty() {
+        return Err(LineError::WordCount);
+    }
+    let kind = stated_kind(format, kind)?;
     module_of(alloc, name, kind, params, inputs, outputs)
 }
 
-/// The module that these parts of the words after `module` state.
+/// The kind of this name, if a text of this format may have it.
+fn stated_kind(format: Format, word: &[u8]) -> Result<Kind, LineError>
+    ensures { result ≡ kind_word format word.now }
+{
+    match Kind::from_word(word) {
+        Some(kind) if has_kind(format, kind) => Ok(kind),
+        _ => Err(LineError::UnknownStatement),
+    }
+}
+
+/// The module of this name and kind that these parts of the words after `module` state.
 #[tactic(auto, using(crate::proofs::GivenLemmas::wanting_given))]
 fn module_of(
     alloc: Global,
     name: &[u8],
-    kind: &[u8],
+    kind: Kind,
     params: &[&[u8]],
     ins: &[&[u8]],
     outs: &[&[u8]],
@@ -150,12 +171,8 @@ fn module_of(
     requires name { IsAscii name.now }
     requires inputs { AreAscii ins.now }
     requires outputs { AreAscii outs.now }
-    ensures { Gives OutOfMemory AddModule result (parts_edit name.now kind.now (texts params.now) (texts ins.now) (texts outs.now)) }
+    ensures { Gives OutOfMemory AddModule result (params_edit name.now kind (texts params.now) (texts ins.now) (texts outs.now)) }
 {
-    if ins.is_empty() || outs.is_empty() {
-        return Err(LineError::WordCount);
-    }
-    let kind = Kind::from_word(kind).ok_or(LineError::UnknownStatement)?;
     let params = Params::new(each_word(alloc, params)?);
     module_with_ports(alloc, name, kind, params, ins, outs)
 }

@@ -2,7 +2,7 @@
 #![tactic(auto, using(crate::proofs::lemmas::lexing::WordLemmas::rest_ascii), unfolding(crate::specs::Texts::after_line, crate::specs::Statements::statement_of, crate::specs::Texts::after_statement))]
 
 ghost use Rattle.std.specs.Prelude.{◌≡◌};
-ghost use Rattle.mp_text.specs.Clauses.{OutOfMemory, max_horizon, Gives, texts, AreAscii, Line, Refused, Open, stated_number, stated_edit, Format, Start, Change, statement_of, begun, after_statement, after_line, told};
+ghost use Rattle.mp_text.specs.Clauses.{OutOfMemory, max_horizon, Gives, texts, AreAscii, Line, Refused, Open, stated_number, Format, Start, Change, statement_of, begun, after_statement, after_line, told};
 
 use crate::edit_word::EditWord;
 use crate::lexing::{LineError, is_text, number_word, read_line_words};
@@ -139,20 +139,21 @@ fn change(
     words: &[&[u8]],
 ) -> Result<(), TextCode>
     requires { AreAscii words.now }
-    ensures { Gives (Line OutOfMemory) (λ _. state.new) result (after_statement state.old (Change (stated_edit first (texts words.now)))) }
+    ensures { Gives (Line OutOfMemory) (λ _. state.new) result (after_statement state.old (Change first (texts words.now))) }
 {
     let TextState::Open(netlist) = state else {
         return Err(TextCode::NoHorizon);
     };
+    let format = netlist.format();
     // What is read is dropped by a call: at the end of a scope, the drop of each of its parts would stand here.
     match first {
         // a module needs no block of its own here, unlike an edit
         EditWord::Module => {
-            let module = stated_module(alloc, words)?;
+            let module = stated_module(alloc, format, words)?;
             told(netlist.apply_module(module))
         }
         _ => {
-            let edit = Edit::Single(stated_edit(alloc, first, words)?);
+            let edit = Edit::Single(stated_edit(alloc, format, first, words)?);
             let ended = netlist.apply(&edit);
             drop(edit);
             told(ended)

@@ -1,8 +1,9 @@
 //! The formats of a netlist's text.
 ghost use Rattle.std.specs.Prelude.{◌≡◌};
-ghost use Rattle.mp_text.specs.Clauses.{format_of, max_horizon_of, netlist_format};
+ghost use Rattle.mp_text.specs.Clauses.{format_of, has_kind, max_horizon_of, needs_fourth, netlist_format};
 
 use crate::text_code::TextCode;
+use mp_modules::{Function, Kind};
 use mp_netlist::Format;
 
 /// The longest horizon of a text of format 1.
@@ -50,5 +51,26 @@ impl TextFormat {
             TextFormat::First | TextFormat::Second => Format::Standard,
             TextFormat::Fourth => Format::Large,
         }
+    }
+}
+
+/// Whether a text has this kind of module only in format 4.
+pub fn needs_fourth(kind: Kind) -> bool
+    ensures { result ≡ needs_fourth kind }
+{
+    match kind {
+        Kind::Function(Function::And | Function::Or | Function::Sub) => true,
+        Kind::Function(Function::Less | Function::Mux | Function::Join) => true,
+        _ => false,
+    }
+}
+
+/// Whether the text of a netlist of this format may have a kind of module.
+pub fn has_kind(format: Format, kind: Kind) -> bool
+    ensures { result ≡ has_kind format kind }
+{
+    match format {
+        Format::Standard => !needs_fourth(kind),
+        Format::Large => true,
     }
 }

@@ -10,6 +10,8 @@ import math
 from dataclasses import dataclass
 from typing import TYPE_CHECKING
 
+from ..modules import LATER_KINDS
+
 if TYPE_CHECKING:
     from ..netlist import Netlist
     from .delays import Spread
@@ -67,6 +69,7 @@ def scaled_text(netlist: Netlist, units: int, horizon: int) -> str:
     for bundle in netlist.known_bundles.values():
         lines.append(f"bundle {bundle.name} {bundle.req} {bundle.ack} {bundle.data} {bundle.setup * units}")
     text = f"horizon {horizon}\n" + "\n".join(lines) + "\n"
-    if horizon > _LONG or len(lines) > 8_000 or len(text) > 4_000_000:
+    needs_form = any(module.kind in LATER_KINDS for module in netlist.known_modules.values())
+    if needs_form or horizon > _LONG or len(lines) > 8_000 or len(text) > 4_000_000:
         return f"format 4\n{text}"
     return f"format 2\n{text}" if horizon > 65_536 else text

@@ -1,4 +1,4 @@
-"""Data that change in several steps, whose order isn't said: a SUM whose inputs change together, and what is made of it.
+"""Data that change in several steps, whose order isn't said: a function whose inputs change together, and what is made of it.
 
 Which levels the data have on the way depends on the order, and nobody may look at them before they stand. So each change of an input of such a module
 is followed by itself: it may make one change of the output, at its own time. The last of them has to come before a request, the first one behind an
@@ -18,7 +18,8 @@ from .graph import NONE, Cause, Unfoldable
 from .unfold import SETTLED, Causes, Changes, Run
 
 # what hands data on, change by change
-_PASSES = ("BUF", "NOT", "ADDC", "XORC", "BIT", "SUM")
+_JOINS = ("SUM", "AND", "OR", "SUB", "LESS", "MUX", "JOIN")
+_PASSES = ("BUF", "NOT", "ADDC", "XORC", "BIT", *_JOINS)
 
 # so many changes that come in one window of a register while it is held are followed each by itself, so many in a window in all, and so many in a run
 FEW, MANY, MOST_EVENTS = 2, 32, 400_000
@@ -68,8 +69,8 @@ def _passed_to(module: Module, port: int) -> str:
 
 def _begins(run: Run, module: Module, port: int) -> bool:
     """Whether an output changes in several steps though no input does."""
-    if module.kind == "SUM":
-        return all(run.times[wire] for wire, _ in module.inputs)
+    if module.kind in _JOINS:
+        return sum(1 for wire, _ in module.inputs if run.times[wire]) > 1
     return module.kind == "REG" and port == 0 and _has_full_window(run, module)
 
 

@@ -1,7 +1,7 @@
 """A run unfolded to its graph: which events cause an event, by the kind of the module that drives its wire.
 
-One cause: BUF, NOT, ADDC, XORC, BIT, XOR, TOGGLE, SELECT, CALL, and `cd` and `pd` of a REG. Two: C, the last event of each input; `q` of a REG, the
-change of the data and the event that opened it; ARBITER, the request and the done that freed it. Data that may change in any order are in `settling`.
+One cause: each function of its inputs, TOGGLE, SELECT, CALL, and `cd` and `pd` of a REG. Two: C, the last event of each input; `q` of a REG, the change
+of the data and the event that opened it; ARBITER, the request and the done that freed it. Data that may change in any order are in `settling`.
 """
 
 from __future__ import annotations
@@ -158,6 +158,12 @@ _FINDERS: Dict[str, Callable[[Run, Module, int], Finder]] = {
     "XOR": _one_of(0, 1),
     "SUM": _one_of(0, 1),
     "BIT": _one_of(0),
+    "AND": _one_of(0, 1),
+    "OR": _one_of(0, 1),
+    "SUB": _one_of(0, 1),
+    "LESS": _one_of(0, 1),
+    "MUX": _one_of(0, 1, 2),
+    "JOIN": _one_of(0, 1),
     "TOGGLE": _one_of(0),
     "SELECT": _one_of(0),
     "CALL": _call,

@@ -1,4 +1,4 @@
--- The Verilog modules of the kinds that hold data or compute on them.
+-- The Verilog module of the kind that holds data.
 use Rattle.std.specs.Prelude.{ℕ, List, ◌++◌, codes}
 
 unfoldable pub reg_text : List ℕ
@@ -25,62 +25,3 @@ reg_text =
     ++ (codes "    end\n"
     ++ (codes "  end\n"
     ++ codes "endmodule\n"))))))))))))))))))))
-
-unfoldable pub addc_text : List ℕ
-addc_text =
-    codes "\n"
-    ++ (codes "// ADDC: y is a + K modulo 2 to the power W.\n"
-    ++ (codes "module mp_addc #(parameter W = 1, K = 0, y_delay = 1, y_initial = 0)\n"
-    ++ (codes "    (input [W-1:0] a, output reg [W-1:0] y);\n"
-    ++ (codes "  initial begin\n"
-    ++ (codes "    y = y_initial;\n"
-    ++ (codes "    #0 forever begin\n"
-    ++ (codes "      y <= #y_delay a + K;\n"
-    ++ (codes "      @(a) #0;\n"
-    ++ (codes "    end\n"
-    ++ (codes "  end\n"
-    ++ codes "endmodule\n"))))))))))
-
-unfoldable pub xorc_text : List ℕ
-xorc_text =
-    codes "\n"
-    ++ (codes "// XORC: y is a ^ K.\n"
-    ++ (codes "module mp_xorc #(parameter W = 1, K = 0, y_delay = 1, y_initial = 0)\n"
-    ++ (codes "    (input [W-1:0] a, output reg [W-1:0] y);\n"
-    ++ (codes "  initial begin\n"
-    ++ (codes "    y = y_initial;\n"
-    ++ (codes "    #0 forever begin\n"
-    ++ (codes "      y <= #y_delay a ^ K;\n"
-    ++ (codes "      @(a) #0;\n"
-    ++ (codes "    end\n"
-    ++ (codes "  end\n"
-    ++ codes "endmodule\n"))))))))))
-
-unfoldable pub sum_text : List ℕ
-sum_text =
-    codes "\n"
-    ++ (codes "// SUM: y is a + b modulo 2 to the power W.\n"
-    ++ (codes "module mp_sum #(parameter W = 1, y_delay = 1, y_initial = 0)\n"
-    ++ (codes "    (input [W-1:0] a, input [W-1:0] b, output reg [W-1:0] y);\n"
-    ++ (codes "  initial begin\n"
-    ++ (codes "    y = y_initial;\n"
-    ++ (codes "    #0 forever begin\n"
-    ++ (codes "      y <= #y_delay a + b;\n"
-    ++ (codes "      @(a or b) #0;\n"
-    ++ (codes "    end\n"
-    ++ (codes "  end\n"
-    ++ codes "endmodule\n"))))))))))
-
-unfoldable pub bit_text : List ℕ
-bit_text =
-    codes "\n"
-    ++ (codes "// BIT: y is bit K of a, bit 0 being the least.\n"
-    ++ (codes "module mp_bit #(parameter W = 1, K = 0, y_delay = 1, y_initial = 0) (input [W-1:0] a, output reg y);\n"
-    ++ (codes "  initial begin\n"
-    ++ (codes "    y = y_initial;\n"
-    ++ (codes "    #0 forever begin\n"
-    ++ (codes "      y <= #y_delay a[K];\n"
-    ++ (codes "      @(a) #0;\n"
-    ++ (codes "    end\n"
-    ++ (codes "  end\n"
-    ++ codes "endmodule\n")))))))))

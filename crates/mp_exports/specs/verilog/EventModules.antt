@@ -1,49 +1,6 @@
 -- The Verilog modules of the kinds that steer events.
 use Rattle.std.specs.Prelude.{ℕ, List, ◌++◌, codes}
 
-unfoldable pub buf_text : List ℕ
-buf_text =
-    codes "\n"
-    ++ (codes "// BUF: y is a.\n"
-    ++ (codes "module mp_buf #(parameter W = 1, y_delay = 1, y_initial = 0)\n"
-    ++ (codes "    (input [W-1:0] a, output reg [W-1:0] y);\n"
-    ++ (codes "  initial begin\n"
-    ++ (codes "    y = y_initial;\n"
-    ++ (codes "    #0 forever begin\n"
-    ++ (codes "      y <= #y_delay a;\n"
-    ++ (codes "      @(a) #0;\n"
-    ++ (codes "    end\n"
-    ++ (codes "  end\n"
-    ++ codes "endmodule\n"))))))))))
-
-unfoldable pub not_text : List ℕ
-not_text =
-    codes "\n"
-    ++ (codes "// NOT: y is 1 - a.\n"
-    ++ (codes "module mp_not #(parameter y_delay = 1, y_initial = 0) (input a, output reg y);\n"
-    ++ (codes "  initial begin\n"
-    ++ (codes "    y = y_initial;\n"
-    ++ (codes "    #0 forever begin\n"
-    ++ (codes "      y <= #y_delay !a;\n"
-    ++ (codes "      @(a) #0;\n"
-    ++ (codes "    end\n"
-    ++ (codes "  end\n"
-    ++ codes "endmodule\n")))))))))
-
-unfoldable pub xor_text : List ℕ
-xor_text =
-    codes "\n"
-    ++ (codes "// XOR: y is 1 if a and b differ, and else 0.\n"
-    ++ (codes "module mp_xor #(parameter y_delay = 1, y_initial = 0) (input a, input b, output reg y);\n"
-    ++ (codes "  initial begin\n"
-    ++ (codes "    y = y_initial;\n"
-    ++ (codes "    #0 forever begin\n"
-    ++ (codes "      y <= #y_delay a ^ b;\n"
-    ++ (codes "      @(a or b) #0;\n"
-    ++ (codes "    end\n"
-    ++ (codes "  end\n"
-    ++ codes "endmodule\n")))))))))
-
 unfoldable pub c_text : List ℕ
 c_text =
     codes "\n"

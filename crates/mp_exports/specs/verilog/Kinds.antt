@@ -4,47 +4,31 @@ use Rattle.std.specs.List.{flat_map, list_any}
 use Rattle.std.specs.Str.{bytes_eq}
 use Rattle.mp_modules.specs.declared.kind.Kind.{Kind}
 use Rattle.mp_modules.specs.declared.kind.Kind.TheVariants as kinds
-use Rattle.mp_modules.specs.Kinds.{word_of}
+use Rattle.mp_modules.specs.Kinds.{all_kinds, word_of}
 use Rattle.mp_records.specs.declared.module_record.ModuleRecord.{ModuleRecord}
 use Rattle.mp_netlist.specs.Circuit.{Circuit}
-use Rattle.mp_exports.specs.verilog.EventModules.{buf_text, not_text, xor_text, c_text, toggle_text, select_text, call_text, arbiter_text}
-use Rattle.mp_exports.specs.verilog.DataModules.{reg_text, addc_text, xorc_text, sum_text, bit_text}
+use Rattle.mp_exports.specs.verilog.EventModules.{c_text, toggle_text, select_text, call_text, arbiter_text}
+use Rattle.mp_exports.specs.verilog.DataModules.{reg_text}
+use Rattle.mp_exports.specs.verilog.FunctionModules.{function_module, function_text}
 
 -- what the module of a kind is called
 abbrev pub module_word : Kind → List ℕ
-module_word kinds.Buf = codes "mp_buf"
-module_word kinds.Not = codes "mp_not"
-module_word kinds.Xor = codes "mp_xor"
 module_word kinds.C = codes "mp_c"
 module_word kinds.Toggle = codes "mp_toggle"
 module_word kinds.Select = codes "mp_select"
 module_word kinds.Call = codes "mp_call"
 module_word kinds.Arbiter = codes "mp_arbiter"
 module_word kinds.Reg = codes "mp_reg"
-module_word kinds.AddC = codes "mp_addc"
-module_word kinds.XorC = codes "mp_xorc"
-module_word kinds.Sum = codes "mp_sum"
-module_word kinds.Bit = codes "mp_bit"
+module_word (kinds.Function function) = function_module function
 
 abbrev pub kind_text : Kind → List ℕ
-kind_text kinds.Buf = buf_text
-kind_text kinds.Not = not_text
-kind_text kinds.Xor = xor_text
 kind_text kinds.C = c_text
 kind_text kinds.Toggle = toggle_text
 kind_text kinds.Select = select_text
 kind_text kinds.Call = call_text
 kind_text kinds.Arbiter = arbiter_text
 kind_text kinds.Reg = reg_text
-kind_text kinds.AddC = addc_text
-kind_text kinds.XorC = xorc_text
-kind_text kinds.Sum = sum_text
-kind_text kinds.Bit = bit_text
-
-abbrev pub all_kinds : List Kind
-all_kinds =
-    kinds.Buf ∷ kinds.Not ∷ kinds.Xor ∷ kinds.C ∷ kinds.Toggle ∷ kinds.Select ∷ kinds.Call ∷ kinds.Arbiter
-    ∷ kinds.Reg ∷ kinds.AddC ∷ kinds.XorC ∷ kinds.Sum ∷ kinds.Bit ∷ []
+kind_text (kinds.Function function) = function_text function
 
 -- a module of this kind stands in the slot
 abbrev pub is_of_kind : Kind → Option ModuleRecord → Bool

@@ -2,6 +2,7 @@
 use Rattle.std.specs.Prelude.{ℕ, List, codes, ◌==◌, if◌then◌else◌}
 use Rattle.mp_modules.specs.declared.kind.Kind.{Kind}
 use Rattle.mp_modules.specs.declared.kind.Kind.TheVariants as kinds
+use Rattle.mp_modules.specs.declared.function.Function.TheVariants.{Mux}
 
 -- of four texts the one of this number
 abbrev pub pick : ℕ → List ℕ → List ℕ → List ℕ → List ℕ → List ℕ
@@ -16,6 +17,7 @@ input_name kinds.Select p = pick_of_two p (codes "a") (codes "diamond")
 input_name kinds.Call p = pick p (codes "r1") (codes "r2") (codes "d") (codes "d")
 input_name kinds.Arbiter p = pick p (codes "r1") (codes "r2") (codes "d1") (codes "d2")
 input_name kinds.Reg p = pick p (codes "d") (codes "c") (codes "p") (codes "p")
+input_name (kinds.Function Mux) p = pick p (codes "a") (codes "b") (codes "s") (codes "s")
 input_name _ p = pick_of_two p (codes "a") (codes "b")
 
 abbrev pub output_name : Kind → ℕ → List ℕ

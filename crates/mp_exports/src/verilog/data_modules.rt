@@ -1,6 +1,6 @@
-//! The Verilog modules of the kinds that hold data or compute on them.
+//! The Verilog module of the kind that holds data.
 ghost use Rattle.std.specs.Prelude.{◌≡◌};
-ghost use Rattle.mp_exports.specs.verilog.DataModules.{reg_text, addc_text, xorc_text, sum_text, bit_text};
+ghost use Rattle.mp_exports.specs.verilog.DataModules.{reg_text};
 
 #[tactic(auto, unfolding(crate::specs::verilog::DataModules::reg_text))]
 /// The module of a REG.
@@ -26,85 +26,6 @@ module mp_reg #(parameter W = 1, INIT = 0, q_delay = 1, q_initial = 0, cd_delay 
       cd <= #cd_delay c;
       pd <= #pd_delay p;
       @(d or c or p) #0;
-    end
-  end
-endmodule
-"
-}
-
-#[tactic(auto, unfolding(crate::specs::verilog::DataModules::addc_text))]
-/// The module of a ADDC.
-pub(crate) fn addc_text() -> &'static str
-    ensures { result.now ≡ addc_text }
-{
-    "
-// ADDC: y is a + K modulo 2 to the power W.
-module mp_addc #(parameter W = 1, K = 0, y_delay = 1, y_initial = 0)
-    (input [W-1:0] a, output reg [W-1:0] y);
-  initial begin
-    y = y_initial;
-    #0 forever begin
-      y <= #y_delay a + K;
-      @(a) #0;
-    end
-  end
-endmodule
-"
-}
-
-#[tactic(auto, unfolding(crate::specs::verilog::DataModules::xorc_text))]
-/// The module of a XORC.
-pub(crate) fn xorc_text() -> &'static str
-    ensures { result.now ≡ xorc_text }
-{
-    "
-// XORC: y is a ^ K.
-module mp_xorc #(parameter W = 1, K = 0, y_delay = 1, y_initial = 0)
-    (input [W-1:0] a, output reg [W-1:0] y);
-  initial begin
-    y = y_initial;
-    #0 forever begin
-      y <= #y_delay a ^ K;
-      @(a) #0;
-    end
-  end
-endmodule
-"
-}
-
-#[tactic(auto, unfolding(crate::specs::verilog::DataModules::sum_text))]
-/// The module of a SUM.
-pub(crate) fn sum_text() -> &'static str
-    ensures { result.now ≡ sum_text }
-{
-    "
-// SUM: y is a + b modulo 2 to the power W.
-module mp_sum #(parameter W = 1, y_delay = 1, y_initial = 0)
-    (input [W-1:0] a, input [W-1:0] b, output reg [W-1:0] y);
-  initial begin
-    y = y_initial;
-    #0 forever begin
-      y <= #y_delay a + b;
-      @(a or b) #0;
-    end
-  end
-endmodule
-"
-}
-
-#[tactic(auto, unfolding(crate::specs::verilog::DataModules::bit_text))]
-/// The module of a BIT.
-pub(crate) fn bit_text() -> &'static str
-    ensures { result.now ≡ bit_text }
-{
-    "
-// BIT: y is bit K of a, bit 0 being the least.
-module mp_bit #(parameter W = 1, K = 0, y_delay = 1, y_initial = 0) (input [W-1:0] a, output reg y);
-  initial begin
-    y = y_initial;
-    #0 forever begin
-      y <= #y_delay a[K];
-      @(a) #0;
     end
   end
 endmodule

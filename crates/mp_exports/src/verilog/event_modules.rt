@@ -1,64 +1,6 @@
 //! The Verilog modules of the kinds that steer events.
 ghost use Rattle.std.specs.Prelude.{◌≡◌};
-ghost use Rattle.mp_exports.specs.verilog.EventModules.{buf_text, not_text, xor_text, c_text, toggle_text, select_text, call_text, arbiter_text};
-
-#[tactic(auto, unfolding(crate::specs::verilog::EventModules::buf_text))]
-/// The module of a BUF.
-pub(crate) fn buf_text() -> &'static str
-    ensures { result.now ≡ buf_text }
-{
-    "
-// BUF: y is a.
-module mp_buf #(parameter W = 1, y_delay = 1, y_initial = 0)
-    (input [W-1:0] a, output reg [W-1:0] y);
-  initial begin
-    y = y_initial;
-    #0 forever begin
-      y <= #y_delay a;
-      @(a) #0;
-    end
-  end
-endmodule
-"
-}
-
-#[tactic(auto, unfolding(crate::specs::verilog::EventModules::not_text))]
-/// The module of a NOT.
-pub(crate) fn not_text() -> &'static str
-    ensures { result.now ≡ not_text }
-{
-    "
-// NOT: y is 1 - a.
-module mp_not #(parameter y_delay = 1, y_initial = 0) (input a, output reg y);
-  initial begin
-    y = y_initial;
-    #0 forever begin
-      y <= #y_delay !a;
-      @(a) #0;
-    end
-  end
-endmodule
-"
-}
-
-#[tactic(auto, unfolding(crate::specs::verilog::EventModules::xor_text))]
-/// The module of a XOR.
-pub(crate) fn xor_text() -> &'static str
-    ensures { result.now ≡ xor_text }
-{
-    "
-// XOR: y is 1 if a and b differ, and else 0.
-module mp_xor #(parameter y_delay = 1, y_initial = 0) (input a, input b, output reg y);
-  initial begin
-    y = y_initial;
-    #0 forever begin
-      y <= #y_delay a ^ b;
-      @(a or b) #0;
-    end
-  end
-endmodule
-"
-}
+ghost use Rattle.mp_exports.specs.verilog.EventModules.{c_text, toggle_text, select_text, call_text, arbiter_text};
 
 #[tactic(auto, unfolding(crate::specs::verilog::EventModules::c_text))]
 /// The module of a C.

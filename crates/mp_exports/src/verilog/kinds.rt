@@ -3,12 +3,11 @@ ghost use Rattle.std.specs.Prelude.{◌≡◌};
 ghost use Rattle.std.specs.List.{flat_map, list_any};
 ghost use Rattle.mp_streams.specs.Outgoing.{Writes};
 ghost use Rattle.mp_netlist.specs.Circuit.{module_at};
-ghost use Rattle.mp_exports.specs.verilog.Kinds.{all_kinds, is_of_kind, kind_section, kind_text, module_word};
+ghost use Rattle.mp_exports.specs.verilog.Kinds.{is_of_kind, kind_section, kind_text, module_word};
 
-use crate::verilog::data_modules::{addc_text, bit_text, reg_text, sum_text, xorc_text};
-use crate::verilog::event_modules::{
-    arbiter_text, buf_text, c_text, call_text, not_text, select_text, toggle_text, xor_text,
-};
+use crate::verilog::data_modules::reg_text;
+use crate::verilog::event_modules::{arbiter_text, c_text, call_text, select_text, toggle_text};
+use crate::verilog::function_modules::{FunctionText, function_module};
 use mp_modules::Kind;
 use mp_netlist::{ModuleId, Netlist};
 use mp_streams::{Failed, Out, Sink, Text};
@@ -18,19 +17,13 @@ pub(crate) fn module_word(kind: Kind) -> &'static str
     ensures { result.now ≡ module_word kind }
 {
     match kind {
-        Kind::Buf => "mp_buf",
-        Kind::Not => "mp_not",
-        Kind::Xor => "mp_xor",
         Kind::C => "mp_c",
         Kind::Toggle => "mp_toggle",
         Kind::Select => "mp_select",
         Kind::Call => "mp_call",
         Kind::Arbiter => "mp_arbiter",
         Kind::Reg => "mp_reg",
-        Kind::AddC => "mp_addc",
-        Kind::XorC => "mp_xorc",
-        Kind::Sum => "mp_sum",
-        Kind::Bit => "mp_bit",
+        Kind::Function(function) => function_module(function),
     }
 }
 
@@ -47,7 +40,7 @@ impl<'a> Text for KindModules<'a> {
 
     #[tactic(auto, unfolding(crate::specs::verilog::Kinds::kinds_text))]
     fn put_to<S: Sink>(&self, out: &mut Out<S>) -> Result<(), Failed> {
-        put_kinds(out, self.netlist, all_kinds())
+        put_kinds(out, self.netlist, Kind::all())
     }
 }
 
@@ -61,26 +54,6 @@ fn put_kinds<S: Sink>(out: &mut Out<S>, netlist: &Netlist, kinds: &[Kind]) -> Re
     Ok(())
 }
 
-fn all_kinds() -> &'static [Kind]
-    ensures { result.now ≡ all_kinds }
-{
-    &[
-        Kind::Buf,
-        Kind::Not,
-        Kind::Xor,
-        Kind::C,
-        Kind::Toggle,
-        Kind::Select,
-        Kind::Call,
-        Kind::Arbiter,
-        Kind::Reg,
-        Kind::AddC,
-        Kind::XorC,
-        Kind::Sum,
-        Kind::Bit,
-    ]
-}
-
 /// Writes the Verilog module of a kind, if the kind occurs.
 fn put_kind<S: Sink>(out: &mut Out<S>, netlist: &Netlist, kind: Kind) -> Result<(), Failed>
     ensures { Writes result out.old out.new (kind_section netlist.now kind) }
@@ -88,7 +61,7 @@ fn put_kind<S: Sink>(out: &mut Out<S>, netlist: &Netlist, kind: Kind) -> Result<
     if !occurs(netlist, kind) {
         return Ok(());
     }
-    out.put_text(kind_text(kind))
+    put_kind_text(out, kind)
 }
 
 /// Whether the netlist has a module of this kind.
@@ -112,22 +85,17 @@ fn is_of_kind(netlist: &Netlist, id: ModuleId, kind: Kind) -> bool
     }
 }
 
-fn kind_text(kind: Kind) -> &'static str
-    ensures { result.now ≡ kind_text kind }
+/// Writes the Verilog module of a kind.
+fn put_kind_text<S: Sink>(out: &mut Out<S>, kind: Kind) -> Result<(), Failed>
+    ensures { Writes result out.old out.new (kind_text kind) }
 {
     match kind {
-        Kind::Buf => buf_text(),
-        Kind::Not => not_text(),
-        Kind::Xor => xor_text(),
-        Kind::C => c_text(),
-        Kind::Toggle => toggle_text(),
-        Kind::Select => select_text(),
-        Kind::Call => call_text(),
-        Kind::Arbiter => arbiter_text(),
-        Kind::Reg => reg_text(),
-        Kind::AddC => addc_text(),
-        Kind::XorC => xorc_text(),
-        Kind::Sum => sum_text(),
-        Kind::Bit => bit_text(),
+        Kind::C => out.put_text(c_text()),
+        Kind::Toggle => out.put_text(toggle_text()),
+        Kind::Select => out.put_text(select_text()),
+        Kind::Call => out.put_text(call_text()),
+        Kind::Arbiter => out.put_text(arbiter_text()),
+        Kind::Reg => out.put_text(reg_text()),
+        Kind::Function(function) => FunctionText { function }.put_to(out),
     }
 }

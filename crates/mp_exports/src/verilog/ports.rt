@@ -3,7 +3,7 @@ ghost use Rattle.std.specs.Prelude.{◌≡◌};
 ghost use Rattle.mp_modules.specs.Kinds.{input_count, output_count, param_count};
 ghost use Rattle.mp_exports.specs.verilog.Ports.{pick, pick_of_two, input_name, output_name, param_name};
 
-use mp_modules::Kind;
+use mp_modules::{Function, Kind};
 
 /// How many input ports a kind has.
 pub(crate) fn input_count(kind: Kind) -> u32
@@ -23,18 +23,7 @@ pub(crate) fn output_count(kind: Kind) -> u32
 pub(crate) fn param_count(kind: Kind) -> u32
     ensures { result ≡ param_count kind }
 {
-    match kind {
-        Kind::C => 3,
-        Kind::Reg | Kind::AddC | Kind::XorC | Kind::Bit => 1,
-        Kind::Buf
-        | Kind::Not
-        | Kind::Xor
-        | Kind::Toggle
-        | Kind::Select
-        | Kind::Call
-        | Kind::Arbiter
-        | Kind::Sum => 0,
-    }
+    kind.params() as u32
 }
 
 /// The name of an input port.
@@ -46,15 +35,8 @@ pub(crate) fn input_name(kind: Kind, port: u32) -> &'static str
         Kind::Call => pick(port, "r1", "r2", "d", "d"),
         Kind::Arbiter => pick(port, "r1", "r2", "d1", "d2"),
         Kind::Reg => pick(port, "d", "c", "p", "p"),
-        Kind::Buf
-        | Kind::Not
-        | Kind::Xor
-        | Kind::C
-        | Kind::Toggle
-        | Kind::AddC
-        | Kind::XorC
-        | Kind::Sum
-        | Kind::Bit => pick_of_two(port, "a", "b"),
+        Kind::Function(Function::Mux) => pick(port, "a", "b", "s", "s"),
+        Kind::C | Kind::Toggle | Kind::Function(_) => pick_of_two(port, "a", "b"),
     }
 }
 
@@ -68,14 +50,7 @@ pub(crate) fn output_name(kind: Kind, port: u32) -> &'static str
         Kind::Call => pick(port, "r", "d1", "d2", "d2"),
         Kind::Arbiter => pick_of_two(port, "g1", "g2"),
         Kind::Reg => pick(port, "q", "cd", "pd", "pd"),
-        Kind::Buf
-        | Kind::Not
-        | Kind::Xor
-        | Kind::C
-        | Kind::AddC
-        | Kind::XorC
-        | Kind::Sum
-        | Kind::Bit => "y",
+        Kind::C | Kind::Function(_) => "y",
     }
 }
 
@@ -86,17 +61,7 @@ pub(crate) fn param_name(kind: Kind, place: u32) -> &'static str
     match kind {
         Kind::C => pick(place, "INIT", "BUBA", "BUBB", "BUBB"),
         Kind::Reg => "INIT",
-        Kind::Buf
-        | Kind::Not
-        | Kind::Xor
-        | Kind::Toggle
-        | Kind::Select
-        | Kind::Call
-        | Kind::Arbiter
-        | Kind::AddC
-        | Kind::XorC
-        | Kind::Sum
-        | Kind::Bit => "K",
+        Kind::Toggle | Kind::Select | Kind::Call | Kind::Arbiter | Kind::Function(_) => "K",
     }
 }
 

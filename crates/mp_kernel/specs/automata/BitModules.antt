@@ -2,7 +2,8 @@
 use Rattle.std.specs.Prelude.{◌≡◌, ℕ, ◌≤◌, not, List, [], ◌∷◌, slice_index, ◌==◌}
 use Rattle.mp_modules.specs.declared.memory.Memory.{Memory}
 use Rattle.mp_modules.specs.Memories.{output_of, is_event}
-use Rattle.mp_modules.specs.declared.storage.computed.Computed.TheVariants as computed
+use Rattle.mp_modules.specs.declared.function.Function.{Function}
+use Rattle.mp_modules.specs.declared.function.Function.TheVariants as functions
 use Rattle.mp_modules.specs.declared.storage.any_module.AnyModule.{AnyModule}
 use Rattle.mp_modules.specs.declared.storage.any_module.AnyModule.TheVariants as parts
 use Rattle.mp_modules.specs.storage.AnyModules.{step}
@@ -27,12 +28,19 @@ toggles_between m k = record {
 abbrev pub AreBits : List ℕ → Type 0
 AreBits levels = (p : ℕ) → slice_index levels p ≤ 1
 
+-- all ports of a module of this function have width 1, given the module's width and its constant: a JOIN has an output of width 2 or more
+abbrev pub IsFunctionOfBits : Function → ℕ → ℕ → Type 0
+IsFunctionOfBits functions.AddC width k = width ≡ 1
+IsFunctionOfBits functions.XorC width k = k ≤ 1
+IsFunctionOfBits functions.Sum width k = width ≡ 1
+IsFunctionOfBits functions.Bit width k = k ≡ 0
+IsFunctionOfBits functions.Sub width k = width ≡ 1
+IsFunctionOfBits functions.Join width k = ⊥
+IsFunctionOfBits _ width k = Unit {0}
+
 -- all ports of the module have width 1
 abbrev pub IsOfBits : AnyModule → Type 0
-IsOfBits (parts.Computed (computed.AddC addend width)) = width ≡ 1
-IsOfBits (parts.Computed (computed.XorC mask)) = mask ≤ 1
-IsOfBits (parts.Computed (computed.Sum width)) = width ≡ 1
-IsOfBits (parts.Computed (computed.Bit place)) = place ≡ 0
+IsOfBits (parts.Function part) = IsFunctionOfBits part.function part.width part.constant
 IsOfBits _ = Unit {0}
 
 -- whom a module serves in a state, and who waits

@@ -3,7 +3,7 @@ use Rattle.std.specs.Prelude.{ℕ, ◌+◌, ◌*◌, Bool, false, if◌then◌el
 use Rattle.mp_modules.specs.declared.memory.Client.{Client}
 use Rattle.mp_modules.specs.declared.memory.Client.TheVariants.{Nobody, First, Second}
 use Rattle.mp_kernel.specs.declared.automata.automaton.Automaton.{Automaton}
-use Rattle.mp_kernel.specs.declared.automata.automaton.Automaton.TheVariants.{Follow, Merge, Join, Alternate, Choose, Serve, Grant, Hold, Sleep}
+use Rattle.mp_kernel.specs.declared.automata.automaton.Automaton.TheVariants.{Follow, Merge, Join, Alternate, Choose, Serve, Grant, Hold, Sleep, Meet, Pick}
 use Rattle.mp_kernel.specs.declared.automata.phase.Phase.{Phase}
 use Rattle.mp_kernel.specs.declared.automata.events.Events.{Events}
 use Rattle.mp_kernel.specs.declared.automata.toggles.Toggles.{Toggles}
@@ -21,6 +21,8 @@ automaton_code Serve = 5
 automaton_code Grant = 6
 automaton_code Hold = 7
 automaton_code Sleep = 8
+automaton_code Meet = 9
+automaton_code Pick = 10
 
 abbrev pub client_code : Client → ℕ
 client_code Nobody = 0

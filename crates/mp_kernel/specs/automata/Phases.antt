@@ -2,6 +2,8 @@
 use Rattle.std.specs.Prelude.{ℕ, Bool, false, not, slice_index, ◌==◌}
 use Rattle.mp_modules.specs.declared.core_module.CoreModule.{CoreModule}
 use Rattle.mp_modules.specs.declared.core_module.CoreModule.TheVariants as core
+use Rattle.mp_modules.specs.declared.function.Function.{Function}
+use Rattle.mp_modules.specs.declared.function.Function.TheVariants as functions
 use Rattle.mp_modules.specs.declared.memory.Memory.{Memory}
 use Rattle.mp_modules.specs.declared.memory.Client.TheVariants.{Nobody}
 use Rattle.mp_modules.specs.CElement.{bubbled}
@@ -27,14 +29,24 @@ core_phase core.Toggle m = unserved (not (output_of m 0 == output_of m 1)) false
 core_phase core.Select m = unserved (slice_index m.inputs 1 == 1) false
 core_phase core.Call m = record { served = m.served; waiting = m.waiting }
 core_phase core.Arbiter m = record { served = m.served; waiting = m.waiting }
-core_phase _ m = unserved false false
+
+-- by the levels a, b and s of the inputs, where what the function answers depends on them
+abbrev pub phase_at : Function → ℕ → ℕ → ℕ → Phase
+phase_at functions.And a b s = unserved (a == 1) (b == 1)
+phase_at functions.Or a b s = unserved (a == 0) (b == 0)
+phase_at functions.Less a b s = unserved (a == 0) (b == 1)
+phase_at functions.Mux a b s = unserved (s == 1) (not (a == b))
+phase_at _ a b s = unserved false false
+
+abbrev pub function_phase : Function → Memory → Phase
+function_phase function m = phase_at function (slice_index m.inputs 0) (slice_index m.inputs 1) (slice_index m.inputs 2)
 
 -- the phase of a module in a state
 abbrev pub phase_of : AnyModule → Memory → Phase
 phase_of (parts.Core part) m = core_phase part m
 phase_of (parts.Reg part) m =
     unserved (not (slice_index m.inputs 1 == slice_index m.inputs 2)) (not (slice_index m.inputs 0 == output_of m 0))
-phase_of (parts.Computed part) m = unserved false false
+phase_of (parts.Function part) m = function_phase part.function m
 
 -- whom an automaton serves in a phase, and who waits: nobody, if it serves no clients
 abbrev pub clients_in : Automaton → Phase → Phase

@@ -5,7 +5,7 @@ use Rattle.mp_modules.specs.declared.memory.Client.TheVariants.{Nobody, First, S
 use Rattle.mp_modules.specs.Clients as clients
 use Rattle.mp_modules.specs.Arbiter.{is_owner_done}
 use Rattle.mp_kernel.specs.declared.automata.automaton.Automaton.{Automaton}
-use Rattle.mp_kernel.specs.declared.automata.automaton.Automaton.TheVariants.{Follow, Merge, Join, Alternate, Choose, Serve, Grant, Hold, Sleep}
+use Rattle.mp_kernel.specs.declared.automata.automaton.Automaton.TheVariants.{Follow, Merge, Join, Alternate, Choose, Serve, Grant, Hold, Sleep, Meet, Pick}
 use Rattle.mp_kernel.specs.declared.automata.phase.Phase.{Phase}
 use Rattle.mp_kernel.specs.declared.automata.events.Events.{Events}
 use Rattle.mp_kernel.specs.declared.automata.reaction.Reaction.{Reaction}
@@ -66,6 +66,23 @@ hold phase events =
     toggle_third_if events.third (toggle_second_if events.second
     (pass_unless_held (differ phase.waiting.first (differ events.second events.third)) (differ phase.waiting.second events.first)))
 
+-- both inputs had the levels that they wait for, or not, and whether each has its level now
+abbrev pub meet_next : Bool → Bool → Bool → Reaction
+meet_next met first second = toggle_first_if (differ met (first && second)) (quiet (unserved first second))
+
+abbrev pub meet : Phase → Events → Reaction
+meet phase events =
+    meet_next (phase.waiting.first && phase.waiting.second) (differ phase.waiting.first events.first) (differ phase.waiting.second events.second)
+
+-- whether the second input is chosen now, and the inputs differ now; whether another choice changed what is given; and the events of the inputs
+abbrev pub pick_next : Bool → Bool → Bool → Bool → Bool → Reaction
+pick_next is_second are_apart moves first second = toggle_first_if (differ moves (if is_second then second else first)) (quiet (unserved is_second are_apart))
+
+abbrev pub pick : Phase → Events → Reaction
+pick phase events =
+    pick_next (differ phase.waiting.first events.third) (differ phase.waiting.second (differ events.first events.second))
+    (events.third && phase.waiting.second) events.first events.second
+
 abbrev pub is_free : Client → Bool
 is_free client = clients.is_free client
 
@@ -120,3 +137,5 @@ react Serve phase events = serve events (quiet phase)
 react Grant phase events = grant events (quiet phase)
 react Hold phase events = hold phase events
 react Sleep phase events = quiet phase
+react Meet phase events = meet phase events
+react Pick phase events = pick phase events

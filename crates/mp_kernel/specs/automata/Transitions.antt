@@ -21,5 +21,5 @@ no_transition = record { next = record { 0 = 0 }; flips = 0 }
 
 -- for each state what comes of it
 pub record IsTable (list : List Transition) : Type 0 where
-  pub places : length list ≡ 1728
+  pub places : length list ≡ 2112
   pub each : (a : Automaton) (k : Phase) (e : Events) → slice_index_or list (state_code a k e) no_transition ≡ transition_of a k e

@@ -4,7 +4,7 @@ use Rattle.std.specs.List.{flat_map}
 use Rattle.mp_kernel.specs.events.Adding.{listed}
 use Rattle.mp_kernel.specs.events.Firing.{no_port}
 use Rattle.mp_kernel.specs.declared.datapath.level_change.LevelChange.{LevelChange}
-use Rattle.mp_kernel.specs.declared.datapath.data_part.DataPart.TheVariants.{Buf}
+use Rattle.mp_kernel.specs.declared.datapath.data_part.DataPart.TheVariants.{Reg}
 use Rattle.mp_kernel.specs.declared.datapath.data_module.DataModule.{DataModule}
 use Rattle.mp_kernel.specs.datapath.DataModules.{stepped, events_of, changes_of}
 
@@ -13,7 +13,7 @@ place_at places q = slice_index_or places q None
 
 abbrev pub no_module : DataModule
 no_module = record {
-  part = Buf;
+  part = Reg 0;
   outputs = record { first = 0; second = 0; third = 0 };
   inputs = [];
   ports = record { level = no_port; bits = record { first = no_port; second = no_port; third = no_port } };

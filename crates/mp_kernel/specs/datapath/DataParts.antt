@@ -1,39 +1,26 @@
 -- What modules with data do, by their outputs alone.
 use Rattle.std.specs.Prelude.{◌≡◌, ℕ, List, [], ◌∷◌, slice_index}
-use Rattle.mp_modules.specs.declared.core_module.CoreModule.TheVariants as core
 use Rattle.mp_modules.specs.declared.memory.Memory.{Memory}
 use Rattle.mp_modules.specs.Memories.{output_of, with_outputs}
 use Rattle.mp_modules.specs.declared.storage.any_module.AnyModule.{AnyModule}
 use Rattle.mp_modules.specs.declared.storage.any_module.AnyModule.TheVariants as parts
-use Rattle.mp_modules.specs.declared.storage.computed.Computed.{Computed}
-use Rattle.mp_modules.specs.declared.storage.computed.Computed.TheVariants as computed
 use Rattle.mp_modules.specs.storage.AnyModules.{settle, step}
-use Rattle.mp_modules.specs.storage.Computed.{output}
+use Rattle.mp_modules.specs.storage.Functions.{result_of}
 use Rattle.mp_modules.specs.storage.Reg.{latched}
 use Rattle.mp_kernel.specs.declared.datapath.output_levels.OutputLevels.{OutputLevels}
 use Rattle.mp_kernel.specs.declared.datapath.data_part.DataPart.{DataPart}
-use Rattle.mp_kernel.specs.declared.datapath.data_part.DataPart.TheVariants.{Buf, Reg, AddC, XorC, Sum, Bit}
+use Rattle.mp_kernel.specs.declared.datapath.data_part.DataPart.TheVariants.{Reg, Function}
 
-abbrev pub computed_part : Computed → DataPart
-computed_part (computed.AddC addend width) = AddC width addend
-computed_part (computed.XorC mask) = XorC mask
-computed_part (computed.Sum width) = Sum width
-computed_part (computed.Bit place) = Bit place
-
--- what a module does that has data
+-- what a module does that has data: a kind without data has no part of its own
 abbrev pub data_part : AnyModule → DataPart
-data_part (parts.Core part) = Buf
+data_part (parts.Core part) = Reg 0
 data_part (parts.Reg part) = Reg part.initial
-data_part (parts.Computed part) = computed_part part
+data_part (parts.Function part) = Function part.function part.width part.constant
 
 -- the module that does so
 abbrev pub any_part : DataPart → AnyModule
-any_part Buf = parts.Core core.Buf
 any_part (Reg initial) = parts.Reg (record { initial = initial })
-any_part (AddC width addend) = parts.Computed (computed.AddC addend width)
-any_part (XorC mask) = parts.Computed (computed.XorC mask)
-any_part (Sum width) = parts.Computed (computed.Sum width)
-any_part (Bit place) = parts.Computed (computed.Bit place)
+any_part (Function function width constant) = parts.Function (record { function = function; width = width; constant = constant })
 
 -- the outputs in a state
 abbrev pub outputs_in : Memory → OutputLevels
@@ -50,9 +37,6 @@ pub record IsToldByOutputs (part : DataPart) : Type 0 where
 
 -- the outputs after these, with these levels at the inputs: a module that isn't a register has one
 abbrev pub next_outputs : DataPart → OutputLevels → List ℕ → OutputLevels
-next_outputs Buf before x = record before { first = slice_index x 0 }
 next_outputs (Reg initial) before x = record { first = latched before.first x; second = slice_index x 1; third = slice_index x 2 }
-next_outputs (AddC width addend) before x = record before { first = output (computed.AddC addend width) x }
-next_outputs (XorC mask) before x = record before { first = output (computed.XorC mask) x }
-next_outputs (Sum width) before x = record before { first = output (computed.Sum width) x }
-next_outputs (Bit place) before x = record before { first = output (computed.Bit place) x }
+next_outputs (Function function width constant) before x =
+    record before { first = result_of function width constant (slice_index x 0) (slice_index x 1) (slice_index x 2) }

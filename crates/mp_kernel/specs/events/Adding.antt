@@ -27,6 +27,6 @@ listed m due = count_by (λ d. d == m) due
 pub record IsAdding (states : List AutomatonState) (due : List ℕ) (rest : List FanoutEntry) : Type 0 where
   pub placed : All (λ (l : FanoutEntry). l.module < length states) rest
   pub events : All (λ (l : FanoutEntry). 0 < l.event) rest
-  pub low : (m : ℕ) → state_at states m < 1728
+  pub low : (m : ℕ) → state_at states m < 2112
   pub room : (m : ℕ) → state_at states m % 16 + events_for m rest < 16
   pub once : (m : ℕ) → listed m due ≡ (if state_at states m % 16 == 0 then 0 else 1)

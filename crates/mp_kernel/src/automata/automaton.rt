@@ -1,23 +1,23 @@
 //! Automata: how modules of width 1 answer events.
 ghost use Rattle.std.specs.Prelude.{◌≡◌};
-ghost use Rattle.mp_kernel.specs.automata.Automata.{core_automaton, computed_automaton, automaton_of};
+ghost use Rattle.mp_kernel.specs.automata.Automata.{core_automaton, function_automaton, automaton_of};
 
 use crate::automata::client_rules::{grant, serve};
 use crate::automata::events::Events;
 use crate::automata::phase::Phase;
 use crate::automata::reaction::Reaction;
-use crate::automata::rules::{alternate, choose, differ, hold, join};
-use mp_modules::{AnyModule, Computed, CoreModule};
+use crate::automata::rules::{alternate, choose, differ, hold, join, meet, pick};
+use mp_modules::{AnyModule, CoreModule, Function};
 
 /// The number of automata.
-pub(crate) const AUTOMATA: u16 = 9;
+pub(crate) const AUTOMATA: u16 = 11;
 
 /// The way in which a module of width 1 answers events. Kinds that answer alike share one automaton.
 #[derive(Clone, Copy)]
 pub enum Automaton {
     /// Each event of the input is an event of the output: BUF and NOT, and ADDC, XORC and BIT at width 1.
     Follow,
-    /// An event of exactly one of the two inputs is an event of the output: XOR, and SUM at width 1.
+    /// An event of exactly one of the two inputs is an event of the output: XOR, and SUM and SUB at width 1.
     Merge,
     /// C.
     Join,
@@ -33,6 +33,10 @@ pub enum Automaton {
     Hold,
     /// A module that isn't active: it keeps its phase and has no event at an output.
     Sleep,
+    /// The output has an event when two levels meet, or part: AND, OR and LESS at width 1.
+    Meet,
+    /// MUX at width 1.
+    Pick,
 }
 
 impl Automaton {
@@ -50,7 +54,7 @@ impl Automaton {
         match part {
             AnyModule::Core(part) => core_automaton(*part),
             AnyModule::Reg(_) => Automaton::Hold,
-            AnyModule::Computed(part) => computed_automaton(*part),
+            AnyModule::Function(part) => function_automaton(part.function),
         }
     }
 
@@ -70,6 +74,8 @@ impl Automaton {
             Automaton::Grant => grant(events, quiet),
             Automaton::Hold => hold(phase, events),
             Automaton::Sleep => quiet,
+            Automaton::Meet => meet(phase, events),
+            Automaton::Pick => pick(phase, events),
         }
     }
 
@@ -86,7 +92,7 @@ impl Automaton {
     /// The number of the automaton, from 0.
     pub(crate) fn code(self) -> u16
         ensures value { result ≡ automaton_code self }
-        ensures low { result < 9 }
+        ensures low { result < 11 }
     {
         match self {
             Automaton::Follow => 0,
@@ -98,6 +104,8 @@ impl Automaton {
             Automaton::Grant => 6,
             Automaton::Hold => 7,
             Automaton::Sleep => 8,
+            Automaton::Meet => 9,
+            Automaton::Pick => 10,
         }
     }
 
@@ -114,7 +122,9 @@ impl Automaton {
             5 => Automaton::Serve,
             6 => Automaton::Grant,
             7 => Automaton::Hold,
-            _ => Automaton::Sleep,
+            8 => Automaton::Sleep,
+            9 => Automaton::Meet,
+            _ => Automaton::Pick,
         }
     }
 }
@@ -123,8 +133,6 @@ fn core_automaton(part: CoreModule) -> Automaton
     ensures { result ≡ core_automaton part }
 {
     match part {
-        CoreModule::Buf | CoreModule::Not => Automaton::Follow,
-        CoreModule::Xor => Automaton::Merge,
         CoreModule::C(_) => Automaton::Join,
         CoreModule::Toggle => Automaton::Alternate,
         CoreModule::Select => Automaton::Choose,
@@ -133,11 +141,13 @@ fn core_automaton(part: CoreModule) -> Automaton
     }
 }
 
-fn computed_automaton(part: Computed) -> Automaton
-    ensures { result ≡ computed_automaton part }
+fn function_automaton(function: Function) -> Automaton
+    ensures { result ≡ function_automaton function }
 {
-    match part {
-        Computed::Sum { .. } => Automaton::Merge,
+    match function {
+        Function::Xor | Function::Sum | Function::Sub => Automaton::Merge,
+        Function::And | Function::Or | Function::Less => Automaton::Meet,
+        Function::Mux => Automaton::Pick,
         _ => Automaton::Follow,
     }
 }

@@ -1,17 +1,19 @@
 //! Phases: what modules of width 1 keep from unit to unit.
 ghost use Rattle.std.specs.Prelude.{◌≡◌, ◌<◌};
 ghost use Rattle.mp_modules.specs.declared.memory.Client.{Client as AnyClient};
-ghost use Rattle.mp_kernel.specs.automata.Phases.{core_phase, waits_at};
+ghost use Rattle.mp_kernel.specs.automata.Phases.{core_phase, function_phase, waits_at};
 ghost use Rattle.mp_kernel.specs.automata.Codes.{client_code};
 
-use mp_modules::{AnyModule, Client, CoreModule, Memory, Waiting};
+use mp_modules::{AnyModule, Client, CoreModule, Function, Memory, Waiting};
 
 /// The number of phases: three for who is served, times four for who waits.
 pub(crate) const PHASES: u16 = 12;
 
 /// What a module of width 1 keeps from unit to unit, as far as its answers depend on it. CALL and ARBITER serve clients, who may wait. In a C an
 /// input "waits" if it differs, behind its bubble, from the output. In a TOGGLE the first "waits" if the next event goes to the second output, and in
-/// a SELECT if the second input is 1. In a REG the first "waits" if the data are held, and the second if the data differ from what is held.
+/// a SELECT if the second input is 1. In a REG the first "waits" if the data are held, and the second if the data differ from what is held. In an AND
+/// an input "waits" if it is 1, in an OR if it is 0, in a LESS the first if it is 0 and the second if it is 1. In a MUX the first "waits" if the second
+/// input is chosen, and the second if the two differ.
 #[derive(Clone, Copy)]
 pub struct Phase {
     pub served: Client,
@@ -44,7 +46,7 @@ impl Phase {
                 memory.inputs[1] != memory.inputs[2],
                 memory.inputs[0] != memory.outputs[0],
             ),
-            AnyModule::Computed(_) => Phase::unserved(false, false),
+            AnyModule::Function(part) => function_phase(part.function, memory),
         }
     }
 
@@ -76,7 +78,6 @@ fn core_phase(part: CoreModule, memory: &Memory) -> Phase
     ensures { result ≡ core_phase part memory.now }
 {
     match part {
-        CoreModule::Buf | CoreModule::Not | CoreModule::Xor => Phase::unserved(false, false),
         CoreModule::C(c) => Phase::unserved(
             waits_at(c.bubble_a, memory.inputs[0], memory.outputs[0]),
             waits_at(c.bubble_b, memory.inputs[1], memory.outputs[0]),
@@ -87,6 +88,19 @@ fn core_phase(part: CoreModule, memory: &Memory) -> Phase
             served: memory.served,
             waiting: memory.waiting,
         },
+    }
+}
+
+fn function_phase(function: Function, memory: &Memory) -> Phase
+    ensures { result ≡ function_phase function memory.now }
+{
+    let [a, b, s, _] = memory.inputs;
+    match function {
+        Function::And => Phase::unserved(a == 1, b == 1),
+        Function::Or => Phase::unserved(a == 0, b == 0),
+        Function::Less => Phase::unserved(a == 0, b == 1),
+        Function::Mux => Phase::unserved(s == 1, a != b),
+        _ => Phase::unserved(false, false),
     }
 }
 

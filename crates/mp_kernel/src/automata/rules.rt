@@ -1,6 +1,6 @@
-//! The rules of C, TOGGLE, SELECT and REG.
+//! The rules of C, TOGGLE, SELECT, REG, and of the functions that go by their levels.
 ghost use Rattle.std.specs.Prelude.{◌≡◌};
-ghost use Rattle.mp_kernel.specs.automata.Reactions.{differ, join, alternate, choose, hold};
+ghost use Rattle.mp_kernel.specs.automata.Reactions.{differ, join, alternate, choose, hold, meet, pick};
 
 use crate::automata::events::Events;
 use crate::automata::phase::Phase;
@@ -64,4 +64,29 @@ pub(crate) fn hold(phase: Phase, events: Events) -> Reaction
         .toggle_first_if(!is_held && differs)
         .toggle_second_if(events.second)
         .toggle_third_if(events.third)
+}
+
+/// A unit of an AND, an OR or a LESS: the output toggles when both inputs come to have the levels that they wait for, or no longer have them.
+pub(crate) fn meet(phase: Phase, events: Events) -> Reaction
+    ensures { result ≡ meet phase events }
+{
+    let first = differ(phase.waiting.first, events.first);
+    let second = differ(phase.waiting.second, events.second);
+    let met = phase.waiting.first && phase.waiting.second;
+    Reaction::quiet(Phase::unserved(first, second)).toggle_first_if(differ(met, first && second))
+}
+
+/// A unit of a MUX: an event of the input that is chosen then passes, and another choice does if the inputs differed.
+pub(crate) fn pick(phase: Phase, events: Events) -> Reaction
+    ensures { result ≡ pick phase events }
+{
+    let is_second = differ(phase.waiting.first, events.third);
+    let are_apart = differ(phase.waiting.second, differ(events.first, events.second));
+    let passes = if is_second {
+        events.second
+    } else {
+        events.first
+    };
+    let moves = events.third && phase.waiting.second;
+    Reaction::quiet(Phase::unserved(is_second, are_apart)).toggle_first_if(differ(moves, passes))
 }

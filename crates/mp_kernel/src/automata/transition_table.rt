@@ -52,7 +52,7 @@ impl TransitionTable {
     /// The transition from a state.
     #[inline(always)]
     pub fn of(&self, state: AutomatonState) -> Transition
-        requires { state.0 < 1728 }
+        requires { state.0 < 2112 }
         ensures { (a : AnyAutomaton) (k : AnyPhase) (e : AnyEvents) → state.0 ≡ state_code a k e → result ≡ transition_of a k e }
     {
         self.list[state.0 as usize]
@@ -71,7 +71,7 @@ fn all_transitions(alloc: Global) -> Result<Vec<Transition>, AllocError>
 
 /// The transition at a place.
 fn transition_at(place: u16) -> Transition
-    requires { place < 1728 }
+    requires { place < 2112 }
     ensures { (a : AnyAutomaton) (k : AnyPhase) (e : AnyEvents) → place ≡ state_code a k e → result ≡ transition_of a k e }
 {
     Transition::of(

@@ -5,7 +5,7 @@ ghost use Rattle.mp_kernel.specs.datapath.Levels.{level_at};
 use crate::datapath::data_part::DataPart;
 use crate::datapath::data_ports::DataPorts;
 use crate::datapath::output_levels::OutputLevels;
-use mp_modules::{Computed, MOST_INPUTS, Memory};
+use mp_modules::{FunctionModule, MOST_INPUTS, Memory};
 
 /// A module with data: its part, the levels of its outputs, the numbers that its inputs read, and what it drives. The rest of its state is the levels
 /// of those numbers.
@@ -30,7 +30,6 @@ impl DataModule {
     {
         let level = self.input_level(levels, 0);
         match self.part {
-            DataPart::Buf => self.outputs.first = level,
             DataPart::Reg { .. } => {
                 let capture = self.input_level(levels, 1);
                 let pass = self.input_level(levels, 2);
@@ -38,18 +37,19 @@ impl DataModule {
                 self.outputs.second = capture;
                 self.outputs.third = pass;
             }
-            DataPart::AddC { width, addend } => {
-                self.outputs.first = Computed::AddC { addend, width }.output(&[level]);
-            }
-            DataPart::XorC { mask } => {
-                self.outputs.first = Computed::XorC { mask }.output(&[level]);
-            }
-            DataPart::Sum { width } => {
-                let other = self.input_level(levels, 1);
-                self.outputs.first = Computed::Sum { width }.output(&[level, other]);
-            }
-            DataPart::Bit { place } => {
-                self.outputs.first = Computed::Bit { place }.output(&[level]);
+            DataPart::Function {
+                function,
+                width,
+                constant,
+            } => {
+                let part = FunctionModule {
+                    function,
+                    width,
+                    constant,
+                };
+                let second = self.input_level(levels, 1);
+                let third = self.input_level(levels, 2);
+                self.outputs.first = part.value(level, second, third);
             }
         }
     }

@@ -102,7 +102,7 @@ fn fire_module(
     requires within { All (HaveSlots (length wheel.old)) ports.now }
     requires state { place < length states.old.items }
     requires levels { place < length levels.old.items }
-    requires low { state_at states.old.items place < 1728 }
+    requires low { state_at states.old.items place < 2112 }
     ensures states { OnOk result ((s : UnitState) → state_at states.old.items place ≡ number_of s → states.new.items ≡ slice_set states.old.items place (next_state s)) }
     ensures levels { OnOk result ((s : UnitState) → state_at states.old.items place ≡ number_of s → levels.new.items ≡ slice_set levels.old.items place (flipped s (levels_at levels.old.items place))) }
     ensures wheel { OnOk result ((s : UnitState) → state_at states.old.items place ≡ number_of s → wheel.new ≡ scheduled wheel.old (events_of s (ports_at ports.now place))) }
@@ -131,7 +131,7 @@ pub fn fire_modules(
     requires within { All (HaveSlots (length wheel.old)) ports.now }
     requires states { All (λ m. m < length states.old.items) due.now }
     requires levels { length levels.old.items ≡ length states.old.items }
-    requires low { (m : ℕ) → state_at states.old.items m < 1728 }
+    requires low { (m : ℕ) → state_at states.old.items m < 2112 }
     requires once { (m : ℕ) → listed m due.now ≤ 1 }
     ensures kept { OnOk result (length states.new.items ≡ length states.old.items) }
     ensures states { OnOk result ((state_of : ℕ → UnitState) → AreNumbered states.old.items state_of → HaveFired state_of due.now states.old.items states.new.items) }

@@ -1,2 +1,3 @@
 pub mod KindLemmas
 pub mod RegLemmas
+pub mod WidthLemmas

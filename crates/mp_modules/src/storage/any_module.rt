@@ -2,7 +2,7 @@
 ghost use Rattle.std.specs.Prelude.{◌≡◌};
 ghost use Rattle.mp_modules.specs.storage.AnyModules.{is_width_of, core_kind};
 
-use crate::storage::computed::Computed;
+use crate::storage::function_module::FunctionModule;
 use crate::storage::reg::Reg;
 use crate::{CoreModule, EventModule, FindingSet, Kind, Memory, Rendezvous, level_at};
 
@@ -11,7 +11,7 @@ use crate::{CoreModule, EventModule, FindingSet, Kind, Memory, Rendezvous, level
 pub enum AnyModule {
     Core(CoreModule),
     Reg(Reg),
-    Computed(Computed),
+    Function(FunctionModule),
 }
 
 impl AnyModule {
@@ -31,22 +31,17 @@ impl AnyModule {
         }
         let first = level_at(params, 0);
         Some(match kind {
-            Kind::Buf => AnyModule::Core(CoreModule::Buf),
-            Kind::Not => AnyModule::Core(CoreModule::Not),
-            Kind::Xor => AnyModule::Core(CoreModule::Xor),
             Kind::C => AnyModule::Core(CoreModule::C(Rendezvous::from_params(params))),
             Kind::Toggle => AnyModule::Core(CoreModule::Toggle),
             Kind::Select => AnyModule::Core(CoreModule::Select),
             Kind::Call => AnyModule::Core(CoreModule::Call),
             Kind::Arbiter => AnyModule::Core(CoreModule::Arbiter),
             Kind::Reg => AnyModule::Reg(Reg { initial: first }),
-            Kind::AddC => AnyModule::Computed(Computed::AddC {
-                addend: first,
+            Kind::Function(function) => AnyModule::Function(FunctionModule {
+                function,
                 width,
+                constant: first,
             }),
-            Kind::XorC => AnyModule::Computed(Computed::XorC { mask: first }),
-            Kind::Sum => AnyModule::Computed(Computed::Sum { width }),
-            Kind::Bit => AnyModule::Computed(Computed::Bit { place: first }),
         })
     }
 
@@ -57,7 +52,7 @@ impl AnyModule {
         match self {
             AnyModule::Core(part) => core_kind(*part),
             AnyModule::Reg(_) => Kind::Reg,
-            AnyModule::Computed(part) => part.kind(),
+            AnyModule::Function(part) => Kind::Function(part.function),
         }
     }
 }
@@ -66,9 +61,6 @@ fn core_kind(part: CoreModule) -> Kind
     ensures { result ≡ core_kind part }
 {
     match part {
-        CoreModule::Buf => Kind::Buf,
-        CoreModule::Not => Kind::Not,
-        CoreModule::Xor => Kind::Xor,
         CoreModule::C(_) => Kind::C,
         CoreModule::Toggle => Kind::Toggle,
         CoreModule::Select => Kind::Select,
@@ -116,7 +108,7 @@ impl EventModule for AnyModule {
         match self {
             AnyModule::Core(part) => part.start(),
             AnyModule::Reg(part) => part.start(),
-            AnyModule::Computed(part) => part.start(),
+            AnyModule::Function(part) => part.start(),
         }
     }
 
@@ -125,7 +117,7 @@ impl EventModule for AnyModule {
         match self {
             AnyModule::Core(part) => part.settle(levels),
             AnyModule::Reg(part) => part.settle(levels),
-            AnyModule::Computed(part) => part.settle(levels),
+            AnyModule::Function(part) => part.settle(levels),
         }
     }
 
@@ -136,7 +128,7 @@ impl EventModule for AnyModule {
         match self {
             AnyModule::Core(part) => part.step(memory, levels),
             AnyModule::Reg(part) => part.step(memory, levels),
-            AnyModule::Computed(part) => part.step(memory, levels),
+            AnyModule::Function(part) => part.step(memory, levels),
         }
     }
 
@@ -149,7 +141,7 @@ impl EventModule for AnyModule {
         match self {
             AnyModule::Core(part) => part.findings(memory, levels),
             AnyModule::Reg(part) => part.findings(memory, levels),
-            AnyModule::Computed(part) => part.findings(memory, levels),
+            AnyModule::Function(part) => part.findings(memory, levels),
         }
     }
 }

@@ -2,7 +2,7 @@
 
 ghost use Rattle.mp_modules.specs.storage.AnyModules.{KeepsKind};
 ghost use Rattle.mp_modules.specs.storage.RegLaws.{ChangesWhileOpen, FollowsWhileOpen};
-ghost use Rattle.mp_modules.specs.storage.Sums.{Adds};
+ghost use Rattle.mp_modules.specs.storage.Arithmetic.{ComputesModuloWidth};
 
 /// A module that is made of a kind has that kind.
 pub fn keeps_kind()
@@ -15,7 +15,7 @@ pub fn register_changes_while_open()
     ensures follows { FollowsWhileOpen }
 {}
 
-/// ADDC and SUM add modulo two to the power of their width.
-pub fn adds()
-    ensures { Adds }
+/// ADDC and SUM add, and SUB subtracts, modulo two to the power of their width. JOIN puts a bit below a number.
+pub fn computes_modulo_width()
+    ensures { ComputesModuloWidth }
 {}

@@ -21,7 +21,7 @@ pub(crate) struct NewPorts {
 impl Netlist {
     ghost use Rattle.std.specs.Prelude.{◌≡◌, ◌≤◌, ◌&&◌, is_some, length, map, IfSome, if◌then◌else◌};
     ghost use Rattle.std.specs.List.{list_all};
-    ghost use Rattle.mp_modules.specs.Kinds.{has_width};
+    ghost use Rattle.mp_modules.specs.Kinds.{width_from};
     ghost use Rattle.mp_netlist.specs.Edits.{are_distinct, stands, wire_id, inputs_stand, inputs_fit, outputs_fit, is_undriven, driven_names, new_width};
     ghost use Rattle.mp_netlist.specs.NewPorts.{AreNamedPorts, named_input, named_output, width_of_first};
 
@@ -106,16 +106,18 @@ impl Netlist {
     }
 
     /// The width of a module of this kind with these inputs.
+    #[tactic(auto, using(mp_modules::proofs::KindLemmas::width_from_narrow))]
     fn width_with(&self, kind: Kind, inputs: &[Input]) -> u32
-        ensures { result ≡ (if has_width kind then width_of_first self.now inputs.now else 1) }
+        ensures { result ≡ width_from kind (width_of_first self.now inputs.now) }
     {
         if !kind.has_width() {
             return 1;
         }
-        match inputs {
+        let first = match inputs {
             [first, ..] => self.wire_width(first.wire),
             [] => 0,
-        }
+        };
+        kind.width_from(first)
     }
 
     /// Whether the wires at the ports of a new module, which has this width, have the widths of the ports.

@@ -19,14 +19,16 @@ impl Netlist {
         }
     }
 
-    /// The width of a module: that of the wire at its first input if its kind has ports of any width, and otherwise 1.
+    /// The width of a module, from that of the wire at its first input (`Kind::width_from`).
+    #[tactic(auto, using(mp_modules::proofs::KindLemmas::width_from_narrow))]
     pub fn module_width(&self, found: &ModuleRecord) -> u32
         ensures { result ≡ module_width self.now found.now }
     {
         if !found.kind.has_width() {
             return 1;
         }
-        self.wire_width(first_wire(found.inputs.as_slice()))
+        let first = self.wire_width(first_wire(found.inputs.as_slice()));
+        found.kind.width_from(first)
     }
 }
 

@@ -1,8 +1,8 @@
 -- What a change comes from, and all that leads to it.
-use Rattle.std.specs.Prelude.{ℕ, ◌-◌, Bool, true, false, List, [], ◌∷◌, map, zero, suc, if◌then◌else◌}
+use Rattle.std.specs.Prelude.{ℕ, ◌-◌, Bool, not, List, [], ◌∷◌, map, zero, suc, if◌then◌else◌}
 use Rattle.std.specs.List.{flat_map, filter_map}
 use Rattle.mp_modules.specs.declared.kind.Kind.{Kind}
-use Rattle.mp_modules.specs.declared.kind.Kind.TheVariants as kinds
+use Rattle.mp_modules.specs.Kinds.{is_function}
 use Rattle.mp_netlist.specs.Circuit.{Circuit}
 use Rattle.mp_questions.specs.declared.causes.wire_change.WireChange.{WireChange}
 use Rattle.mp_questions.specs.causes.Changes.{last_change}
@@ -10,13 +10,7 @@ use Rattle.mp_questions.specs.causes.Causes.{Cause, Outside, Start, Events, caus
 
 -- what a module of this kind does depends on what its inputs did before
 abbrev pub has_memory : Kind → Bool
-has_memory kinds.C = true
-has_memory kinds.Toggle = true
-has_memory kinds.Select = true
-has_memory kinds.Call = true
-has_memory kinds.Arbiter = true
-has_memory kinds.Reg = true
-has_memory _ = false
+has_memory kind = not (is_function kind)
 
 -- a change that is set from outside and a start come from nothing; another one comes from the last changes that the inputs of its module
 -- have heard, each by its own delay, and without memory from the events of its cause alone

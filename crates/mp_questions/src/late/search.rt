@@ -218,9 +218,5 @@ fn change_of(number: u64) -> WireTime
 fn has_memory(kind: Kind) -> bool
     ensures { result ≡ has_memory kind }
 {
-    match kind {
-        Kind::C | Kind::Toggle | Kind::Select | Kind::Call | Kind::Arbiter | Kind::Reg => true,
-        Kind::Buf | Kind::Not | Kind::Xor => false,
-        Kind::AddC | Kind::XorC | Kind::Sum | Kind::Bit => false,
-    }
+    !kind.is_function()
 }

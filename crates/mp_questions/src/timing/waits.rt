@@ -83,8 +83,7 @@ fn put_kind<S: Sink>(
         Kind::Call => put_call(out, at, id, found),
         Kind::Arbiter => put_arbiter(out, at, id, found),
         Kind::Reg => put_register(out, at, found),
-        Kind::Buf | Kind::Not | Kind::Xor | Kind::Toggle | Kind::Select => Ok(()),
-        Kind::AddC | Kind::XorC | Kind::Sum | Kind::Bit => Ok(()),
+        Kind::Toggle | Kind::Select | Kind::Function(_) => Ok(()),
     }
 }
 

@@ -2,10 +2,8 @@
 use Rattle.std.specs.Prelude.{ℕ, Bool, ◌||◌, List, [], ◌∷◌, ◌++◌, codes, map, unwrap_or}
 use Rattle.std.specs.Fmt.{decimal}
 use Rattle.std.specs.Str.{bytes_eq, str_eq_ignore_ascii_case}
-use Rattle.mp_modules.specs.declared.kind.Kind.{Kind}
-use Rattle.mp_modules.specs.declared.kind.Kind.TheVariants as kinds
 use Rattle.mp_modules.specs.Findings.{by_number, code_number, code_word}
-use Rattle.mp_modules.specs.Kinds.{word_of}
+use Rattle.mp_modules.specs.Kinds.{all_kinds, word_of}
 use Rattle.mp_records.specs.declared.edit_error.EditError.{EditError}
 use Rattle.mp_records.specs.declared.edit_error.EditError.TheVariants as edits
 use Rattle.mp_records.specs.EditErrors.{name_of, number_of}
@@ -68,11 +66,6 @@ seat_refusals = seats.NotADesigner ∷ seats.NoWork ∷ seats.NotKept ∷ []
 -- what a check tells beside findings
 abbrev pub check_words : List CheckWord
 check_words = Late ∷ Deadlock ∷ Becomes ∷ Undriven ∷ Unread ∷ Busy ∷ []
-
-abbrev pub all_kinds : List Kind
-all_kinds =
-    kinds.Buf ∷ kinds.Not ∷ kinds.Xor ∷ kinds.C ∷ kinds.Toggle ∷ kinds.Select ∷ kinds.Call ∷ kinds.Arbiter ∷ kinds.Reg ∷ kinds.AddC ∷ kinds.XorC
-    ∷ kinds.Sum ∷ kinds.Bit ∷ []
 
 -- all that can be explained
 abbrev pub subjects : List Topic

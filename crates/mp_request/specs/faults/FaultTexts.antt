@@ -1,6 +1,6 @@
 -- What is shown of a line that isn't read.
 use Rattle.std.specs.Prelude.{ℕ, ◌+◌, ◌-◌, ◌==◌, List, [], ◌++◌, length, map, take, drop, min, nat_le, replicate, if◌then◌else◌, codes, Option, Some, None}
-use Rattle.std.specs.Str.{byte}
+use Rattle.std.specs.Str.{byte, bytes_eq}
 use Rattle.std.specs.Fmt.{decimal}
 use Rattle.mp_text.specs.Names.{is_gap, is_allowed}
 use Rattle.mp_text.specs.declared.text_error.TextError.{TextError}
@@ -45,9 +45,14 @@ located line number span =
 abbrev pub meant : List ℕ → List ℕ
 meant name = codes "; did you mean `" ++ (name ++ codes "`?")
 
-abbrev pub suggestion : Option (List ℕ) → List ℕ
-suggestion None = []
-suggestion (Some name) = meant name
+-- a name that is the word itself is that of a kind that another format has
+abbrev pub suggestion : List ℕ → Option (List ℕ) → List ℕ
+suggestion word None = []
+suggestion word (Some name) = if bytes_eq word name then codes "; " ++ (name ++ codes " needs format 4") else meant name
+
+-- the word at a place of a line
+abbrev pub word_at : List ℕ → ℕ × ℕ → List ℕ
+word_at line span = take (span.1 - span.0) (drop span.0 line)
 
 -- the line of the error, if there is one, with marks below a word
 abbrev pub fault_line : List ℕ → TextError → ℕ × ℕ → List ℕ
@@ -57,4 +62,4 @@ fault_line text error span = if error.line == 0 then [] else located (line_numbe
 abbrev pub fault_text : List ℕ → TextError → List ℕ → List ℕ
 fault_text text error meaning =
     fault_line text error (fault_span text error)
-    ++ (codes "     " ++ (meaning ++ suggestion (fault_near text error)))
+    ++ (codes "     " ++ (meaning ++ suggestion (word_at (line_numbered text error.line) (fault_span text error)) (fault_near text error)))

@@ -3,6 +3,7 @@ use Rattle.std.specs.Prelude.{ℕ, ◌*◌, ◌&&◌, Bool, true, List, [], ◌�
 use Rattle.std.specs.List.{before_first, filter_map}
 use Rattle.std.specs.Char.{to_ascii_lowercase}
 use Rattle.strsim.specs.Edits.{levenshtein_row}
+use Rattle.mp_modules.specs.Kinds.{all_kinds, word_of}
 use Rattle.mp_records.specs.declared.wire_record.WireRecord.{WireRecord}
 use Rattle.mp_text.specs.lexing.Numbers.{is_slash}
 
@@ -47,9 +48,7 @@ abbrev pub statement_words : List (List ℕ)
 statement_words = codes "horizon" ∷ codes "wire" ∷ codes "module" ∷ codes "bundle" ∷ codes "stim" ∷ codes "format" ∷ []
 
 abbrev pub kind_words : List (List ℕ)
-kind_words =
-    codes "BUF" ∷ codes "NOT" ∷ codes "XOR" ∷ codes "C" ∷ codes "TOGGLE" ∷ codes "SELECT" ∷ codes "CALL" ∷ codes "ARBITER" ∷ codes "REG" ∷ codes "ADDC" ∷ codes "XORC"
-    ∷ codes "SUM" ∷ codes "BIT" ∷ []
+kind_words = map word_of all_kinds
 
 -- what a word names: all before its first `/`
 abbrev pub name_part : List ℕ → List ℕ

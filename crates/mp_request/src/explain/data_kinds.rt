@@ -1,7 +1,7 @@
 //! The kinds of module that hold data and compute on data.
 use crate::explain::entry::Entry;
 use crate::explain::topic::Topic;
-use mp_modules::Kind;
+use mp_modules::{Function, Kind};
 
 pub(crate) const REG: Entry = Entry {
     subject: Topic::Kind(Kind::Reg),
@@ -40,7 +40,7 @@ pub(crate) const REG: Entry = Entry {
 };
 
 pub(crate) const ADDC: Entry = Entry {
-    subject: Topic::Kind(Kind::AddC),
+    subject: Topic::Kind(Kind::Function(Function::AddC)),
     text: "
   parameters:
     k, below `2^w`
@@ -65,7 +65,7 @@ pub(crate) const ADDC: Entry = Entry {
 };
 
 pub(crate) const XORC: Entry = Entry {
-    subject: Topic::Kind(Kind::XorC),
+    subject: Topic::Kind(Kind::Function(Function::XorC)),
     text: "
   parameters:
     k, below `2^w`
@@ -90,7 +90,7 @@ pub(crate) const XORC: Entry = Entry {
 };
 
 pub(crate) const SUM: Entry = Entry {
-    subject: Topic::Kind(Kind::Sum),
+    subject: Topic::Kind(Kind::Function(Function::Sum)),
     text: "
   parameters:
     none
@@ -118,7 +118,7 @@ pub(crate) const SUM: Entry = Entry {
 };
 
 pub(crate) const BIT: Entry = Entry {
-    subject: Topic::Kind(Kind::Bit),
+    subject: Topic::Kind(Kind::Function(Function::Bit)),
     text: "
   parameters:
     k, below `w`

@@ -1,10 +1,12 @@
 //! All explanations.
 ghost use Rattle.std.specs.Prelude.{◌≡◌, ◌∷◌, [], IfOk, map};
 ghost use Rattle.mp_modules.specs.Findings.{by_number};
-ghost use Rattle.mp_request.specs.explain.Subjects.{all_kinds, check_words, refusals, seat_refusals, subjects, text_faults};
+ghost use Rattle.mp_modules.specs.Kinds.{all_kinds};
+ghost use Rattle.mp_request.specs.explain.Subjects.{check_words, refusals, seat_refusals, subjects, text_faults};
 ghost use Rattle.mp_request.specs.declared.explain.topic.Topic.TheVariants.{Text, Edit, Seat, Finding, Check, Kind, Steady};
 
 use crate::explain::checks::{BECOMES, BUSY, DEADLOCK, LATE, UNDRIVEN, UNREAD};
+use crate::explain::computing_kinds::{AND, JOIN, LESS, MUX, OR, SUB};
 use crate::explain::data_kinds::{ADDC, BIT, REG, SUM, XORC};
 use crate::explain::entry::Entry;
 use crate::explain::event_kinds::{ARBITER, BUF, C, CALL, NOT, SELECT, TOGGLE, XOR};
@@ -142,6 +144,7 @@ fn kinds() -> &'static [Entry]
     ensures { map (λ entry. entry.subject) result.now ≡ map Kind all_kinds }
 {
     &[
-        BUF, NOT, XOR, C, TOGGLE, SELECT, CALL, ARBITER, REG, ADDC, XORC, SUM, BIT,
+        BUF, NOT, XOR, C, TOGGLE, SELECT, CALL, ARBITER, REG, ADDC, XORC, SUM, BIT, AND, OR, SUB,
+        LESS, MUX, JOIN,
     ]
 }

@@ -1,10 +1,10 @@
 //! The kinds of module that steer events.
 use crate::explain::entry::Entry;
 use crate::explain::topic::Topic;
-use mp_modules::Kind;
+use mp_modules::{Function, Kind};
 
 pub(crate) const BUF: Entry = Entry {
-    subject: Topic::Kind(Kind::Buf),
+    subject: Topic::Kind(Kind::Function(Function::Buf)),
     text: "
   parameters:
     none
@@ -29,7 +29,7 @@ pub(crate) const BUF: Entry = Entry {
 };
 
 pub(crate) const NOT: Entry = Entry {
-    subject: Topic::Kind(Kind::Not),
+    subject: Topic::Kind(Kind::Function(Function::Not)),
     text: "
   parameters:
     none
@@ -54,7 +54,7 @@ pub(crate) const NOT: Entry = Entry {
 };
 
 pub(crate) const XOR: Entry = Entry {
-    subject: Topic::Kind(Kind::Xor),
+    subject: Topic::Kind(Kind::Function(Function::Xor)),
     text: "
   parameters:
     none

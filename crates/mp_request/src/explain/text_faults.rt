@@ -24,7 +24,7 @@ pub(crate) const UNKNOWN_STATEMENT: Entry = Entry {
     text: "
   meaning:
     in a netlist: the first word isn't a statement
-    in a netlist: the kind of a `module` doesn't exist
+    in a netlist: the kind of a `module` doesn't exist, or needs `format 4`
     in a script: the first word begins neither an edit nor a question;
       `horizon` and `format` don't either
     in a script: the second word of `remove` isn't `wire`, `module` or
@@ -37,8 +37,9 @@ pub(crate) const UNKNOWN_STATEMENT: Entry = Entry {
   remedy:
     Correct the word. The statements are `format`, `horizon`, `wire`,
     `module`, `stim` and `bundle`, in lower case. Kinds are in upper case, and
-    `mpwb explain` lists them. `mpwb play --help` lists the lines of a script.
-    A comment begins with `#`.
+    `mpwb explain` lists them. AND, OR, SUB, LESS, MUX and JOIN need
+    `format 4` on the first line. `mpwb play --help` lists the lines of a
+    script. A comment begins with `#`.
 ",
 };
 

@@ -11,7 +11,7 @@ ghost use Rattle.mp_request.specs.faults.WordPlaces.{port_place};
 
 use crate::faults::wires::{is_undriven, output_fits, output_stands, stands, width_named};
 use crate::faults::word_place::WordPlace;
-use mp_modules::{Kind, fits_width};
+use mp_modules::Kind;
 use mp_netlist::{EditError, InputName, MAX_DELAY, Name, Netlist, NewModule, OutputName};
 
 /// The word at fault in a line whose module is refused with this error.
@@ -130,13 +130,11 @@ fn misfit_output(netlist: &Netlist, kind: Kind, width: u32, outputs: &[OutputNam
 fn new_width(netlist: &Netlist, kind: Kind, inputs: &[InputName]) -> u32
     ensures { result ≡ new_width netlist.now kind inputs.now }
 {
-    if !kind.has_width() {
-        return 1;
-    }
-    match inputs {
+    let first = match inputs {
         [first, ..] => width_named(netlist, &first.wire),
         [] => 0,
-    }
+    };
+    kind.width_from(first)
 }
 
 /// The first parameter out of its range or too many, or the end of the parameters if one is missing.
@@ -150,24 +148,11 @@ fn unfit_param(kind: Kind, width: u32, params: &[u64]) -> usize
     ensures { result ≡ position_or_len (λ param. not (nat_lt param (param_bound kind width))) params.now }
 {
     for (place, param) in params.iter().enumerate() {
-        if !is_in_range(kind, width, *param) {
+        if !kind.is_in_range(width, *param) {
             return place;
         }
     }
     params.len()
-}
-
-#[tactic(auto, unfolding(mp_modules::specs::Levels::fits_width))]
-/// Whether the number is below the bound of the kind's parameters.
-fn is_in_range(kind: Kind, width: u32, param: u64) -> bool
-    ensures { result ≡ nat_lt param (param_bound kind width) }
-{
-    match kind {
-        Kind::C => param < 2,
-        Kind::Reg | Kind::AddC | Kind::XorC => fits_width(param, u64::from(width)),
-        Kind::Bit => param < u64::from(width),
-        _ => false,
-    }
 }
 
 /// The first port with a delay out of range.

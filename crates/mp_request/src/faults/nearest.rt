@@ -16,9 +16,9 @@ const NAME_BYTES: usize = 32;
 const STATEMENTS: [&str; 6] = ["horizon", "wire", "module", "bundle", "stim", "format"];
 
 /// The words of the kinds of module.
-const KINDS: [&str; 13] = [
+const KINDS: [&str; 19] = [
     "BUF", "NOT", "XOR", "C", "TOGGLE", "SELECT", "CALL", "ARBITER", "REG", "ADDC", "XORC", "SUM",
-    "BIT",
+    "BIT", "AND", "OR", "SUB", "LESS", "MUX", "JOIN",
 ];
 
 /// The statement nearest to a word; `None` if none is near. `AllocError` comes if memory runs out.

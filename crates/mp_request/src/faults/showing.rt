@@ -1,7 +1,8 @@
 //! What is shown of a line that can't be read.
-ghost use Rattle.std.specs.Prelude.{◌≡◌, ◌++◌, ◌-◌, IfOk, length, map, take, drop, replicate, codes};
+ghost use Rattle.std.specs.Prelude.{◌≡◌, ◌++◌, ◌-◌, IfOk, Some, length, map, take, drop, replicate, codes};
 ghost use Rattle.std.specs.Fmt.{decimal};
-ghost use Rattle.mp_request.specs.faults.FaultTexts.{shown_byte, dots_before, dots_behind, shown_part, marks, margin, located, fault_line, meant, suggestion, fault_text, width, lead};
+ghost use Rattle.mp_request.specs.faults.TextLines.{line_numbered};
+ghost use Rattle.mp_request.specs.faults.FaultTexts.{shown_byte, dots_before, dots_behind, shown_part, marks, margin, located, fault_line, meant, suggestion, word_at, fault_text, width, lead};
 
 use crate::faults::fault::{Fault, find_fault};
 use crate::faults::spans::{is_allowed, is_gap};
@@ -44,21 +45,34 @@ fn shown_fault(
     meaning: &str,
     fault: &Fault,
 ) -> Result<Vec<u8>, AllocError>
-    ensures { IfOk result (λ shown. shown.items ≡ fault_line text.now error fault.now.span ++ (codes "     " ++ (meaning.now ++ suggestion fault.now.near))) }
+    ensures { IfOk result (λ shown. shown.items ≡ fault_line text.now error fault.now.span ++ (codes "     " ++ (meaning.now ++ suggestion (word_at (line_numbered text.now error.line) fault.now.span) fault.now.near))) }
 {
     let mut shown = Vec::new(alloc);
     push_fault_line(&mut shown, text, error, fault.span)?;
-    push_meaning(&mut shown, meaning, &fault.near)?;
+    let word = word_at(line_numbered(text, error.line), fault.span);
+    push_meaning(&mut shown, meaning, word, &fault.near)?;
     Ok(shown)
 }
 
-/// Appends the meaning of an error, with the name that may have been meant, if there is one.
-fn push_meaning(text: &mut Vec<u8>, meaning: &str, near: &Option<Name>) -> Result<(), AllocError>
-    ensures { IfOk result (λ _. text.new.items ≡ text.old.items ++ (codes "     " ++ (meaning.now ++ suggestion near.now))) }
+/// The word at a place of a line.
+fn word_at(line: &[u8], span: (usize, usize)) -> &[u8]
+    ensures { result.now ≡ word_at line.now span }
+{
+    front(span.1.saturating_sub(span.0), behind(span.0, line))
+}
+
+/// Appends the meaning of an error at a word, with what may have been meant, if there is something.
+fn push_meaning(
+    text: &mut Vec<u8>,
+    meaning: &str,
+    word: &[u8],
+    near: &Option<Name>,
+) -> Result<(), AllocError>
+    ensures { IfOk result (λ _. text.new.items ≡ text.old.items ++ (codes "     " ++ (meaning.now ++ suggestion word.now near.now))) }
 {
     text.extend_from_slice(b"     ")?;
     text.extend_from_slice(meaning.as_bytes())?;
-    push_suggestion(text, near)
+    push_suggestion(text, word, near)
 }
 
 /// Appends the line of the error with marks below the word at fault, unless the error is of line 0.
@@ -218,14 +232,23 @@ fn push_times(text: &mut Vec<u8>, byte: u8, count: usize) -> Result<(), AllocErr
     Ok(())
 }
 
-/// Appends the name that may have been meant, if there is one.
-fn push_suggestion(text: &mut Vec<u8>, near: &Option<Name>) -> Result<(), AllocError>
-    ensures { IfOk result (λ _. text.new.items ≡ text.old.items ++ suggestion near.now) }
+/// Appends the name near to a word, if there is one: that it may have been meant, or that another format has the kind of this name.
+fn push_suggestion(text: &mut Vec<u8>, word: &[u8], near: &Option<Name>) -> Result<(), AllocError>
+    ensures { IfOk result (λ _. text.new.items ≡ text.old.items ++ suggestion word.now near.now) }
 {
     match near {
-        Some(name) => push_meant(text, name),
+        Some(name) => push_near(text, word, name),
         None => Ok(()),
     }
+}
+
+fn push_near(text: &mut Vec<u8>, word: &[u8], name: &Name) -> Result<(), AllocError>
+    ensures { IfOk result (λ _. text.new.items ≡ text.old.items ++ suggestion word.now (Some name.now)) }
+{
+    if word == name.as_str().as_bytes() {
+        return push_parts(text, b"; ", word, b" needs format 4");
+    }
+    push_meant(text, name)
 }
 
 /// Appends that this name may have been meant.

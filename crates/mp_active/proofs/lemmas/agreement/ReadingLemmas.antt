@@ -4,11 +4,9 @@ use Rattle.std.specs.Prelude.{slice_index}
 use Rattle.std.proofs.lemmas.Bool.{cases_lt}
 use Rattle.std.proofs.lemmas.List.{get_or-map, length-map}
 use Rattle.std.proofs.lemmas.List.Elements.{All-head, All-tail}
-use Rattle.mp_modules.specs.declared.kind.Kind.{Kind}
-use Rattle.mp_modules.specs.declared.kind.Kind.TheVariants as kinds
 use Rattle.mp_modules.specs.declared.memory.Memory.{Memory}
-use Rattle.mp_modules.specs.Kinds.{input_count}
 use Rattle.mp_modules.specs.Memories.{input_levels}
+use Rattle.mp_modules.proofs.KindLemmas.{few_inputs}
 use Rattle.mp_records.specs.declared.ports.Input.{Input}
 use Rattle.mp_netlist.specs.Circuit.{Circuit, IsCircuit}
 use Rattle.mp_model.specs.Levels.{input_by, inputs_by}
@@ -56,10 +54,6 @@ quiet_where_alike old new old_ok new_ok revised m u r kept = (there, here)
     here alike apart = apart.differ
         (old_inputs old new old_ok new_ok revised m r kept u ∙ inputs_late old old_ok u r.inputs ∙ levels_alike old new u sources alike
         ∙ sym (inputs_late new new_ok u r.inputs) ∙ sym (new_inputs old new old_ok new_ok revised m r kept u))
-
-few_inputs : (kind : Kind) → input_count kind ≤ 4
-few_inputs kinds.Buf = omega arith
-few_inputs _ = omega arith
 
 -- a state has all levels at the inputs
 level_kept : (levels : List ℕ) (k : ℕ) → k < 4 → slice_index (input_levels levels) k ≡ slice_index levels k

@@ -2,7 +2,7 @@
 use Rattle.std.proofs.Common.{◌≡◌, ℕ, ◌+◌, Bool, true, false, not, cond, List, [], ◌∷◌, Option, Some, None, is_some, length, slice_index_or, zero, suc, refl, ap, sym, subst, ◌∙◌, arith, inl, inr}
 use Rattle.std.specs.Prelude.{IsSome, IfSome, IsTrue}
 use Rattle.std.proofs.lemmas.Bool.{cases_Bool}
-use Rattle.mp_modules.specs.Kinds.{has_width, input_width, output_width, are_params}
+use Rattle.mp_modules.specs.Kinds.{width_from, input_width, output_width, are_params}
 use Rattle.mp_records.specs.declared.ids.WireId.{WireId}
 use Rattle.mp_records.specs.declared.wire_record.WireRecord.{WireRecord}
 use Rattle.mp_records.specs.declared.module_record.ModuleRecord.{ModuleRecord}
@@ -172,7 +172,7 @@ module _ (n : Circuit) (active on : ℕ → Bool) where
       unset (Some r) = refl
 
   pub module_width_there : (r : ModuleRecord) → module_width (excerpt n active on) r ≡ module_width n r
-  module_width_there r = ap (λ width. cond (has_width r.kind) width 1) (width_there (input_at r 0).wire.0)
+  module_width_there r = ap (width_from r.kind) (width_there (input_at r 0).wire.0)
 
   pub built_there : (r : ModuleRecord) → built (excerpt n active on) r ≡ built n r
   built_there r = ap (λ width. any_part_of r.kind r.params width) (module_width_there r)

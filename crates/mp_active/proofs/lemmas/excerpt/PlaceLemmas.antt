@@ -4,8 +4,9 @@ use Rattle.std.specs.Prelude.{◌&&◌, ◌==◌, IsSome, IfSome}
 use Rattle.std.proofs.lemmas.Bool.{cases_Bool, and_parts, eqb-true, eq-eqb, lt-ltb, ltb-true}
 use Rattle.std.proofs.lemmas.Option.{none-some, same_Some, cond_some}
 use Rattle.mp_modules.specs.declared.memory.Memory.{Memory}
-use Rattle.mp_modules.specs.Kinds.{output_width, wide_outputs}
+use Rattle.mp_modules.specs.Kinds.{output_width}
 use Rattle.mp_modules.specs.declared.storage.any_module.AnyModule.{AnyModule}
+use Rattle.mp_modules.proofs.KindLemmas.{narrow_output}
 use Rattle.mp_records.specs.declared.ids.WireId.{WireId}
 use Rattle.mp_records.specs.declared.ports.Output.{Output}
 use Rattle.mp_records.specs.declared.wire_record.WireRecord.{WireRecord}
@@ -102,10 +103,6 @@ data_by : (slot : Option WireRecord) (k : ℕ) → IsSome slot → width_of slot
 data_by None k some is = cc
 data_by (Some r) k some is = ap (λ v. not (v == 1)) is
 
-one_if : (b : Bool) (k : ℕ) → k ≡ 1 → cond b k 1 ≡ 1
-one_if true k one = one
-one_if false k one = refl
-
 width_driven : (n : Circuit) (o : Option WireId) (w k : ℕ) → IfSome o (λ v. HasWidth n v.0 k) → o ≡ Some (record { 0 = w }) → HasWidth n w k
 width_driven n None w k has is = cc
 width_driven n (Some v) w k has is = subst (λ (x : WireId). HasWidth n x.0 k) (same_Some v (record { 0 = w }) is) has
@@ -116,7 +113,7 @@ bit_driven n ok m p w r at narrow drives =
     let output : (output_at r p).wire ≡ Some (record { 0 = w }) = subst (λ (s : ModuleRecord). (output_at s p).wire ≡ Some (record { 0 = w })) (same_part n m drives.part r drives.stands at) drives.output in
     let has : HasWidth n w (output_width r.kind (module_width n r) p) =
     width_driven n (output_at r p).wire w (output_width r.kind (module_width n r) p) ((ok.modules_ok m r at).drives p) output in
-    let one : output_width r.kind (module_width n r) p ≡ 1 = one_if (nat_lt p (wide_outputs r.kind)) (module_width n r) (eqb-true (module_width n r) 1 narrow) in
+    let one : output_width r.kind (module_width n r) p ≡ 1 = narrow_output r.kind (module_width n r) p (eqb-true (module_width n r) 1 narrow) in
     let none : is_data n w ≡ false = data_by (wire_at n w) (output_width r.kind (module_width n r) p) has.0 has.1 ∙ ap not (eq-eqb (output_width r.kind (module_width n r) p) 1 one) in
     both (nat_lt w (length n.wires)) (is_data n w) (lt-ltb w (length n.wires) (wire_within (wire_at n w) refl has.0)) none
   where

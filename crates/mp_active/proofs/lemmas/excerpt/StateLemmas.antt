@@ -16,8 +16,8 @@ IsRest word = (u : UnitState) × (u.events ≡ no_events) × (word ≡ number_of
 pub asleep_rests : (word : ℕ) → IsAsleep word → IsRest word
 asleep_rests word is = (is.unit, is.quiet, is.is)
 
-rest_low : (word : ℕ) → IsRest word → word < 1728
-rest_low word rest = subst (λ k. k < 1728) (sym rest.2) (number_low rest.0)
+rest_low : (word : ℕ) → IsRest word → word < 2112
+rest_low word rest = subst (λ k. k < 2112) (sym rest.2) (number_low rest.0)
 
 rest_none : (word : ℕ) → IsRest word → word % 16 ≡ 0
 rest_none word rest = ap (λ k. k % 16) rest.2 ∙ events_part rest.0 ∙ ap events_code rest.1
@@ -46,7 +46,7 @@ module _ (states new : List AutomatonState) (due : List ℕ) (moved : ℕ → Bo
   adding_new = record {
     placed = λ k d within. let no : ⊥ = omega (arith, within) in absurd no;
     events = λ k d within. let no : ⊥ = omega (arith, within) in absurd no;
-    low = word_by (λ word. word < 1728) (λ q here. rest_low (state_at new q) (rest q here)) adding.low;
+    low = word_by (λ word. word < 2112) (λ q here. rest_low (state_at new q) (rest q here)) adding.low;
     room = λ q. let none = no_events_new q in omega (arith, none);
     once = λ q. ap (listed q) none ∙ sym (ap (λ k. cond (k == 0) 0 1) (no_events_new q));
   }

@@ -4,7 +4,7 @@ use Rattle.mp_questions.specs.timing.Events.{since}
 use Rattle.mp_questions.specs.timing.Waits.{given}
 use Rattle.mp_check.specs.Dead.{last_unit}
 use Rattle.mp_check.specs.Quiet.{are_all_still}
-use Rattle.mp_check.proofs.PortLemmas.{few_outputs}
+use Rattle.mp_modules.proofs.KindLemmas.{few_outputs}
 use Rattle.mp_check.proofs.QuietLemmas.{outputs_still, mark_is}
 use Rattle.mp_check.proofs.quiet.is_still_in_run.Goals as goal
 

@@ -2,7 +2,7 @@
 use Rattle.std.proofs.Common.{◌≡◌, ◌⊎◌, ℕ, ◌+◌, ◌<◌, ◌≤◌, cond, Option, Some, None, IsSome, length, zero, suc, refl, ap, sym, subst, ◌∙◌, arith, inl, inr}
 use Rattle.std.proofs.lemmas.Bool.{cases_lt}
 use Rattle.mp_modules.specs.declared.memory.Memory.{Memory}
-use Rattle.mp_modules.specs.Kinds.{has_width}
+use Rattle.mp_modules.specs.Kinds.{width_from}
 use Rattle.mp_modules.proofs.KindLemmas.{some_input}
 use Rattle.mp_modules.specs.storage.AnyModules.{any_part_of, settle, step}
 use Rattle.mp_records.specs.declared.wire_record.WireRecord.{WireRecord}
@@ -34,7 +34,7 @@ module _ (old new : Circuit) (old_ok : IsCircuit old) (new_ok : IsCircuit new) (
       let now = new_ok.modules_ok m r kept.after in
       let some : 0 < length r.inputs = omega (arith, was.inputs, some_input r.kind) in
       let w = (input_at r 0).wire.0 in
-      ap (λ k. cond (has_width r.kind) k 1)
+      ap (width_from r.kind)
       (widths_same old new revised w (wire_at old w) (wire_at new w) refl refl (was.reads 0 no_input some).0 (now.reads 0 no_input some).0)
 
   pub built_same : built old r ≡ built new r

@@ -1,6 +1,7 @@
 -- Levels of one bit.
 use Rattle.std.proofs.Common.{◌≡◌, ℕ, ◌+◌, ◌-◌, ◌≤◌, ◌/◌, ◌%◌, ◌^◌, Bool, true, false, not, cond, refl, ne_eqb, ap, arith}
-use Rattle.std.specs.Prelude.{◌==◌, bit_xor}
+use Rattle.std.specs.Prelude.{◌==◌, ◌&&◌, nat_lt, bit_and, bit_or, bit_xor}
+use Rattle.std.proofs.lemmas.Bool.Decides.{nat_tests}
 use Rattle.mp_modules.specs.Quiet.{unchanged}
 use Rattle.mp_kernel.specs.automata.Reactions.{differ}
 use Rattle.mp_kernel.specs.automata.Codes.{bit}
@@ -23,7 +24,7 @@ pub inverted : (a b : ℕ) → a ≤ 1 → b ≤ 1 → not (1 - a == 1 - b) ≡ 
 inverted a b ha hb = grind arith
 
 pub merges : (a b c d : ℕ) → a ≤ 1 → b ≤ 1 → c ≤ 1 → d ≤ 1 →
-    not (cond (a == b) 0 1 == cond (c == d) 0 1) ≡ differ (not (a == c)) (not (b == d))
+    not (cond (not (a == b)) 1 0 == cond (not (c == d)) 1 0) ≡ differ (not (a == c)) (not (b == d))
 merges a b c d ha hb hc hd = grind arith
 
 pub adds : (a b k : ℕ) → a ≤ 1 → b ≤ 1 → not ((a + k) % 2 == (b + k) % 2) ≡ not (a == b)
@@ -32,6 +33,10 @@ adds a b k ha hb = grind arith
 pub sums : (a b c d : ℕ) → a ≤ 1 → b ≤ 1 → c ≤ 1 → d ≤ 1 →
     not ((a + b) % 2 == (c + d) % 2) ≡ differ (not (a == c)) (not (b == d))
 sums a b c d ha hb hc hd = grind arith
+
+pub subtracts : (a b c d : ℕ) → a ≤ 1 → b ≤ 1 → c ≤ 1 → d ≤ 1 →
+    not ((a + (2 ^ 64 - b)) % 2 == (c + (2 ^ 64 - d)) % 2) ≡ differ (not (a == c)) (not (b == d))
+subtracts a b c d ha hb hc hd = grind arith
 
 pub moved : (a b c : ℕ) → a ≤ 1 → b ≤ 1 → c ≤ 1 → differ (not (a == c)) (not (a == b)) ≡ not (b == c)
 moved a b c ha hb hc = grind arith
@@ -42,6 +47,58 @@ both_moved a b c d ha hb hc hd = grind arith
 
 pub moved_one : (a b : ℕ) → a ≤ 1 → b ≤ 1 → differ (a == 1) (not (a == b)) ≡ (b == 1)
 moved_one a b ha hb = grind arith
+
+pub moved_zero : (a b : ℕ) → a ≤ 1 → b ≤ 1 → differ (a == 0) (not (a == b)) ≡ (b == 0)
+moved_zero a b ha hb = grind arith
+
+-- a bit changes where what it says does
+says : (p q : Bool) → not (bit p == bit q) ≡ differ p q
+says true true = refl
+says true false = refl
+says false true = refl
+says false false = refl
+
+said_not : (p q : Bool) → not (bit (not p) == bit (not q)) ≡ differ p q
+said_not true true = refl
+said_not true false = refl
+said_not false true = refl
+said_not false false = refl
+
+-- AND, OR and LESS of two bits
+both : (a b : ℕ) → a ≤ 1 → b ≤ 1 → bit_and a b ≡ bit ((a == 1) && (b == 1))
+both a b ha hb = at (a == 1) (b == 1) (bits a _ refl ha) (bits b _ refl hb)
+  where
+    at : (p q : Bool) → a ≡ bit p → b ≡ bit q → bit_and a b ≡ bit ((a == 1) && (b == 1))
+    at true true is_a is_b = rw (is_a, is_b) refl
+    at true false is_a is_b = rw (is_a, is_b) refl
+    at false true is_a is_b = rw (is_a, is_b) refl
+    at false false is_a is_b = rw (is_a, is_b) refl
+
+either : (a b : ℕ) → a ≤ 1 → b ≤ 1 → bit_or a b ≡ bit (not ((a == 0) && (b == 0)))
+either a b ha hb = at (a == 1) (b == 1) (bits a _ refl ha) (bits b _ refl hb)
+  where
+    at : (p q : Bool) → a ≡ bit p → b ≡ bit q → bit_or a b ≡ bit (not ((a == 0) && (b == 0)))
+    at true true is_a is_b = rw (is_a, is_b) refl
+    at true false is_a is_b = rw (is_a, is_b) refl
+    at false true is_a is_b = rw (is_a, is_b) refl
+    at false false is_a is_b = rw (is_a, is_b) refl
+
+pub ands : (a b c d : ℕ) → a ≤ 1 → b ≤ 1 → c ≤ 1 → d ≤ 1 →
+    not (bit_and a b == bit_and c d) ≡ differ ((a == 1) && (b == 1)) ((c == 1) && (d == 1))
+ands a b c d ha hb hc hd = rw (both a b ha hb, both c d hc hd) (says ((a == 1) && (b == 1)) ((c == 1) && (d == 1)))
+
+pub ors : (a b c d : ℕ) → a ≤ 1 → b ≤ 1 → c ≤ 1 → d ≤ 1 →
+    not (bit_or a b == bit_or c d) ≡ differ ((a == 0) && (b == 0)) ((c == 0) && (d == 0))
+ors a b c d ha hb hc hd = rw (either a b ha hb, either c d hc hd) (said_not ((a == 0) && (b == 0)) ((c == 0) && (d == 0)))
+
+pub compares : (a b c d : ℕ) → a ≤ 1 → b ≤ 1 → c ≤ 1 → d ≤ 1 →
+    not (cond (nat_lt a b) 1 0 == cond (nat_lt c d) 1 0) ≡ differ ((a == 0) && (b == 1)) ((c == 0) && (d == 1))
+compares a b c d ha hb hc hd = grind (arith, nat_tests)
+
+-- what a MUX gives moves with its choice, if the inputs differed, and with the input that is chosen then
+pub selects : (a b s c d t : ℕ) → a ≤ 1 → b ≤ 1 → s ≤ 1 → c ≤ 1 → d ≤ 1 → t ≤ 1 →
+    not (cond (s == 0) a b == cond (t == 0) c d) ≡ differ (not (s == t) && not (a == b)) (cond (t == 1) (not (b == d)) (not (a == c)))
+selects a b s c d t ha hb hs hc hd ht = grind arith
 
 masked_bits : (p q r : Bool) → not (bit_xor (bit q) (bit p) == bit_xor (bit r) (bit p)) ≡ not (bit q == bit r)
 masked_bits true true true = refl

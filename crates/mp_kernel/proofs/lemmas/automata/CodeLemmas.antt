@@ -3,7 +3,7 @@ use Rattle.std.proofs.Common.{◌≡◌, ℕ, ◌+◌, ◌*◌, ◌/◌, ◌%◌
 use Rattle.mp_modules.specs.declared.memory.Client.{Client}
 use Rattle.mp_modules.specs.declared.memory.Client.TheVariants.{Nobody, First, Second}
 use Rattle.mp_kernel.specs.declared.automata.automaton.Automaton.{Automaton}
-use Rattle.mp_kernel.specs.declared.automata.automaton.Automaton.TheVariants.{Follow, Merge, Join, Alternate, Choose, Serve, Grant, Hold, Sleep}
+use Rattle.mp_kernel.specs.declared.automata.automaton.Automaton.TheVariants.{Follow, Merge, Join, Alternate, Choose, Serve, Grant, Hold, Sleep, Meet, Pick}
 use Rattle.mp_kernel.specs.declared.automata.phase.Phase.{Phase}
 use Rattle.mp_kernel.specs.declared.automata.events.Events.{Events}
 use Rattle.mp_kernel.specs.automata.Codes.{bit, automaton_code, client_code, phase_code, events_code, state_code}
@@ -18,7 +18,7 @@ served_low Nobody = omega arith
 served_low First = omega arith
 served_low Second = omega arith
 
-pub place_low : (a : Automaton) → automaton_code a ≤ 8
+pub place_low : (a : Automaton) → automaton_code a ≤ 10
 place_low Follow = omega arith
 place_low Merge = omega arith
 place_low Join = omega arith
@@ -28,6 +28,8 @@ place_low Serve = omega arith
 place_low Grant = omega arith
 place_low Hold = omega arith
 place_low Sleep = omega arith
+place_low Meet = omega arith
+place_low Pick = omega arith
 
 pub phase_low : (k : Phase) → phase_code k < 12
 phase_low k =
@@ -44,7 +46,7 @@ events_low e =
     let d = bit_low e.fourth in
     omega arith
 
-pub state_low : (a : Automaton) (k : Phase) (e : Events) → state_code a k e < 1728
+pub state_low : (a : Automaton) (k : Phase) (e : Events) → state_code a k e < 2112
 state_low a k e =
     let p = place_low a in
     let c = phase_low k in

@@ -99,21 +99,15 @@ follow m k x ins outs bits next held =
     ∙ sym (ap (λ (xs : List ℕ). ports_code (high_in xs) (high_outputs k)) held)
 
 core_inputs : (part : CoreModule) (m : Memory) (x : List ℕ) → (tables.step part m x).inputs ≡ input_levels x
-core_inputs core.Buf m x = refl
-core_inputs core.Not m x = refl
-core_inputs core.Xor m x = refl
 core_inputs (core.C c) m x = refl
-core_inputs core.Toggle m x = refl
-core_inputs core.Select m x = refl
-core_inputs core.Call m x = refl
-core_inputs core.Arbiter m x = refl
+core_inputs _ m x = refl
 
 -- a state holds the levels of its inputs
 pub step_inputs : (part : AnyModule) (m : Memory) (x : List ℕ) → (step part m x).inputs ≡ input_levels x
 unfolding step
 step_inputs (parts.Core part) m x = core_inputs part m x
 step_inputs (parts.Reg part) m x = refl
-step_inputs (parts.Computed part) m x = refl
+step_inputs (parts.Function part) m x = refl
 
 pub levels_follow : LevelsFollow
 levels_follow part m x of_bits s bits next =

@@ -7,21 +7,22 @@ use Rattle.mp_modules.specs.declared.memory.Client.TheVariants.{First, Second}
 use Rattle.mp_modules.specs.Memories.{output_of, seen, is_event}
 use Rattle.mp_modules.specs.Call as call
 use Rattle.mp_modules.specs.Arbiter as arbiter
-use Rattle.mp_modules.specs.declared.storage.computed.Computed.TheVariants as computed
+use Rattle.mp_modules.specs.declared.function.Function.{Function}
+use Rattle.mp_modules.specs.declared.function.Function.TheVariants as functions
 use Rattle.mp_modules.specs.declared.storage.any_module.AnyModule.TheVariants as parts
 use Rattle.mp_modules.specs.declared.storage.any_module.AnyModule.{AnyModule}
 use Rattle.mp_modules.specs.storage.AnyModules.{step}
-use Rattle.mp_kernel.specs.automata.BitModules.{AreBits, IsBitState, events_in}
+use Rattle.mp_kernel.specs.automata.BitModules.{AreBits, IsBitState, IsFunctionOfBits, events_in}
 use Rattle.mp_kernel.specs.automata.Automata.{automaton_of}
-use Rattle.mp_kernel.specs.automata.Phases.{phase_of}
+use Rattle.mp_kernel.specs.automata.Phases.{phase_of, unserved}
 use Rattle.mp_modules.specs.storage.Widths.{modulus}
 use Rattle.mp_modules.specs.declared.storage.reg.Reg.{Reg}
 use Rattle.mp_modules.specs.declared.rendezvous.Rendezvous.{Rendezvous}
 use Rattle.mp_modules.specs.CElement.{bubbled}
 use Rattle.mp_kernel.specs.automata.Reactions.{react, quiet, differ, choose, toggle_second_if, toggle_third_if}
 use Rattle.mp_kernel.specs.automata.AutomatonLaws.{ReactsAsModule, reaction_of}
-use Rattle.mp_kernel.proofs.lemmas.automata.BitLemmas.{inverted, merges, adds, sums, masks, kept_bits, moved, both_moved, moved_one}
-use Rattle.mp_kernel.proofs.lemmas.automata.SingleLemmas.{follows, joins}
+use Rattle.mp_kernel.proofs.lemmas.automata.BitLemmas.{inverted, merges, adds, sums, subtracts, masks, kept_bits, moved, both_moved, moved_one, moved_zero, ands, ors, compares, selects}
+use Rattle.mp_kernel.proofs.lemmas.automata.SingleLemmas.{follows, joins, meets, picks}
 use Rattle.mp_kernel.proofs.lemmas.automata.SteeredLemmas.{alternates, chooses, holds, same_hold}
 use Rattle.mp_kernel.proofs.lemmas.automata.ServedLemmas.{after, serves, grants, mirrored}
 
@@ -31,19 +32,6 @@ Reacts part m x = reaction_of part m x ≡ react (automaton_of part) (phase_of p
 
 outputs : {a b : Memory} → a ≡ b → b.outputs ≡ a.outputs
 outputs is = sym (ap (λ (k : Memory). k.outputs) is)
-
-buf : (m : Memory) (x : List ℕ) → IsBitState (parts.Core core.Buf) m → Reacts (parts.Core core.Buf) m x
-unfolding step react
-buf m x s = follows m x (slice_index m.inputs 0) (slice_index x 0) (is_event m x 0) (outputs s.stays) refl
-
-inverter : (m : Memory) (x : List ℕ) → IsBitState (parts.Core core.Not) m → AreBits x → Reacts (parts.Core core.Not) m x
-unfolding step react
-inverter m x s bits =
-    follows m x (1 - slice_index m.inputs 0) (1 - slice_index x 0) (is_event m x 0) (outputs s.stays) (inverted _ _ (s.inputs 0) (bits 0))
-
-xor : (m : Memory) (x : List ℕ) → IsBitState (parts.Core core.Xor) m → AreBits x → Reacts (parts.Core core.Xor) m x
-unfolding step react
-xor m x s bits = follows m x _ _ _ (outputs s.stays) (merges _ _ _ _ (s.inputs 0) (s.inputs 1) (bits 0) (bits 1))
 
 -- what CALL does by its rules
 called : (m : Memory) (x : List ℕ) → IsBitState (parts.Core core.Call) m → Reacts (parts.Core core.Call) m x
@@ -128,46 +116,54 @@ register reg m x s bits =
     own refl refl refl ∙
     ap (λ k. toggle_third_if (is_event m x 2) (toggle_second_if (is_event m x 1) k)) (sym (same_hold h f))
 
-adder : (k width : ℕ) (m : Memory) (x : List ℕ) → width ≡ 1 → IsBitState (parts.Computed (computed.AddC k width)) m → AreBits x →
-    Reacts (parts.Computed (computed.AddC k width)) m x
+-- the module of a function
+abbrev computing : Function → ℕ → ℕ → AnyModule
+computing f width k = parts.Function (record { function = f; width = width; constant = k })
+
+function_reacts : (f : Function) (width k : ℕ) (m : Memory) (x : List ℕ) → IsFunctionOfBits f width k → IsBitState (computing f width k) m → AreBits x →
+    Reacts (computing f width k) m x
 unfolding step react
-adder k width m x one s bits =
-    follows m x _ _ _ (outputs s.stays)
+function_reacts functions.Buf width k m x of_bits s bits = follows (unserved false false) m x _ _ _ (outputs s.stays) refl
+function_reacts functions.Not width k m x of_bits s bits = follows (unserved false false) m x _ _ _ (outputs s.stays) (inverted _ _ (s.inputs 0) (bits 0))
+function_reacts functions.Xor width k m x of_bits s bits =
+    follows (unserved false false) m x _ _ _ (outputs s.stays) (merges _ _ _ _ (s.inputs 0) (s.inputs 1) (bits 0) (bits 1))
+function_reacts functions.AddC width k m x one s bits =
+    follows (unserved false false) m x _ _ _ (outputs s.stays)
     (ap (λ w. not ((slice_index m.inputs 0 + k) % modulus w == (slice_index x 0 + k) % modulus w)) one ∙
     adds (slice_index m.inputs 0) (slice_index x 0) k (s.inputs 0) (bits 0))
-
-sum : (width : ℕ) (m : Memory) (x : List ℕ) → width ≡ 1 → IsBitState (parts.Computed (computed.Sum width)) m → AreBits x →
-    Reacts (parts.Computed (computed.Sum width)) m x
-unfolding step react
-sum width m x one s bits =
-    follows m x _ _ _ (outputs s.stays)
+function_reacts functions.XorC width k m x low s bits = follows (unserved false false) m x _ _ _ (outputs s.stays) (masks k _ _ low (s.inputs 0) (bits 0))
+function_reacts functions.Sum width k m x one s bits =
+    follows (unserved false false) m x _ _ _ (outputs s.stays)
     (ap (λ w. not ((slice_index m.inputs 0 + slice_index m.inputs 1) % modulus w == (slice_index x 0 + slice_index x 1) % modulus w)) one ∙
     sums _ _ _ _ (s.inputs 0) (s.inputs 1) (bits 0) (bits 1))
-
-masked : (mask : ℕ) (m : Memory) (x : List ℕ) → mask ≤ 1 → IsBitState (parts.Computed (computed.XorC mask)) m → AreBits x →
-    Reacts (parts.Computed (computed.XorC mask)) m x
-unfolding step react
-masked mask m x low s bits = follows m x _ _ _ (outputs s.stays) (masks mask _ _ low (s.inputs 0) (bits 0))
-
-bit_of : (place : ℕ) (m : Memory) (x : List ℕ) → place ≡ 0 → IsBitState (parts.Computed (computed.Bit place)) m → AreBits x →
-    Reacts (parts.Computed (computed.Bit place)) m x
-unfolding step react
-bit_of place m x none s bits =
-    follows m x _ _ _ (outputs s.stays)
+function_reacts functions.Bit width k m x none s bits =
+    follows (unserved false false) m x _ _ _ (outputs s.stays)
     (ap (λ p. not (slice_index m.inputs 0 / 2 ^ p % 2 == slice_index x 0 / 2 ^ p % 2)) none ∙
     kept_bits _ _ (s.inputs 0) (bits 0))
+function_reacts functions.And width k m x of_bits s bits =
+    meets m x _ _ _ _ _ _ _ _ (outputs s.stays) (moved_one _ _ (s.inputs 0) (bits 0)) (moved_one _ _ (s.inputs 1) (bits 1))
+    (ands _ _ _ _ (s.inputs 0) (s.inputs 1) (bits 0) (bits 1))
+function_reacts functions.Or width k m x of_bits s bits =
+    meets m x _ _ _ _ _ _ _ _ (outputs s.stays) (moved_zero _ _ (s.inputs 0) (bits 0)) (moved_zero _ _ (s.inputs 1) (bits 1))
+    (ors _ _ _ _ (s.inputs 0) (s.inputs 1) (bits 0) (bits 1))
+function_reacts functions.Sub width k m x one s bits =
+    follows (unserved false false) m x _ _ _ (outputs s.stays)
+    (ap (λ w. not ((slice_index m.inputs 0 + (2 ^ 64 - slice_index m.inputs 1)) % modulus w == (slice_index x 0 + (2 ^ 64 - slice_index x 1)) % modulus w)) one ∙
+    subtracts _ _ _ _ (s.inputs 0) (s.inputs 1) (bits 0) (bits 1))
+function_reacts functions.Less width k m x of_bits s bits =
+    meets m x _ _ _ _ _ _ _ _ (outputs s.stays) (moved_zero _ _ (s.inputs 0) (bits 0)) (moved_one _ _ (s.inputs 1) (bits 1))
+    (compares _ _ _ _ (s.inputs 0) (s.inputs 1) (bits 0) (bits 1))
+function_reacts functions.Mux width k m x of_bits s bits =
+    picks m x _ _ _ _ _ _ _ _ _ (outputs s.stays) (moved_one _ _ (s.inputs 2) (bits 2))
+    (both_moved _ _ _ _ (s.inputs 0) (s.inputs 1) (bits 0) (bits 1))
+    (selects _ _ _ _ _ _ (s.inputs 0) (s.inputs 1) (s.inputs 2) (bits 0) (bits 1) (bits 2))
+function_reacts functions.Join width k m x none s bits = absurd none
 
 pub reacts_as_module : ReactsAsModule
-reacts_as_module (parts.Core core.Buf) m x of_bits s bits = buf m x s
-reacts_as_module (parts.Core core.Not) m x of_bits s bits = inverter m x s bits
-reacts_as_module (parts.Core core.Xor) m x of_bits s bits = xor m x s bits
 reacts_as_module (parts.Core (core.C c)) m x of_bits s bits = rendezvous c m x s bits
 reacts_as_module (parts.Core core.Toggle) m x of_bits s bits = toggle m x s
 reacts_as_module (parts.Core core.Select) m x of_bits s bits = select m x s bits
 reacts_as_module (parts.Core core.Call) m x of_bits s bits = called m x s
 reacts_as_module (parts.Core core.Arbiter) m x of_bits s bits = arbitrated m x s
 reacts_as_module (parts.Reg reg) m x of_bits s bits = register reg m x s bits
-reacts_as_module (parts.Computed (computed.AddC k width)) m x of_bits s bits = adder k width m x of_bits s bits
-reacts_as_module (parts.Computed (computed.XorC mask)) m x of_bits s bits = masked mask m x of_bits s bits
-reacts_as_module (parts.Computed (computed.Sum width)) m x of_bits s bits = sum width m x of_bits s bits
-reacts_as_module (parts.Computed (computed.Bit place)) m x of_bits s bits = bit_of place m x of_bits s bits
+reacts_as_module (parts.Function part) m x of_bits s bits = function_reacts part.function part.width part.constant m x of_bits s bits

@@ -3,47 +3,31 @@ use Rattle.std.proofs.Common.{◌≡◌, ℕ, List, refl}
 use Rattle.mp_modules.specs.declared.memory.Memory.{Memory}
 use Rattle.mp_modules.specs.storage.AnyModules.{settle, step}
 use Rattle.mp_kernel.specs.declared.datapath.data_part.DataPart.{DataPart}
-use Rattle.mp_kernel.specs.declared.datapath.data_part.DataPart.TheVariants.{Buf, Reg, AddC, XorC, Sum, Bit}
+use Rattle.mp_kernel.specs.declared.datapath.data_part.DataPart.TheVariants.{Reg, Function}
 use Rattle.mp_kernel.specs.datapath.DataParts.{any_part, outputs_in, next_outputs, memory_with, IsToldByOutputs}
 
 -- the outputs of a step after one at time 0
 pub first_step : (part : DataPart) (x y : List ℕ) → outputs_in (step (any_part part) (settle (any_part part) x) y) ≡ next_outputs part (outputs_in (settle (any_part part) x)) y
 unfolding settle step
-first_step Buf x y = refl
 first_step (Reg initial) x y = refl
-first_step (AddC width addend) x y = refl
-first_step (XorC mask) x y = refl
-first_step (Sum width) x y = refl
-first_step (Bit place) x y = refl
+first_step (Function function width constant) x y = refl
 
 -- and of one after another
 pub later_step : (part : DataPart) (memory : Memory) (x y : List ℕ) →
     outputs_in (step (any_part part) (step (any_part part) memory x) y) ≡ next_outputs part (outputs_in (step (any_part part) memory x)) y
 unfolding step
-later_step Buf memory x y = refl
 later_step (Reg initial) memory x y = refl
-later_step (AddC width addend) memory x y = refl
-later_step (XorC mask) memory x y = refl
-later_step (Sum width) memory x y = refl
-later_step (Bit place) memory x y = refl
+later_step (Function function width constant) memory x y = refl
 
 settled_with : (part : DataPart) (x : List ℕ) → settle (any_part part) x ≡ memory_with (outputs_in (settle (any_part part) x)) x
 unfolding settle
-settled_with Buf x = refl
 settled_with (Reg initial) x = refl
-settled_with (AddC width addend) x = refl
-settled_with (XorC mask) x = refl
-settled_with (Sum width) x = refl
-settled_with (Bit place) x = refl
+settled_with (Function function width constant) x = refl
 
 stepped_with : (part : DataPart) (memory : Memory) (x : List ℕ) → step (any_part part) memory x ≡ memory_with (outputs_in (step (any_part part) memory x)) x
 unfolding step
-stepped_with Buf memory x = refl
 stepped_with (Reg initial) memory x = refl
-stepped_with (AddC width addend) memory x = refl
-stepped_with (XorC mask) memory x = refl
-stepped_with (Sum width) memory x = refl
-stepped_with (Bit place) memory x = refl
+stepped_with (Function function width constant) memory x = refl
 
 pub told_by_outputs : (part : DataPart) → IsToldByOutputs part
 told_by_outputs part = record { settled = settled_with part; stepped = stepped_with part }

@@ -30,7 +30,7 @@ at_set states i m v false within is =
     ap (λ (s : AutomatonState). s.0) (get_or-set_other states i m v (record { 0 = 0 }) other)
 
 -- a number within its sixteen
-pub rises : (s e : ℕ) → s < 1728 → s % 16 + e < 16 → s + e < 1728
+pub rises : (s e : ℕ) → s < 2112 → s % 16 + e < 16 → s + e < 2112
 rises s e low room = omega arith
 
 pub rest_of : (s e : ℕ) → s % 16 + e < 16 → (s + e) % 16 ≡ s % 16 + e
@@ -51,7 +51,7 @@ now_at states new l m true h within is =
 now_at states new l m false h within is =
     ap (λ xs. state_at xs m) h.is ∙ at_set states l.module m _ false within is ∙ omega arith
 
-step_low : (s x d : ℕ) → x ≡ s + d → s % 16 + d < 16 → s < 1728 → x < 1728
+step_low : (s x d : ℕ) → x ≡ s + d → s % 16 + d < 16 → s < 2112 → x < 2112
 step_low s x d is room low = omega arith
 
 step_room : (x : ℕ) → x % 16 + 0 < 16
@@ -109,7 +109,7 @@ adds states l s new within is added =
     record { is = ap (λ (k : ℕ). slice_set states l.module (let state : AutomatonState = record { 0 = k } in state)) sum }
 
 pub fits : (states : List AutomatonState) (due : List ℕ) (l : FanoutEntry) (s : AutomatonState) → IsAdding states due (l ∷ []) → s ≡ slice_index_or states l.module s →
-    s.0 + l.event < 1728
+    s.0 + l.event < 2112
 fits states due l s h is =
     let here = found states l.module s (placed_head h) is in
     let room = room_of states l l.module true (eq-eqb l.module l.module refl) (h.room l.module) in

@@ -3,7 +3,7 @@ use Rattle.std.proofs.Common.{◌≡◌, ℕ, ◌<◌, true, false, cond, List, 
 use Rattle.std.specs.Prelude.{IsSome, Contains}
 use Rattle.std.proofs.lemmas.Bool.{cases_Bool, eqb-true, eq-eqb}
 use Rattle.std.proofs.lemmas.List.{get_or-map}
-use Rattle.mp_modules.specs.Kinds.{has_width}
+use Rattle.mp_modules.specs.Kinds.{width_from}
 use Rattle.mp_modules.proofs.KindLemmas.{some_input}
 use Rattle.mp_modules.specs.storage.AnyModules.{any_part_of}
 use Rattle.mp_records.specs.declared.ids.WireId.{WireId}
@@ -177,7 +177,7 @@ module _ (n s : Circuit) (pick : Picking) (levels : ℕ → ℕ → ℕ) (is : I
   module_width_there k r at ok =
       let some : 0 < length r.inputs = omega (arith, ok.inputs, some_input r.kind) in
       let first : input_at (placed pick.place_of r) 0 ≡ placed_input pick.place_of (input_at r 0) = get_or-map (placed_input pick.place_of) r.inputs 0 no_input no_input some in
-      ap (λ width. cond (has_width r.kind) width 1)
+      ap (width_from r.kind)
       (ap (λ (i : Input). width_of (wire_at s i.wire.0)) first ∙ width_placed (input_at r 0).wire.0 (reads_at k r 0 no_input at some))
 
   pub built_there : (k : ℕ) (r : ModuleRecord) → module_at n (pick.module_of k) ≡ Some r → IsModule n r → built s (placed pick.place_of r) ≡ built n r

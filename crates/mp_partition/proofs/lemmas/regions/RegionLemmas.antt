@@ -4,7 +4,7 @@ use Rattle.std.specs.Prelude.{IsSome, IfSome, IsTrue}
 use Rattle.std.proofs.lemmas.Bool.{cases_eq, cases_Bool, eq-eqb, ne_eqb, lt-ltb, and_parts}
 use Rattle.mp_wave.specs.Waveform.{changes_after, last_time}
 use Rattle.mp_wave.proofs.ChangesLemmas.{last_time-changes_after}
-use Rattle.mp_modules.specs.Kinds.{has_width, input_width, output_width, are_params}
+use Rattle.mp_modules.specs.Kinds.{width_from, input_width, output_width, are_params}
 use Rattle.mp_modules.specs.Levels.{fits_width}
 use Rattle.mp_records.specs.declared.wire_record.WireRecord.{WireRecord}
 use Rattle.mp_records.specs.declared.module_record.ModuleRecord.{ModuleRecord}
@@ -159,7 +159,7 @@ module _ (n : Circuit) (homes : List ℕ) (part : ℕ) (heard : List Bool) where
       by (Some r) = refl
 
   pub module_width_there : (r : ModuleRecord) → module_width (region n homes part heard) r ≡ module_width n r
-  module_width_there r = ap (λ width. cond (has_width r.kind) width 1) (width_there (input_at r 0).wire.0)
+  module_width_there r = ap (width_from r.kind) (width_there (input_at r 0).wire.0)
 
   pub widths_there : (w : ℕ) → width_in (wire_at (region n homes part heard) w) ≡ width_in (wire_at n w)
   widths_there w = same_by width_in w (by (wire_at n w))

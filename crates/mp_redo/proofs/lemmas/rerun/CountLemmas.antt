@@ -5,9 +5,7 @@ use Rattle.std.proofs.lemmas.List.{length-map}
 use Rattle.std.proofs.lemmas.List.Sums.{count_by-le-length}
 use Rattle.std.proofs.lemmas.Bool.{cases_Bool}
 use Rattle.std.proofs.lemmas.Option.{none-some}
-use Rattle.mp_modules.specs.declared.kind.Kind.{Kind}
-use Rattle.mp_modules.specs.declared.kind.Kind.TheVariants as kinds
-use Rattle.mp_modules.specs.Kinds.{input_count}
+use Rattle.mp_modules.proofs.KindLemmas.{few_inputs}
 use Rattle.mp_records.specs.declared.module_record.ModuleRecord.{ModuleRecord}
 use Rattle.mp_netlist.specs.Circuit.{Circuit, IsCircuit, module_at}
 use Rattle.mp_netlist.specs.Slots.{slot_at}
@@ -48,10 +46,6 @@ module _ (active after : ℕ → Bool) (numbering : Numbering) (x : ℕ) where
         let one = reads_alike first slot (others first (λ same. let no : ⊥ = omega (arith, same, here) in no)) in
         let rest = readers_more (first + 1) k slots (omega (arith, here)) at in
         omega (arith, one, rest)
-
-few_inputs : (kind : Kind) → input_count kind ≤ 4
-few_inputs kinds.Buf = omega arith
-few_inputs _ = omega arith
 
 inputs_short : (n : Circuit) → IsCircuit n → (m : ℕ) (r : ModuleRecord) → module_at n m ≡ Some r → length r.inputs ≤ 4
 inputs_short n ok m r at = let same = (ok.modules_ok m r at).inputs in let few = few_inputs r.kind in omega arith

@@ -3,6 +3,7 @@ use Rattle.std.proofs.Common.{◌≡◌, length, refl, arith}
 use Rattle.std.specs.List.{Contains}
 use Rattle.mp_modules.specs.declared.kind.Kind.{Kind}
 use Rattle.mp_modules.specs.declared.kind.Kind.TheVariants as kinds
+use Rattle.mp_modules.specs.declared.function.Function.TheVariants as functions
 use Rattle.mp_modules.specs.declared.finding_code.FindingCode.{FindingCode}
 use Rattle.mp_modules.specs.declared.finding_code.FindingCode.TheVariants as found
 use Rattle.mp_records.specs.declared.edit_error.EditError.{EditError}
@@ -18,7 +19,7 @@ use Rattle.mp_request.specs.declared.explain.topic.Topic.TheVariants.{Text, Edit
 use Rattle.mp_request.specs.explain.Laws.{TellsOfEach, titles}
 use Rattle.mp_request.specs.explain.Subjects.{title}
 
-many : length titles ≡ 68
+many : length titles ≡ 74
 many = refl
 
 text_told : (code : TextCode) → Contains titles (title (Text code))
@@ -86,19 +87,25 @@ check_told words.Unread = (52, omega (arith, many), refl)
 check_told words.Busy = (53, omega (arith, many), refl)
 
 kind_told : (kind : Kind) → Contains titles (title (OfKind kind))
-kind_told kinds.Buf = (54, omega (arith, many), refl)
-kind_told kinds.Not = (55, omega (arith, many), refl)
-kind_told kinds.Xor = (56, omega (arith, many), refl)
+kind_told (kinds.Function functions.Buf) = (54, omega (arith, many), refl)
+kind_told (kinds.Function functions.Not) = (55, omega (arith, many), refl)
+kind_told (kinds.Function functions.Xor) = (56, omega (arith, many), refl)
 kind_told kinds.C = (57, omega (arith, many), refl)
 kind_told kinds.Toggle = (58, omega (arith, many), refl)
 kind_told kinds.Select = (59, omega (arith, many), refl)
 kind_told kinds.Call = (60, omega (arith, many), refl)
 kind_told kinds.Arbiter = (61, omega (arith, many), refl)
 kind_told kinds.Reg = (62, omega (arith, many), refl)
-kind_told kinds.AddC = (63, omega (arith, many), refl)
-kind_told kinds.XorC = (64, omega (arith, many), refl)
-kind_told kinds.Sum = (65, omega (arith, many), refl)
-kind_told kinds.Bit = (66, omega (arith, many), refl)
+kind_told (kinds.Function functions.AddC) = (63, omega (arith, many), refl)
+kind_told (kinds.Function functions.XorC) = (64, omega (arith, many), refl)
+kind_told (kinds.Function functions.Sum) = (65, omega (arith, many), refl)
+kind_told (kinds.Function functions.Bit) = (66, omega (arith, many), refl)
+kind_told (kinds.Function functions.And) = (67, omega (arith, many), refl)
+kind_told (kinds.Function functions.Or) = (68, omega (arith, many), refl)
+kind_told (kinds.Function functions.Sub) = (69, omega (arith, many), refl)
+kind_told (kinds.Function functions.Less) = (70, omega (arith, many), refl)
+kind_told (kinds.Function functions.Mux) = (71, omega (arith, many), refl)
+kind_told (kinds.Function functions.Join) = (72, omega (arith, many), refl)
 
 pub tells_of_each : TellsOfEach
 tells_of_each (Text code) = text_told code
@@ -107,4 +114,4 @@ tells_of_each (Seat code) = seat_told code
 tells_of_each (Finding code) = finding_told code
 tells_of_each (Check word) = check_told word
 tells_of_each (OfKind kind) = kind_told kind
-tells_of_each Steady = (67, omega (arith, many), refl)
+tells_of_each Steady = (73, omega (arith, many), refl)

@@ -1,5 +1,5 @@
 -- Whom modules of width 1 serve.
-use Rattle.std.proofs.Common.{◌≡◌, ℕ, zero, suc, ◌+◌, Bool, true, false, cond, List, Some, refl, sym, ◌∙◌, arith, subst}
+use Rattle.std.proofs.Common.{◌≡◌, ℕ, zero, suc, ◌+◌, Bool, true, false, cond, List, slice_index, Some, refl, sym, ◌∙◌, arith, subst}
 use Rattle.mp_modules.specs.declared.core_module.CoreModule.{CoreModule}
 use Rattle.mp_modules.specs.declared.core_module.CoreModule.TheVariants as core
 use Rattle.mp_modules.specs.declared.memory.Memory.{Memory}
@@ -7,9 +7,8 @@ use Rattle.mp_modules.specs.Memories.{is_event, flipped, seen}
 use Rattle.mp_modules.specs.Toggle.{turn}
 use Rattle.mp_modules.specs.Select.{chosen}
 use Rattle.mp_modules.specs.Tables as tables
-use Rattle.mp_modules.specs.declared.storage.computed.Computed.{Computed}
-use Rattle.mp_modules.specs.declared.storage.computed.Computed.TheVariants as computed
-use Rattle.mp_modules.specs.storage.Computed as parts_computed
+use Rattle.mp_modules.specs.declared.function.Function.{Function}
+use Rattle.mp_modules.specs.declared.function.Function.TheVariants as functions
 use Rattle.mp_modules.specs.declared.storage.any_module.AnyModule.{AnyModule}
 use Rattle.mp_modules.specs.declared.storage.any_module.AnyModule.TheVariants as parts
 use Rattle.mp_modules.specs.storage.AnyModules.{start, step}
@@ -19,8 +18,8 @@ use Rattle.mp_model.specs.Levels.{built, inputs_by}
 use Rattle.mp_model.specs.Waves.{level, state}
 use Rattle.mp_model.proofs.BehaviourLemmas.{satisfies}
 use Rattle.mp_model.proofs.StepLemmas.{settle_steps}
-use Rattle.mp_kernel.specs.automata.Automata.{automaton_of}
-use Rattle.mp_kernel.specs.automata.Phases.{unserved, phase_of, clients_in}
+use Rattle.mp_kernel.specs.automata.Automata.{automaton_of, function_automaton}
+use Rattle.mp_kernel.specs.automata.Phases.{unserved, phase_of, phase_at, clients_in}
 use Rattle.mp_kernel.specs.automata.BitModules.{clients_of}
 
 abbrev HasClients : AnyModule → Memory → Type 0
@@ -32,48 +31,32 @@ still_none true port m x none = none
 still_none false port m x none = none
 
 core_clients : (part : CoreModule) (m : Memory) (x : List ℕ) → HasClients (parts.Core part) m → HasClients (parts.Core part) (tables.step part m x)
-core_clients core.Buf m x has = refl
-core_clients core.Not m x has = refl
-core_clients core.Xor m x has = refl
 core_clients (core.C c) m x has = refl
 core_clients core.Toggle m x has = still_none (is_event m x 0) (turn m) m x has
 core_clients core.Select m x has = still_none (is_event m x 0) (chosen x) m x has
 core_clients core.Call m x has = refl
 core_clients core.Arbiter m x has = refl
 
-computed_clients : (part : Computed) (m : Memory) (x : List ℕ) → HasClients (parts.Computed part) (parts_computed.step part m x)
-computed_clients (computed.AddC addend width) m x = refl
-computed_clients (computed.XorC mask) m x = refl
-computed_clients (computed.Sum width) m x = refl
-computed_clients (computed.Bit place) m x = refl
+-- a function has no clients
+no_clients : (f : Function) (a b s : ℕ) → unserved false false ≡ clients_in (function_automaton f) (phase_at f a b s)
+no_clients functions.Buf a b s = refl
+no_clients _ a b s = refl
 
 step_clients : (part : AnyModule) (m : Memory) (x : List ℕ) → HasClients part m → HasClients part (step part m x)
 unfolding step
 step_clients (parts.Core part) m x has = core_clients part m x has
 step_clients (parts.Reg part) m x has = refl
-step_clients (parts.Computed part) m x has = computed_clients part m x
+step_clients (parts.Function part) m x has = no_clients part.function (slice_index x 0) (slice_index x 1) (slice_index x 2)
 
 core_start : (part : CoreModule) (x : List ℕ) → HasClients (parts.Core part) (seen x (tables.start part))
-core_start core.Buf x = refl
-core_start core.Not x = refl
-core_start core.Xor x = refl
 core_start (core.C c) x = refl
-core_start core.Toggle x = refl
-core_start core.Select x = refl
-core_start core.Call x = refl
-core_start core.Arbiter x = refl
-
-computed_start : (part : Computed) (x : List ℕ) → HasClients (parts.Computed part) (seen x (parts_computed.start part))
-computed_start (computed.AddC addend width) x = refl
-computed_start (computed.XorC mask) x = refl
-computed_start (computed.Sum width) x = refl
-computed_start (computed.Bit place) x = refl
+core_start _ x = refl
 
 start_clients : (part : AnyModule) (x : List ℕ) → HasClients part (seen x (start part))
 unfolding start
 start_clients (parts.Core part) x = core_start part x
 start_clients (parts.Reg part) x = refl
-start_clients (parts.Computed part) x = computed_start part x
+start_clients (parts.Function part) x = no_clients part.function (slice_index x 0) (slice_index x 1) (slice_index x 2)
 
 -- a module whose kind has no clients serves nobody
 pub clients_at : (n : Circuit) → IsCircuit n → (m t : ℕ) (r : ModuleRecord) → module_at n m ≡ Some r → HasClients (built n r) (state n m t)

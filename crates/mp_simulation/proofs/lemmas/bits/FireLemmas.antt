@@ -89,7 +89,7 @@ numbered_then : (idle : Bool) (u : UnitState) (x : ℕ) → x ≡ number_of u �
 numbered_then true u x is = is
 numbered_then false u x is = refl
 
-low_when : (x : ℕ) (u : UnitState) (low : Bool) (q size : ℕ) → nat_lt q size ≡ low → (q < size → x ≡ number_of u) → (size ≤ q → x ≡ 0) → x < 1728
+low_when : (x : ℕ) (u : UnitState) (low : Bool) (q size : ℕ) → nat_lt q size ≡ low → (q < size → x ≡ number_of u) → (size ≤ q → x ≡ 0) → x < 2112
 low_when x u true q size is numbered none =
     let within : q < size = grind (arith, nat_tests) in
     let same = numbered within in

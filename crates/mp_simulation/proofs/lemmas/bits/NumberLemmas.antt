@@ -48,7 +48,7 @@ no_events_when e none = sym (events_of_code e) ∙ ap events_with none
 pub events_part : (u : UnitState) → number_of u % 16 ≡ events_code u.events
 events_part u = events_back (automaton_code u.automaton) (phase_code u.phase) (events_code u.events) (phase_low u.phase) (events_low u.events)
 
-pub number_low : (u : UnitState) → number_of u < 1728
+pub number_low : (u : UnitState) → number_of u < 2112
 number_low u = state_low u.automaton u.phase u.events
 
 -- the state with the events of a number

@@ -2,26 +2,28 @@
 use Rattle.std.proofs.Common.{◌≡◌, ℕ, zero, suc, ◌+◌, ◌-◌, ◌^◌, ◌<◌, ◌≤◌, Bool, true, false, cond, List, [], ◌∷◌, length, map, slice_index, nat_lt, Some, refl, sym, ◌∙◌, arith, subst}
 use Rattle.std.specs.Prelude.{slice_index_or, slice_set}
 use Rattle.std.proofs.lemmas.List.{length-set}
+use Rattle.std.proofs.lemmas.Bool.Decides.{nat_tests}
 use Rattle.mp_modules.specs.declared.kind.Kind.{Kind}
 use Rattle.mp_modules.specs.declared.kind.Kind.TheVariants as kinds
 use Rattle.mp_modules.specs.declared.core_module.CoreModule.{CoreModule}
 use Rattle.mp_modules.specs.declared.core_module.CoreModule.TheVariants as core
 use Rattle.mp_modules.specs.declared.memory.Memory.{Memory}
-use Rattle.mp_modules.specs.Kinds.{input_width, output_width, wide_inputs, wide_outputs, are_params}
+use Rattle.mp_modules.specs.Kinds.{width_from, input_width, output_width, are_params}
 use Rattle.mp_modules.specs.Memories.{input_levels, output_of, seen}
 use Rattle.mp_modules.specs.Tables as tables
-use Rattle.mp_modules.specs.declared.storage.computed.Computed.{Computed}
-use Rattle.mp_modules.specs.declared.storage.computed.Computed.TheVariants as computed
-use Rattle.mp_modules.specs.storage.Computed as parts_computed
+use Rattle.mp_modules.specs.declared.function.Function.TheVariants as functions
+use Rattle.mp_modules.proofs.KindLemmas.{narrow_input, narrow_output, some_input}
 use Rattle.mp_modules.specs.declared.storage.any_module.AnyModule.{AnyModule}
 use Rattle.mp_modules.specs.declared.storage.any_module.AnyModule.TheVariants as parts
 use Rattle.mp_modules.specs.storage.AnyModules.{any_part_of, start, step}
 use Rattle.mp_records.specs.declared.module_record.ModuleRecord.{ModuleRecord}
 use Rattle.mp_records.specs.declared.ports.Input.{Input}
+use Rattle.mp_records.specs.Inputs.{no_input, input_at}
 use Rattle.mp_netlist.specs.Circuit.{Circuit, IsCircuit, wire_at, width_of, module_at, module_width}
 use Rattle.mp_model.specs.Levels.{built, input_by, inputs_by}
 use Rattle.mp_model.specs.Waves.{level, state}
 use Rattle.mp_model.proofs.BehaviourLemmas.{satisfies}
+use Rattle.mp_model.proofs.BuiltLemmas.{wire_width}
 use Rattle.mp_model.proofs.InputLemmas.{input_is}
 use Rattle.mp_model.proofs.LevelFitLemmas.{level_fits}
 use Rattle.mp_model.proofs.ModuleFitLemmas.{InputsFit, OutputsFit, param_below, step_fits, settle_fits}
@@ -44,42 +46,27 @@ three_flips : (xs : List ℕ) (port : ℕ) → AreThree xs → AreThree (slice_s
 three_flips xs port three = length-set xs port (1 - slice_index xs port) ∙ three
 
 three_core : (part : CoreModule) (memory : Memory) (x : List ℕ) → HasThree memory → HasThree (tables.step part memory x)
-three_core core.Buf memory x three = refl
-three_core core.Not memory x three = refl
-three_core core.Xor memory x three = refl
 three_core (core.C c) memory x three = refl
 three_core core.Toggle memory x three = by_toggle AreThree three_flips memory x three
 three_core core.Select memory x three = by_select AreThree three_flips memory x three
 three_core core.Call memory x three = by_call AreThree three_flips memory x three
 three_core core.Arbiter memory x three = by_arbiter AreThree three_flips memory x three
 
-three_computed : (part : Computed) (memory : Memory) (x : List ℕ) → HasThree (parts_computed.step part memory x)
-three_computed (computed.AddC addend width) memory x = refl
-three_computed (computed.XorC mask) memory x = refl
-three_computed (computed.Sum width) memory x = refl
-three_computed (computed.Bit place) memory x = refl
-
 three_step : (part : AnyModule) (memory : Memory) (x : List ℕ) → HasThree memory → HasThree (step part memory x)
 unfolding step
 three_step (parts.Core part) memory x three = three_core part memory x three
 three_step (parts.Reg part) memory x three = refl
-three_step (parts.Computed part) memory x three = three_computed part memory x
+three_step (parts.Function part) memory x three = refl
 
 three_core_start : (part : CoreModule) → HasThree (tables.start part)
-three_core_start core.Buf = refl
-three_core_start core.Not = refl
-three_core_start core.Xor = refl
 three_core_start (core.C c) = refl
-three_core_start core.Toggle = refl
-three_core_start core.Select = refl
-three_core_start core.Call = refl
-three_core_start core.Arbiter = refl
+three_core_start _ = refl
 
 three_start : (part : AnyModule) → HasThree (start part)
 unfolding start
 three_start (parts.Core part) = three_core_start part
 three_start (parts.Reg part) = refl
-three_start (parts.Computed part) = refl
+three_start (parts.Function part) = refl
 
 shape_of : (xs : List ℕ) → length xs ≡ 3 → xs ≡ slice_index xs 0 ∷ slice_index xs 1 ∷ slice_index xs 2 ∷ []
 shape_of [] long = absurd (omega arith)
@@ -89,16 +76,6 @@ shape_of (a ∷ b ∷ c ∷ []) long = refl
 shape_of (a ∷ b ∷ c ∷ d ∷ xs) long = absurd (omega arith)
 
 -- ---- ports of width 1
-
-one_if : (test : Bool) (width : ℕ) → width ≡ 1 → cond test width 1 ≡ 1
-one_if true width one = one
-one_if false width one = refl
-
-one_wide : (kind : Kind) (width p : ℕ) → width ≡ 1 → input_width kind width p ≡ 1
-one_wide kind width p one = one_if (nat_lt p (wide_inputs kind)) width one
-
-one_out : (kind : Kind) (width p : ℕ) → width ≡ 1 → output_width kind width p ≡ 1
-one_out kind width p one = one_if (nat_lt p (wide_outputs kind)) width one
 
 below_two : (v width : ℕ) → width ≡ 1 → v < 2 ^ width → v ≤ 1
 below_two v width one low = let now : v < 2 = subst (λ k. v < 2 ^ k) one low in omega arith
@@ -118,26 +95,21 @@ four_bits x bits (suc (suc zero)) = bits 2
 four_bits x bits (suc (suc (suc zero))) = bits 3
 four_bits x bits (suc (suc (suc (suc p)))) = omega arith
 
--- a module of width 1 has ports of width 1
-kind_bits : (kind : Kind) (params : List ℕ) (width : ℕ) → width ≡ 1 → are_params kind width params ≡ true → IsOfBits (any_part_of kind params width)
+-- a module of width 1, by the width of the wire at its first input, has ports of width 1
+kind_bits : (kind : Kind) (params : List ℕ) (first : ℕ) → 0 < first → width_from kind first ≡ 1 → are_params kind (width_from kind first) params ≡ true
+    → IsOfBits (any_part_of kind params (width_from kind first))
 unfolding any_part_of
-kind_bits kinds.Buf params width one valid = tt
-kind_bits kinds.Not params width one valid = tt
-kind_bits kinds.Xor params width one valid = tt
-kind_bits kinds.C params width one valid = tt
-kind_bits kinds.Toggle params width one valid = tt
-kind_bits kinds.Select params width one valid = tt
-kind_bits kinds.Call params width one valid = tt
-kind_bits kinds.Arbiter params width one valid = tt
-kind_bits kinds.Reg params width one valid = tt
-kind_bits kinds.AddC params width one valid = one
-kind_bits kinds.XorC params width one valid =
-    below_two (slice_index params 0) width one (param_below kinds.XorC width params (from_two 0 width one (omega arith)) valid)
-kind_bits kinds.Sum params width one valid = one
-kind_bits kinds.Bit params width one valid =
-    let some : 0 < width = omega arith in
-    let low : slice_index params 0 < width = param_below kinds.Bit width params some valid in
-    omega arith
+kind_bits kinds.C params first some one valid = tt
+kind_bits (kinds.Function functions.AddC) params first some one valid = one
+kind_bits (kinds.Function functions.XorC) params first some one valid =
+    below_two (slice_index params 0) first one (param_below (kinds.Function functions.XorC) first params (from_two 0 first one (omega arith)) valid)
+kind_bits (kinds.Function functions.Sum) params first some one valid = one
+kind_bits (kinds.Function functions.Bit) params first some one valid =
+    let low : slice_index params 0 < first = param_below (kinds.Function functions.Bit) first params some valid in
+    omega (arith, low, one)
+kind_bits (kinds.Function functions.Sub) params first some one valid = one
+kind_bits (kinds.Function functions.Join) params first some one valid = absurd (grind (arith, nat_tests, some, one))
+kind_bits _ params first some one valid = tt
 
 -- ---- in a netlist
 
@@ -150,11 +122,11 @@ module _ (n : Circuit) (ok : IsCircuit n) (m : ℕ) (r : ModuleRecord) (at : mod
       let has = (ok.modules_ok m r at).reads p i within in
       let low = level_fits n ok here.wire.0 (t - here.delay) in
       let is = input_is n ok here t in
-      let bit_low = below_two (level n here.wire.0 (t - here.delay)) (width_of (wire_at n here.wire.0)) (has.1 ∙ one_wide r.kind (module_width n r) p one) low in
+      let bit_low = below_two (level n here.wire.0 (t - here.delay)) (width_of (wire_at n here.wire.0)) (has.1 ∙ narrow_input r.kind (module_width n r) p one) low in
       omega arith)
 
   fit : (t : ℕ) → InputsFit r.kind (module_width n r) (inputs_by n (level n) r t)
-  fit t p = from_two (slice_index (inputs_by n (level n) r t) p) (input_width r.kind (module_width n r) p) (one_wide r.kind (module_width n r) p one) (inputs_are t p)
+  fit t p = from_two (slice_index (inputs_by n (level n) r t) p) (input_width r.kind (module_width n r) p) (narrow_input r.kind (module_width n r) p one) (inputs_are t p)
 
   narrow : module_width n r ≤ 64
   narrow = omega arith
@@ -170,7 +142,7 @@ module _ (n : Circuit) (ok : IsCircuit n) (m : ℕ) (r : ModuleRecord) (at : mod
       (step_fits (module_width n r) r.params narrow r.kind (state n m t) (inputs_by n (level n) r (t + 1)) (ok.modules_ok m r at).params (fit (t + 1)) (outputs_fit t)))
 
   outputs_are : (t : ℕ) → AreBits (state n m t).outputs
-  outputs_are t zero = below_two (output_of (state n m t) 0) (output_width r.kind (module_width n r) 0) (one_out r.kind (module_width n r) 0 one) (outputs_fit t).first
+  outputs_are t zero = below_two (output_of (state n m t) 0) (output_width r.kind (module_width n r) 0) (narrow_output r.kind (module_width n r) 0 one) (outputs_fit t).first
   outputs_are t (suc p) = let low = (outputs_fit t).others p in omega arith
 
   three_at : (t : ℕ) → HasThree (state n m t)
@@ -191,9 +163,15 @@ module _ (n : Circuit) (ok : IsCircuit n) (m : ℕ) (r : ModuleRecord) (at : mod
     stays = states_stay n ok m t r at;
   }
 
+  first_wide : 0 < width_of (wire_at n (input_at r 0).wire.0)
+  first_wide =
+      let some : 0 < length r.inputs = omega (arith, (ok.modules_ok m r at).inputs, some_input r.kind) in
+      let wide = wire_width n ok (input_at r 0).wire.0 ((ok.modules_ok m r at).reads 0 no_input some).0 in
+      omega (arith, wide.0)
+
   bits : HasBits n m r
   bits = record {
-    of_bits = kind_bits r.kind r.params (module_width n r) one (ok.modules_ok m r at).params;
+    of_bits = kind_bits r.kind r.params (width_of (wire_at n (input_at r 0).wire.0)) first_wide one (ok.modules_ok m r at).params;
     inputs = inputs_are;
     states = bits_at;
   }

@@ -57,7 +57,7 @@ use Rattle.mp_simulation.specs.run.Narrow.{IsNarrow}
 use Rattle.mp_simulation.specs.run.Evaluations.{IsEvaluated}
 use Rattle.mp_simulation.specs.run.Beginnings.{IsPartOf, AreBegunBits}
 use Rattle.mp_simulation.proofs.lemmas.run.BegunLemmas.{waves_long, wired, outputs_within, sound_run}
-use Rattle.mp_simulation.proofs.lemmas.run.NarrowLemmas.{one_bit_module, all_bits}
+use Rattle.mp_simulation.proofs.lemmas.run.NarrowLemmas.{all_bits}
 use Rattle.mp_simulation.proofs.lemmas.run.NumberingLemmas.{kept_before, kept_chained, old_before}
 use Rattle.mp_simulation.proofs.lemmas.run.WidthLemmas.{bit_drives, bit_reads}
 
@@ -368,7 +368,7 @@ module _ (n all : Circuit) (ok : IsCircuit n) (all_ok : IsCircuit all) (of_all :
     whole = whole;
     own = λ w u. refl;
     placed = λ m r at.
-        ap (λ slot. is_some (seat_of n m slot)) at ∙ ap (λ b. is_some (cond b (Some m) None)) (eq-eqb (module_width n r) 1 (one_bit_module n ok narrow m r at));
+        ap (λ slot. is_some (seat_of n m slot)) at ∙ ap (λ b. is_some (cond b (Some m) None)) (eq-eqb (module_width n r) 1 (narrow.modules m r at));
     traces = all_bits n narrow;
     waves = waves_long n all ok all_ok of_all plan s are;
   }

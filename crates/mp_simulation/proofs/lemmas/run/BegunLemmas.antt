@@ -79,8 +79,8 @@ module _ (n all : Circuit) (ok : IsCircuit n) (all_ok : IsCircuit all) (of_all :
     | inr past ↦ ap (λ k. k % 16) (state_past m past)
   ]
 
-  low_state : (m : ℕ) → state_at s.simulator.states.items m < 1728
-  low_state m = elim (cases_lt m (length n.modules)) as (λ _. state_at s.simulator.states.items m < 1728) [
+  low_state : (m : ℕ) → state_at s.simulator.states.items m < 2112
+  low_state m = elim (cases_lt m (length n.modules)) as (λ _. state_at s.simulator.states.items m < 2112) [
     | inl low ↦ let same = are.bits.settled.each m low in let high = number_low (first_unit n m) in omega arith
     | inr past ↦ let same = state_past m past in omega arith
   ]

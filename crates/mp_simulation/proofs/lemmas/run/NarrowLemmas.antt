@@ -16,27 +16,11 @@ use Rattle.mp_simulation.specs.run.Narrow.{IsNarrow, has_one_bit}
 
 low_by : (n : Circuit) → IsNarrow n → (w v : ℕ) (slot : Option WireRecord) → wire_at n w ≡ slot → v < 2 ^ width_of slot → v ≤ 1
 low_by n narrow w v None at low = let e : v < 1 = low in omega arith
-low_by n narrow w v (Some r) at low = let e : v < 2 = subst (λ k. v < 2 ^ k) (narrow w r at) low in omega arith
+low_by n narrow w v (Some r) at low = let e : v < 2 = subst (λ k. v < 2 ^ k) (narrow.wires w r at) low in omega arith
 
 -- a level is a bit
 pub bit_level : (n : Circuit) → IsCircuit n → IsNarrow n → (w t : ℕ) → level n w t ≤ 1
 bit_level n ok narrow w t = low_by n narrow w (level n w t) (wire_at n w) refl (level_fits n ok w t)
-
-one_wide : (n : Circuit) → IsNarrow n → (w : ℕ) (slot : Option WireRecord) → wire_at n w ≡ slot → IsSome slot → width_of slot ≡ 1
-one_wide n narrow w None at some = cc
-one_wide n narrow w (Some r) at some = narrow w r at
-
-by_kind : (b : Bool) (k : ℕ) → k ≡ 1 → cond b k 1 ≡ 1
-by_kind true k one = one
-by_kind false k one = refl
-
--- each module has width 1
-pub one_bit_module : (n : Circuit) → IsCircuit n → IsNarrow n → (m : ℕ) (r : ModuleRecord) → module_at n m ≡ Some r → module_width n r ≡ 1
-one_bit_module n ok narrow m r at =
-    let is = ok.modules_ok m r at in
-    let some : 0 < length r.inputs = let a = is.inputs in let b = some_input r.kind in omega arith in
-    let has = is.reads 0 no_input some in
-    by_kind (has_width r.kind) (width_of (wire_at n (input_at r 0).wire.0)) (one_wide n narrow (input_at r 0).wire.0 (wire_at n (input_at r 0).wire.0) refl has.0)
 
 -- what the test of each wire says
 narrow_by : (slot : Option WireRecord) (r : WireRecord) → has_one_bit slot ≡ true → slot ≡ Some r → r.width ≡ 1
@@ -45,7 +29,7 @@ narrow_by (Some v) r test is = subst (λ (x : WireRecord). x.width ≡ 1) (same_
 
 no_data : (n : Circuit) → IsNarrow n → (w : ℕ) (slot : Option WireRecord) → wire_at n w ≡ slot → has_data slot ≡ false
 no_data n narrow w None at = refl
-no_data n narrow w (Some r) at = ap not (eq-eqb r.width 1 (narrow w r at))
+no_data n narrow w (Some r) at = ap not (eq-eqb r.width 1 (narrow.wires w r at))
 
 and_true : (b : Bool) → (b && true) ≡ b
 and_true true = refl

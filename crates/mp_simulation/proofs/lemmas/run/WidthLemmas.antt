@@ -4,9 +4,8 @@ use Rattle.std.specs.Prelude.{◌==◌, slice_index_or}
 use Rattle.std.proofs.lemmas.Bool.{eqb-true, eq-eqb, false≢true}
 use Rattle.std.proofs.lemmas.Bool.Decides.{nat_tests}
 use Rattle.std.proofs.lemmas.Option.{same_Some}
-use Rattle.mp_modules.specs.declared.kind.Kind.{Kind}
-use Rattle.mp_modules.specs.declared.kind.Kind.TheVariants as kinds
-use Rattle.mp_modules.specs.Kinds.{wide_outputs, wide_inputs, input_width, output_width}
+use Rattle.mp_modules.specs.Kinds.{shape_of, input_width, output_width}
+use Rattle.mp_modules.proofs.KindLemmas.{narrow_input, narrow_output, one_wide_output}
 use Rattle.mp_records.specs.declared.ids.WireId.{WireId}
 use Rattle.mp_records.specs.declared.ports.Input.{Input}
 use Rattle.mp_records.specs.declared.wire_record.WireRecord.{WireRecord}
@@ -25,10 +24,6 @@ data_by (Some r) k some is = ap (λ v. not (v == 1)) is
 pub data_is : (n : Circuit) (w k : ℕ) → HasWidth n w k → is_data n w ≡ not (k == 1)
 data_is n w k has = data_by (wire_at n w) k has.0 has.1
 
-one_if : (b : Bool) (k : ℕ) → k ≡ 1 → cond b k 1 ≡ 1
-one_if true k one = one
-one_if false k one = refl
-
 width_driven : (n : Circuit) (o : Option WireId) (w k : ℕ) → IfSome o (λ v. HasWidth n v.0 k) → o ≡ Some (record { 0 = w }) → HasWidth n w k
 width_driven n None w k has is = cc
 width_driven n (Some v) w k has is = subst (λ (x : WireId). HasWidth n x.0 k) (same_Some v (record { 0 = w }) is) has
@@ -43,24 +38,16 @@ module _ (n : Circuit) (ok : IsCircuit n) where
   pub bit_drives : (m p w : ℕ) (r : ModuleRecord) → module_at n m ≡ Some r → is_bit_module n r ≡ true → Drives n m p w → is_data n w ≡ false
   bit_drives m p w r at bits drv =
       let one : module_width n r ≡ 1 = eqb-true (module_width n r) 1 bits in
-      let width : output_width r.kind (module_width n r) p ≡ 1 = one_if (nat_lt p (wide_outputs r.kind)) (module_width n r) one in
+      let width : output_width r.kind (module_width n r) p ≡ 1 = narrow_output r.kind (module_width n r) p one in
       data_is n w (output_width r.kind (module_width n r) p) (drives_width m p w r at drv) ∙ ap not (eq-eqb (output_width r.kind (module_width n r) p) 1 width)
 
   -- and reads such
   pub bit_reads : (m p : ℕ) (d : Input) (r : ModuleRecord) → module_at n m ≡ Some r → is_bit_module n r ≡ true → p < length r.inputs → is_data n (slice_index_or r.inputs p d).wire.0 ≡ false
   bit_reads m p d r at bits within =
       let one : module_width n r ≡ 1 = eqb-true (module_width n r) 1 bits in
-      let width : input_width r.kind (module_width n r) p ≡ 1 = one_if (nat_lt p (wide_inputs r.kind)) (module_width n r) one in
+      let width : input_width r.kind (module_width n r) p ≡ 1 = narrow_input r.kind (module_width n r) p one in
       data_is n (slice_index_or r.inputs p d).wire.0 (input_width r.kind (module_width n r) p) ((ok.modules_ok m r at).reads p d within)
       ∙ ap not (eq-eqb (input_width r.kind (module_width n r) p) 1 width)
-
-  few_wide : (kind : Kind) → wide_outputs kind ≤ 1
-  few_wide kinds.Buf = omega arith
-  few_wide kinds.Reg = omega arith
-  few_wide kinds.AddC = omega arith
-  few_wide kinds.XorC = omega arith
-  few_wide kinds.Sum = omega arith
-  few_wide _ = omega arith
 
   first_if : (b : Bool) (p wide width : ℕ) → nat_lt p wide ≡ b → wide ≤ 1 → not (cond b width 1 == 1) ≡ true → p ≡ 0
   first_if true p wide width is few data_too = let low : p < wide = grind (arith, nat_tests) in omega arith
@@ -72,4 +59,4 @@ module _ (n : Circuit) (ok : IsCircuit n) where
       let r = drv.part in
       let is : is_data n w ≡ not (output_width drv.part.kind (module_width n drv.part) p == 1) =
       data_is n w (output_width drv.part.kind (module_width n drv.part) p) (drives_width m p w drv.part drv.stands drv) in
-      first_if (nat_lt p (wide_outputs drv.part.kind)) p (wide_outputs drv.part.kind) (module_width n drv.part) refl (few_wide drv.part.kind) (sym is ∙ has)
+      first_if (nat_lt p (shape_of drv.part.kind).wide_outputs) p (shape_of drv.part.kind).wide_outputs (module_width n drv.part) refl (one_wide_output drv.part.kind) (sym is ∙ has)

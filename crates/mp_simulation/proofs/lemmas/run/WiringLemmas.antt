@@ -8,9 +8,7 @@ use Rattle.std.proofs.lemmas.List.Elements.{All-push}
 use Rattle.std.proofs.lemmas.Option.{none-some}
 use Rattle.mp_records.specs.declared.module_record.ModuleRecord.{ModuleRecord}
 use Rattle.mp_records.specs.declared.ports.Input.{Input}
-use Rattle.mp_modules.specs.declared.kind.Kind.{Kind}
-use Rattle.mp_modules.specs.declared.kind.Kind.TheVariants as kinds
-use Rattle.mp_modules.specs.Kinds.{input_count}
+use Rattle.mp_modules.proofs.KindLemmas.{few_inputs}
 use Rattle.mp_netlist.specs.Circuit.{Circuit, IsCircuit, module_at}
 use Rattle.mp_model.proofs.SlotLemmas.{some_within}
 use Rattle.mp_kernel.specs.declared.events.fanout_entry.FanoutEntry.{FanoutEntry}
@@ -136,10 +134,6 @@ pub row_pushed : (rows : List (List FanoutEntry)) (number : ℕ) (row new : List
     slice_set rows number new ≡ slice_set rows number (row_at rows number ++ entry ∷ [])
 row_pushed rows number row new entry within is pushed =
     ap (λ (x : List FanoutEntry). slice_set rows number x) (pushed ∙ ap (λ (x : List FanoutEntry). x ++ entry ∷ []) (is ∙ get_or_default rows number row [] within))
-
-few_inputs : (kind : Kind) → input_count kind ≤ 4
-few_inputs kinds.Buf = omega arith
-few_inputs _ = omega arith
 
 pub inputs_short : (n : Circuit) → IsCircuit n → (m : ℕ) (r : ModuleRecord) → module_at n m ≡ Some r → length r.inputs ≤ 4
 inputs_short n ok m r at = let same = (ok.modules_ok m r at).inputs in let few = few_inputs r.kind in omega arith

@@ -5,6 +5,7 @@ use Rattle.std.proofs.lemmas.List.{append-nil}
 use Rattle.std.proofs.lemmas.List.Elements.{All-cons, All-nil, All-map, All-append, All-weaker}
 use Rattle.mp_modules.specs.declared.kind.Kind.{Kind}
 use Rattle.mp_modules.specs.declared.kind.Kind.TheVariants as kinds
+use Rattle.mp_modules.specs.declared.function.Function.TheVariants as functions
 use Rattle.mp_modules.specs.Kinds.{word_of}
 use Rattle.mp_records.specs.declared.port_names.InputName.{InputName}
 use Rattle.mp_records.specs.declared.port_names.OutputName.{OutputName}
@@ -27,7 +28,7 @@ more word words whole all = All-cons IsWhole word words whole all
 
 -- the word of a kind
 whole_kind : (kind : Kind) → IsWhole (word_of kind)
-whole_kind kinds.Buf = record { some = omega arith; whole = refl }
+whole_kind (kinds.Function functions.Buf) = record { some = omega arith; whole = refl }
 whole_kind _ = record { some = omega arith; whole = refl }
 
 whole_byte : (b : ℕ) (word : List ℕ) → IsWhole (b ∷ []) → IsWhole word → IsWhole (b ∷ word)

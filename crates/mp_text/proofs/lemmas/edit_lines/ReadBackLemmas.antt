@@ -21,11 +21,11 @@ use Rattle.mp_text.proofs.lemmas.lexing.PlainLemmas.{IsPlain, IsPlain-name}
 use Rattle.mp_text.proofs.lemmas.lexing.ReadBackLemmas.{number_back, change_back, input_back, late_input_back, no_wire_back, wire_back}
 use Rattle.mp_text.specs.declared.edit_word.EditWord.TheVariants as words
 use Rattle.mp_text.specs.declared.script_line.Line.TheVariants.{Change}
-use Rattle.mp_text.specs.Statements as stated
-use Rattle.mp_text.specs.Statements.{is_mark, stated_edit, statement_of}
+use Rattle.mp_netlist.specs.declared.format.Format.TheVariants.{Large}
+use Rattle.mp_text.specs.Statements.{is_mark, stated_edit}
 use Rattle.mp_text.specs.ScriptLines.{line_of, line_at}
 use Rattle.mp_text.specs.Written.{delay_text}
-use Rattle.mp_text.proofs.StatementBackLemmas.{wire_stated, bundle_stated, stimulus_stated, module_stated, name_no_greater}
+use Rattle.mp_text.proofs.StatementBackLemmas.{wire_read, bundle_read, stimulus_read, module_read, name_no_greater}
 use Rattle.mp_text.proofs.WrittenLineLemmas.{line_words-spaced}
 use Rattle.mp_text.specs.edit_lines.EditLines.{joined, wire_word, input_text, output_text, module_words, edit_words}
 use Rattle.mp_text.specs.edit_lines.ReadBack.{IsName, IsLow, IsInputSaid, IsOutputSaid, IsModuleSaid, IsSaid, IsReadAsWritten}
@@ -63,34 +63,31 @@ output_said output said = output_at output.wire output.delay said.0 said.1
 
 -- ---- edits that texts state too
 
-said_of : (r s : Result SingleEdit LineError) → stated.Change r ≡ stated.Change s → r ≡ s
-said_of r s same = cc
-
 module _ (rest : List (List ℕ)) (edit : SingleEdit) where
-  wire_line : statement_of (codes "wire" ∷ rest) ≡ stated.Change (Ok edit) → line_of (codes "wire" ∷ rest) ≡ Ok (Change (edits.Single edit))
-  unfolding statement_of line_of
-  wire_line read = let said : stated_edit words.Wire rest ≡ Ok edit = said_of _ _ read in rw said refl
+  wire_line : stated_edit Large words.Wire rest ≡ Ok edit → line_of (codes "wire" ∷ rest) ≡ Ok (Change (edits.Single edit))
+  unfolding line_of
+  wire_line said = rw said refl
 
-  module_line : statement_of (codes "module" ∷ rest) ≡ stated.Change (Ok edit) → line_of (codes "module" ∷ rest) ≡ Ok (Change (edits.Single edit))
-  unfolding statement_of line_of
-  module_line read = let said : stated_edit words.Module rest ≡ Ok edit = said_of _ _ read in rw said refl
+  module_line : stated_edit Large words.Module rest ≡ Ok edit → line_of (codes "module" ∷ rest) ≡ Ok (Change (edits.Single edit))
+  unfolding line_of
+  module_line said = rw said refl
 
-  stimulus_line : statement_of (codes "stim" ∷ rest) ≡ stated.Change (Ok edit) → line_of (codes "stim" ∷ rest) ≡ Ok (Change (edits.Single edit))
-  unfolding statement_of line_of
-  stimulus_line read = let said : stated_edit words.Stimulus rest ≡ Ok edit = said_of _ _ read in rw said refl
+  stimulus_line : stated_edit Large words.Stimulus rest ≡ Ok edit → line_of (codes "stim" ∷ rest) ≡ Ok (Change (edits.Single edit))
+  unfolding line_of
+  stimulus_line said = rw said refl
 
-  bundle_line : statement_of (codes "bundle" ∷ rest) ≡ stated.Change (Ok edit) → line_of (codes "bundle" ∷ rest) ≡ Ok (Change (edits.Single edit))
-  unfolding statement_of line_of
-  bundle_line read = let said : stated_edit words.Bundle rest ≡ Ok edit = said_of _ _ read in rw said refl
+  bundle_line : stated_edit Large words.Bundle rest ≡ Ok edit → line_of (codes "bundle" ∷ rest) ≡ Ok (Change (edits.Single edit))
+  unfolding line_of
+  bundle_line said = rw said refl
 
-module_said : (new : NewModule) → IsModuleSaid new → statement_of (codes "module" ∷ module_words new) ≡ stated.Change (Ok (AddModule new))
+module_said : (new : NewModule) → IsModuleSaid new → stated_edit Large words.Module (module_words new) ≡ Ok (AddModule new)
 module_said new said =
     let unmarked = All-weaker IsInputSaid (λ i. is_mark 62 (input_text i) ≡ false) (λ i is. name_no_greater i.wire (delay_text i.delay) is.0) new.inputs said.inputs in
     let heard = All-weaker IsInputSaid (λ i. input_word (input_text i) ≡ Ok i) input_said new.inputs said.inputs in
     let reads = All-weaker IsOutputSaid (λ o. output_word (output_text o) ≡ Ok o) output_said new.outputs said.outputs in
     let inputs = map-id new.inputs in
     let outputs = map-id new.outputs in
-    let read = module_stated new.name new.kind new.params new.inputs new.outputs input_text (λ i. i) output_text (λ o. o) said.params unmarked heard reads said.some_inputs said.some_outputs in
+    let read = module_read Large new.name new.kind refl new.params new.inputs new.outputs input_text (λ i. i) output_text (λ o. o) said.params unmarked heard reads said.some_inputs said.some_outputs in
     rw (inputs, outputs) at read
 
 -- ---- edits of scripts alone
@@ -150,18 +147,18 @@ wire_back_at (Some wire) name = not_dash wire name
 
 -- the words of an edit say the edit
 pub words_read : (edit : SingleEdit) → IsSaid edit → line_of (edit_words edit) ≡ Ok (Change (edits.Single edit))
-words_read (AddWire name width level) said = wire_line (name ∷ decimal width ∷ decimal level ∷ []) (AddWire name width level) (wire_stated name width level said.1 said.2)
+words_read (AddWire name width level) said = wire_line (name ∷ decimal width ∷ decimal level ∷ []) (AddWire name width level) (wire_read Large name width level said.1 said.2)
 words_read (RemoveWire wire) said = remove_wire_line wire
 words_read (AddModule new) said = module_line (module_words new) (AddModule new) (module_said new said)
 words_read (RemoveModule part) said = remove_module_line part
-words_read (AddBundle new) said = bundle_line (new.name ∷ new.request ∷ new.acknowledge ∷ new.payload ∷ decimal new.setup ∷ []) (AddBundle new) (bundle_stated new said.setup)
+words_read (AddBundle new) said = bundle_line (new.name ∷ new.request ∷ new.acknowledge ∷ new.payload ∷ decimal new.setup ∷ []) (AddBundle new) (bundle_read Large new said.setup)
 words_read (RemoveBundle bundle) said = remove_bundle_line bundle
 words_read (RewireInput part port wire) said = input_line part port wire said.1
 words_read (RewireOutput part port wire) said = output_line part port wire said.1 (wire_back_at wire said.2)
 words_read (SetInputDelay part port delay) said = input_delay_line part port delay said.1 said.2
 words_read (SetDelay part port delay) said = delay_line part port delay said.1 said.2
 words_read (SetStimulus wire changes) said =
-    stimulus_line (wire ∷ map pair_text changes) (SetStimulus wire changes) (stimulus_stated wire changes (All-weaker (λ (change : ℕ × ℕ). IsLow change.0 × IsLow change.1) (λ change. change_word (pair_text change) ≡ Ok change) (λ change low. change_back change low.0 low.1) changes said.1))
+    stimulus_line (wire ∷ map pair_text changes) (SetStimulus wire changes) (stimulus_read Large wire changes (All-weaker (λ (change : ℕ × ℕ). IsLow change.0 × IsLow change.1) (λ change. change_word (pair_text change) ≡ Ok change) (λ change low. change_back change low.0 low.1) changes said.1))
 words_read (ClearStimulus wire) said = clear_line wire
 
 pub some_edit_words : (edit : SingleEdit) → 0 < length (edit_words edit)

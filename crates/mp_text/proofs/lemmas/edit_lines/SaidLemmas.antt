@@ -6,10 +6,9 @@ use Rattle.std.proofs.Math.Nat.{pow-le-pow_right}
 use Rattle.std.proofs.lemmas.Bool.{and_parts, leb-true, ltb-true}
 use Rattle.std.proofs.lemmas.List.Elements.{All-nil, All-cons}
 use Rattle.mp_modules.specs.declared.kind.Kind.{Kind}
-use Rattle.mp_modules.specs.declared.kind.Kind.TheVariants as kinds
-use Rattle.mp_modules.specs.Kinds.{input_count, output_count, has_width, param_bound, param_count, are_params}
+use Rattle.mp_modules.specs.Kinds.{param_bound, param_count, are_params}
 use Rattle.mp_modules.specs.Levels.{fits_width}
-use Rattle.mp_modules.proofs.KindLemmas.{some_input, param_bound-low}
+use Rattle.mp_modules.proofs.KindLemmas.{some_input, param_bound-low, few_inputs, few_outputs, some_output, width_from_low}
 use Rattle.mp_records.specs.declared.edit.Edit.{Edit}
 use Rattle.mp_records.specs.declared.edit.Edit.TheVariants.{Single, Batch}
 use Rattle.mp_records.specs.declared.edit_error.EditError.{EditError}
@@ -45,19 +44,6 @@ delay_low delay is = let high = leb-true delay max_delay (and_parts (nat_le 1 de
 
 input_delay_low : (delay : ℕ) → is_input_delay delay ≡ true → IsLow delay
 input_delay_low delay is = let high = leb-true delay max_delay is in omega (arith, high)
-
--- a kind has few ports
-few_inputs : (kind : Kind) → input_count kind ≤ 4
-few_inputs kinds.Buf = omega arith
-few_inputs _ = omega arith
-
-few_outputs : (kind : Kind) → output_count kind ≤ 4
-few_outputs kinds.Buf = omega arith
-few_outputs _ = omega arith
-
-some_output : (kind : Kind) → 0 < output_count kind
-some_output kinds.Buf = omega arith
-some_output _ = omega arith
 
 params_low : (kind : Kind) (width : ℕ) (params : List ℕ) → width ≤ 64 → are_params kind width params ≡ true → All IsLow params
 unfolding are_params
@@ -124,11 +110,7 @@ module _ (n : Circuit) (ok : IsCircuit n) where
   first_narrow (first ∷ others) stand = wire_narrow first.wire (stands_from n first.wire (and_parts (stands n first.wire) (inputs_stand n others) stand).0)
 
   narrow : (kind : Kind) (inputs : List InputName) → inputs_stand n inputs ≡ true → new_width n kind inputs ≤ 64
-  narrow kind inputs stand = by (has_width kind) (first_narrow inputs stand)
-    where
-      by : (b : Bool) → first_width n inputs ≤ 64 → cond b (first_width n inputs) 1 ≤ 64
-      by true low = low
-      by false low = omega arith
+  narrow kind inputs stand = width_from_low kind _ (first_narrow inputs stand)
 
   inputs_said : (inputs : List InputName) → inputs_stand n inputs ≡ true → list_all (λ (i : InputName). is_input_delay i.delay) inputs ≡ true → All IsInputSaid inputs
   inputs_said [] stand low = All-nil IsInputSaid

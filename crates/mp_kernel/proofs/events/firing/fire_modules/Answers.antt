@@ -52,4 +52,4 @@ fire_module-requires-clause-low c =
     let within : c.loop-place.place < length c.args.due.now = omega arith in
     let w = slice_index_or c.args.due.now c.loop-place.place 0 in
     let none = not_yet c.args.due.now c.loop-place.place within c.requires.once in
-    subst (λ k. k < 1728) (sym (c.loop-place.invariant.others w none)) (c.requires.low w)
+    subst (λ k. k < 2112) (sym (c.loop-place.invariant.others w none)) (c.requires.low w)

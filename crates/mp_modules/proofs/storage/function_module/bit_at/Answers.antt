@@ -1,6 +1,6 @@
 use Rattle.std.proofs.Common.{◌≡◌, ◌/◌, ◌%◌, ◌^◌, ◌<◌, ◌≤◌, ℕ, sym, ap, arith}
 use Rattle.std.proofs.Math.Nat.{pow-le-pow_right, div-eq_of_lt}
-use Rattle.mp_modules.proofs.storage.computed.bit_at.Goals as goal
+use Rattle.mp_modules.proofs.storage.function_module.bit_at.Goals as goal
 
 -- a number of 64 bits has no bit above them
 none_above : (level place : ℕ) → 64 ≤ place → level < 2 ^ 64 → level / 2 ^ place % 2 ≡ 0

@@ -1,7 +1,7 @@
 use Rattle.std.proofs.Common.{◌≡◌, ℕ, ◌<◌, true}
 use Rattle.mp_netlist.specs.Circuit.{wire_at}
 use Rattle.mp_simulation.specs.run.Narrow.{has_one_bit}
-use Rattle.mp_simulation.proofs.run.narrow.is_narrow.Given as goal
+use Rattle.mp_simulation.proofs.run.narrow.has_bit_wires.Given as goal
 
 -- the wires so far have width 1
 abbrev pub invariant-loop-w : goal.invariant-loop-w
