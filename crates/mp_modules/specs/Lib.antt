@@ -1,4 +1,5 @@
 pub mod Levels
+pub mod Delays
 pub mod Kinds
 pub mod Memories
 pub mod Clients

@@ -9,7 +9,8 @@ use Rattle.mp_records.specs.declared.module_record.ModuleRecord.{ModuleRecord}
 use Rattle.mp_records.specs.declared.ports.Output.{Output}
 use Rattle.mp_records.specs.Outputs.{output_in, output_at, delay_of}
 use Rattle.mp_netlist.specs.Circuit.{Circuit, IsCircuit, IsDelay, module_at}
-use Rattle.mp_netlist.specs.Delays.{delays_of, delays_in, lesser, least_delay, IsPortDelay, NoPortDrives, DelaysAreLeast}
+use Rattle.mp_modules.specs.Delays.{lesser}
+use Rattle.mp_netlist.specs.Delays.{delays_of, delays_in, least_delay, IsPortDelay, NoPortDrives, DelaysAreLeast}
 
 -- a least delay is known, and it is at most this one
 record AtMost (least : Option ℕ) (delay : ℕ) : Type 0 where

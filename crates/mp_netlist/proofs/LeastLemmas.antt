@@ -5,7 +5,8 @@ use Rattle.std.proofs.Math.ListN.{set}
 use Rattle.std.proofs.lemmas.List.{take-append-drop}
 use Rattle.std.proofs.lemmas.List.Sums.{fold-append}
 use Rattle.mp_records.specs.declared.module_record.ModuleRecord.{ModuleRecord}
-use Rattle.mp_netlist.specs.Delays.{delays_in, lesser}
+use Rattle.mp_modules.specs.Delays.{lesser}
+use Rattle.mp_netlist.specs.Delays.{delays_in}
 use Rattle.mp_netlist.specs.Least.{least_among, least_at, lesser_of, IsAtMost, IsChanged}
 
 none_lesser : (a : Option ℕ) → lesser_of None a ≡ a

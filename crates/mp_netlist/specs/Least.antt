@@ -2,7 +2,8 @@
 use Rattle.std.specs.Prelude.{◌≡◌, ◌≤◌, ◌<◌, ℕ, List, Option, None, Some, IfSome, fold}
 use Rattle.std.specs.List.{flat_map}
 use Rattle.mp_records.specs.declared.module_record.ModuleRecord.{ModuleRecord}
-use Rattle.mp_netlist.specs.Delays.{delays_in, lesser}
+use Rattle.mp_modules.specs.Delays.{lesser}
+use Rattle.mp_netlist.specs.Delays.{delays_in}
 
 -- the least delay of the modules in these slots
 abbrev pub least_among : List (Option ModuleRecord) → Option ℕ

@@ -1,8 +1,10 @@
 //! The least of delays.
 ghost use Rattle.std.specs.Prelude.{◌≡◌, ◌↔◌, IsTrue, fold};
-ghost use Rattle.mp_netlist.specs.Delays.{delays_of, lesser};
+ghost use Rattle.mp_modules.specs.Delays.{lesser};
+ghost use Rattle.mp_netlist.specs.Delays.{delays_of};
 ghost use Rattle.mp_netlist.specs.Least.{GoesUp, IsAfter, lesser_of};
 
+use mp_modules::lesser_delay;
 use mp_records::Output;
 
 /// The least delay of modules, if there is one, and a module that has it.
@@ -44,7 +46,7 @@ pub(crate) fn least_in(known: Option<u32>, outputs: &[Output]) -> Option<u32>
     let mut least = known;
     for output in outputs {
         if output.wire.is_some() {
-            least = lesser(least, output.delay);
+            least = lesser_delay(least, output.delay);
         }
     }
     least
@@ -55,17 +57,8 @@ pub(crate) fn lesser_of(one: Option<u32>, other: Option<u32>) -> Option<u32>
     ensures { result ≡ lesser_of one other }
 {
     match other {
-        Some(delay) => lesser(one, delay),
+        Some(delay) => lesser_delay(one, delay),
         None => one,
-    }
-}
-
-fn lesser(least: Option<u32>, delay: u32) -> Option<u32>
-    ensures { result ≡ lesser least delay }
-{
-    match least {
-        Some(known) => Some(known.min(delay)),
-        None => Some(delay),
     }
 }
 

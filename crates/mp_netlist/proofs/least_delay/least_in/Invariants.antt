@@ -1,5 +1,6 @@
 use Rattle.std.proofs.Common.{◌≡◌, drop, fold}
-use Rattle.mp_netlist.specs.Delays.{delays_of, lesser}
+use Rattle.mp_modules.specs.Delays.{lesser}
+use Rattle.mp_netlist.specs.Delays.{delays_of}
 use Rattle.mp_netlist.proofs.least_delay.least_in.Given as goal
 
 -- what is left decides
