@@ -1,5 +1,5 @@
 -- Levels of one bit.
-use Rattle.std.proofs.Common.{◌≡◌, ℕ, ◌+◌, ◌-◌, ◌≤◌, ◌/◌, ◌%◌, ◌^◌, Bool, true, false, not, cond, refl, ne_eqb, ap, arith}
+use Rattle.std.proofs.Common.{◌≡◌, ℕ, ◌+◌, ◌-◌, ◌≤◌, ◌/◌, ◌%◌, ◌^◌, Bool, true, false, not, cond, refl, sym, ne_eqb, ap, subst, arith}
 use Rattle.std.specs.Prelude.{◌==◌, ◌&&◌, nat_lt, bit_and, bit_or, bit_xor}
 use Rattle.std.proofs.lemmas.Bool.Decides.{nat_tests}
 use Rattle.mp_modules.specs.Quiet.{unchanged}
@@ -10,6 +10,10 @@ use Rattle.mp_kernel.specs.automata.Codes.{bit}
 bits : (a : ℕ) (one : Bool) → (a == 1) ≡ one → a ≤ 1 → a ≡ bit one
 bits a true is low = grind arith
 bits a false is low = grind arith
+
+-- what holds of both numbers holds of a bit
+by_bit : (P : ℕ → Type 0) → ((p : Bool) → P (bit p)) → (a : ℕ) → a ≤ 1 → P a
+by_bit P each a low = subst P (sym (bits a (a == 1) refl low)) (each (a == 1))
 
 -- a bit's inverse differs from it, and it doesn't differ from itself
 pub turned_differs : (t : Bool) (a : ℕ) → not (a == cond t (1 - a) a) ≡ t
@@ -64,24 +68,26 @@ said_not true false = refl
 said_not false true = refl
 said_not false false = refl
 
--- AND, OR and LESS of two bits
+-- AND and OR of two bits
+both_bits : (p q : Bool) → bit_and (bit p) (bit q) ≡ bit ((bit p == 1) && (bit q == 1))
+both_bits true true = refl
+both_bits true false = refl
+both_bits false true = refl
+both_bits false false = refl
+
 both : (a b : ℕ) → a ≤ 1 → b ≤ 1 → bit_and a b ≡ bit ((a == 1) && (b == 1))
-both a b ha hb = at (a == 1) (b == 1) (bits a _ refl ha) (bits b _ refl hb)
-  where
-    at : (p q : Bool) → a ≡ bit p → b ≡ bit q → bit_and a b ≡ bit ((a == 1) && (b == 1))
-    at true true is_a is_b = rw (is_a, is_b) refl
-    at true false is_a is_b = rw (is_a, is_b) refl
-    at false true is_a is_b = rw (is_a, is_b) refl
-    at false false is_a is_b = rw (is_a, is_b) refl
+both a b ha hb =
+    by_bit (λ x. bit_and x b ≡ bit ((x == 1) && (b == 1))) (λ p. by_bit (λ y. bit_and (bit p) y ≡ bit ((bit p == 1) && (y == 1))) (both_bits p) b hb) a ha
+
+either_bits : (p q : Bool) → bit_or (bit p) (bit q) ≡ bit (not ((bit p == 0) && (bit q == 0)))
+either_bits true true = refl
+either_bits true false = refl
+either_bits false true = refl
+either_bits false false = refl
 
 either : (a b : ℕ) → a ≤ 1 → b ≤ 1 → bit_or a b ≡ bit (not ((a == 0) && (b == 0)))
-either a b ha hb = at (a == 1) (b == 1) (bits a _ refl ha) (bits b _ refl hb)
-  where
-    at : (p q : Bool) → a ≡ bit p → b ≡ bit q → bit_or a b ≡ bit (not ((a == 0) && (b == 0)))
-    at true true is_a is_b = rw (is_a, is_b) refl
-    at true false is_a is_b = rw (is_a, is_b) refl
-    at false true is_a is_b = rw (is_a, is_b) refl
-    at false false is_a is_b = rw (is_a, is_b) refl
+either a b ha hb =
+    by_bit (λ x. bit_or x b ≡ bit (not ((x == 0) && (b == 0)))) (λ p. by_bit (λ y. bit_or (bit p) y ≡ bit (not ((bit p == 0) && (y == 0)))) (either_bits p) b hb) a ha
 
 pub ands : (a b c d : ℕ) → a ≤ 1 → b ≤ 1 → c ≤ 1 → d ≤ 1 →
     not (bit_and a b == bit_and c d) ≡ differ ((a == 1) && (b == 1)) ((c == 1) && (d == 1))
@@ -96,9 +102,18 @@ pub compares : (a b c d : ℕ) → a ≤ 1 → b ≤ 1 → c ≤ 1 → d ≤ 1 �
 compares a b c d ha hb hc hd = grind (arith, nat_tests)
 
 -- what a MUX gives moves with its choice, if the inputs differed, and with the input that is chosen then
-pub selects : (a b s c d t : ℕ) → a ≤ 1 → b ≤ 1 → s ≤ 1 → c ≤ 1 → d ≤ 1 → t ≤ 1 →
-    not (cond (s == 0) a b == cond (t == 0) c d) ≡ differ (not (s == t) && not (a == b)) (cond (t == 1) (not (b == d)) (not (a == c)))
-selects a b s c d t ha hb hs hc hd ht = grind arith
+abbrev pub Selects : ℕ → ℕ → ℕ → ℕ → ℕ → ℕ → Type 0
+Selects a b s c d t = not (cond (s == 0) a b == cond (t == 0) c d) ≡ differ (not (s == t) && not (a == b)) (cond (t == 1) (not (b == d)) (not (a == c)))
+
+selects_by : (a b c d : ℕ) → a ≤ 1 → b ≤ 1 → c ≤ 1 → d ≤ 1 → (p q : Bool) → Selects a b (bit p) c d (bit q)
+selects_by a b c d ha hb hc hd true true = refl
+selects_by a b c d ha hb hc hd true false = grind arith
+selects_by a b c d ha hb hc hd false true = grind arith
+selects_by a b c d ha hb hc hd false false = refl
+
+pub selects : (a b s c d t : ℕ) → a ≤ 1 → b ≤ 1 → s ≤ 1 → c ≤ 1 → d ≤ 1 → t ≤ 1 → Selects a b s c d t
+selects a b s c d t ha hb hs hc hd ht =
+    by_bit (λ x. Selects a b x c d t) (λ p. by_bit (λ y. Selects a b (bit p) c d y) (selects_by a b c d ha hb hc hd p) t ht) s hs
 
 masked_bits : (p q r : Bool) → not (bit_xor (bit q) (bit p) == bit_xor (bit r) (bit p)) ≡ not (bit q == bit r)
 masked_bits true true true = refl

@@ -141,20 +141,24 @@ function_reacts functions.Bit width k m x none s bits =
     (ap (λ p. not (slice_index m.inputs 0 / 2 ^ p % 2 == slice_index x 0 / 2 ^ p % 2)) none ∙
     kept_bits _ _ (s.inputs 0) (bits 0))
 function_reacts functions.And width k m x of_bits s bits =
-    meets m x _ _ _ _ _ _ _ _ (outputs s.stays) (moved_one _ _ (s.inputs 0) (bits 0)) (moved_one _ _ (s.inputs 1) (bits 1))
+    meets m x _ _ (slice_index m.inputs 0 == 1) (slice_index m.inputs 1 == 1) (is_event m x 0) (is_event m x 1) _ _ (outputs s.stays)
+    (moved_one _ _ (s.inputs 0) (bits 0)) (moved_one _ _ (s.inputs 1) (bits 1))
     (ands _ _ _ _ (s.inputs 0) (s.inputs 1) (bits 0) (bits 1))
 function_reacts functions.Or width k m x of_bits s bits =
-    meets m x _ _ _ _ _ _ _ _ (outputs s.stays) (moved_zero _ _ (s.inputs 0) (bits 0)) (moved_zero _ _ (s.inputs 1) (bits 1))
+    meets m x _ _ (slice_index m.inputs 0 == 0) (slice_index m.inputs 1 == 0) (is_event m x 0) (is_event m x 1) _ _ (outputs s.stays)
+    (moved_zero _ _ (s.inputs 0) (bits 0)) (moved_zero _ _ (s.inputs 1) (bits 1))
     (ors _ _ _ _ (s.inputs 0) (s.inputs 1) (bits 0) (bits 1))
 function_reacts functions.Sub width k m x one s bits =
     follows (unserved false false) m x _ _ _ (outputs s.stays)
     (ap (λ w. not ((slice_index m.inputs 0 + (2 ^ 64 - slice_index m.inputs 1)) % modulus w == (slice_index x 0 + (2 ^ 64 - slice_index x 1)) % modulus w)) one ∙
     subtracts _ _ _ _ (s.inputs 0) (s.inputs 1) (bits 0) (bits 1))
 function_reacts functions.Less width k m x of_bits s bits =
-    meets m x _ _ _ _ _ _ _ _ (outputs s.stays) (moved_zero _ _ (s.inputs 0) (bits 0)) (moved_one _ _ (s.inputs 1) (bits 1))
+    meets m x _ _ (slice_index m.inputs 0 == 0) (slice_index m.inputs 1 == 1) (is_event m x 0) (is_event m x 1) _ _ (outputs s.stays)
+    (moved_zero _ _ (s.inputs 0) (bits 0)) (moved_one _ _ (s.inputs 1) (bits 1))
     (compares _ _ _ _ (s.inputs 0) (s.inputs 1) (bits 0) (bits 1))
 function_reacts functions.Mux width k m x of_bits s bits =
-    picks m x _ _ _ _ _ _ _ _ _ (outputs s.stays) (moved_one _ _ (s.inputs 2) (bits 2))
+    picks m x _ _ (slice_index m.inputs 2 == 1) (not (slice_index m.inputs 0 == slice_index m.inputs 1)) (is_event m x 0) (is_event m x 1) (is_event m x 2) _ _ (outputs s.stays)
+    (moved_one _ _ (s.inputs 2) (bits 2))
     (both_moved _ _ _ _ (s.inputs 0) (s.inputs 1) (bits 0) (bits 1))
     (selects _ _ _ _ _ _ (s.inputs 0) (s.inputs 1) (s.inputs 2) (bits 0) (bits 1) (bits 2))
 function_reacts functions.Join width k m x none s bits = absurd none
