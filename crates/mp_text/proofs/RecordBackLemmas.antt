@@ -10,6 +10,14 @@ use Rattle.mp_text.proofs.TextBackLemmas.{Leads, SlotLeads, leads_line}
 pub level_low : (width level : ℕ) → width ≤ 64 → nat_lt level (2 ^ width) ≡ true → level < 2 ^ 64
 level_low width level narrow below = grind (arith, pow-le-pow_right, nat_tests)
 
+module _ (n : Circuit) (circuit : IsCircuit n) (named : HasNames n) where
+  -- the name of a wire that stands
+  pub wire_named : (w : WireId) → IsSome (wire_at n w.0) → is_name (wire_name n w) ≡ true
+  wire_named w some = grind (arith, nat_tests)
+
+  plain_name : (w : WireId) → IsSome (wire_at n w.0) → IsPlain (wire_name n w)
+  plain_name w some = IsPlain-name (wire_name n w) (wire_named w some)
+
 module _ (f : NetlistFormat) (n : Circuit) (circuit : IsCircuit n) (named : HasNames n) where
   pub wire_leads : (w : ℕ) (r : WireRecord) → wire_at n w ≡ Some r → SlotLeads f wire_line wire_edits (Some r)
   unfolding fits_width statement_of
@@ -22,13 +30,6 @@ module _ (f : NetlistFormat) (n : Circuit) (circuit : IsCircuit n) (named : HasN
       let wire_says : statement_of (codes "wire" ∷ words) ≡ Change Wire words = refl in
       record { each = leads_line f (codes "wire") words (AddWire r.name r.width r.initial) Wire (record { some = omega arith; plain = refl }) plain wire_says (wire_read f r.name r.width r.initial width level) }
 
-  -- the name of a wire that stands
-  pub wire_named : (w : WireId) → IsSome (wire_at n w.0) → is_name (wire_name n w) ≡ true
-  wire_named w some = grind (arith, nat_tests)
-
-  plain_name : (w : WireId) → IsSome (wire_at n w.0) → IsPlain (wire_name n w)
-  plain_name w some = IsPlain-name (wire_name n w) (wire_named w some)
-
   pub bundle_leads : (b : ℕ) (r : BundleRecord) → bundle_at n b ≡ Some r → SlotLeads f (bundle_line n) (bundle_edits n) (Some r)
   unfolding statement_of
   bundle_leads b r at =
@@ -36,7 +37,7 @@ module _ (f : NetlistFormat) (n : Circuit) (circuit : IsCircuit n) (named : HasN
       let setup : r.setup < 2 ^ 64 = omega (arith, ok.setup) in
       let words = r.name ∷ wire_name n r.request ∷ wire_name n r.acknowledge ∷ wire_name n r.payload ∷ decimal r.setup ∷ [] in
       let plain = All-from_recursion IsPlain words
-      (IsPlain-name r.name (named.bundles b r at), (plain_name r.request ok.request.0, (plain_name r.acknowledge ok.acknowledge.0, (plain_name r.payload ok.payload, (IsPlain-decimal r.setup setup, tt))))) in
+      (IsPlain-name r.name (named.bundles b r at), (plain_name n circuit named r.request ok.request.0, (plain_name n circuit named r.acknowledge ok.acknowledge.0, (plain_name n circuit named r.payload ok.payload, (IsPlain-decimal r.setup setup, tt))))) in
       let says : statement_of (codes "bundle" ∷ words) ≡ Change Bundle words = refl in
       record { each = leads_line f (codes "bundle") words (added_bundle n r) Bundle (record { some = omega arith; plain = refl }) plain says (bundle_read f (bundle_by_name n r) setup) }
 

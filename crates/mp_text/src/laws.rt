@@ -9,8 +9,8 @@ pub fn text_is_replay()
 {}
 
 /// If the text of a well-formed netlist is not longer than its format allows, it is read as a netlist with the same records: the format in
-/// which it is written, the same horizon, the same wires with their stimuli, and the same modules and bundles with the names of their wires, all in the same order, though perhaps
-/// under other numbers.
+/// which it is written, the same horizon, the same wires with their stimuli, and the same modules and bundles with the names of their wires, all in the
+/// same order, though perhaps under other numbers.
 #[tactic(auto, using(crate::proofs::RoundTripLemmas::read_as_written))]
 pub fn written_text_is_read()
     ensures { IsReadAsWritten }

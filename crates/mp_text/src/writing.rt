@@ -10,10 +10,10 @@ use mp_netlist::{Format, ModuleId, Netlist};
 use mp_streams::{Failed, Out, Sink, Text, WriteSink};
 use std::alloc::{AllocError, Global};
 
-/// The text of a netlist: `format 4` if that is its format or a kind of module needs it, or `format 2` if its horizon is over 65,536, its horizon, then its wires, modules,
-/// stimuli (by wire) and bundles, each ordered by number and only those that exist, with single spaces, and a line feed after each line. Numbers have
-/// no leading zeros, and every output has its delay. If the text is not longer than its format allows, it is read as a netlist with the same records,
-/// though perhaps under other numbers, of the format in which it is written.
+/// The text of a netlist: `format 4` if that is its format or a kind of module needs it, or `format 2` if its horizon is over 65,536, its horizon, then
+/// its wires, modules, stimuli (by wire) and bundles, each ordered by number and only those that exist, with single spaces, and a line feed after each
+/// line. Numbers have no leading zeros, and every output has its delay. If the text is not longer than its format allows, it is read as a netlist with
+/// the same records, though perhaps under other numbers, of the format in which it is written.
 #[tactic(auto, using(crate::proofs::RoundTripLemmas::written_is_read))]
 pub fn write_netlist(alloc: Global, netlist: &Netlist) -> Result<Vec<u8>, AllocError>
     ensures text { IfOk result (λ text. text.items ≡ written netlist.now) }
