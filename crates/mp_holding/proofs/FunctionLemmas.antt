@@ -7,7 +7,7 @@ use Rattle.mp_modules.specs.declared.function.Function.TheVariants as functions
 use Rattle.mp_modules.specs.declared.memory.Memory.{Memory}
 use Rattle.mp_modules.specs.declared.rendezvous.Rendezvous.{Rendezvous}
 use Rattle.mp_modules.specs.CElement.{bubbled, joined}
-use Rattle.mp_modules.specs.Memories.{output_of, flipped, seen, with_outputs, with_one_output}
+use Rattle.mp_modules.specs.Memories.{input_levels, output_of, flipped, seen, with_outputs, with_one_output}
 use Rattle.mp_modules.specs.Select.{select_step, chosen}
 use Rattle.mp_modules.specs.Toggle.{toggle_step, turn}
 use Rattle.mp_modules.specs.storage.Functions.{result_of}
@@ -22,7 +22,7 @@ use Rattle.mp_holding.proofs.SetLemmas.{has_left, has_right, has_cases, where_is
 -- what a function gives goes by the inputs that hold it
 module _ (width k : ℕ) (x y : List ℕ) where
   abbrev Keeps : Function → Type 0
-  Keeps f = AreSame (function_set f (with_one_output x 0)) x y
+  Keeps f = AreSame (function_set f (input_levels x)) x y
       → result_of f width k (slice_index y 0) (slice_index y 1) (slice_index y 2) ≡ result_of f width k (slice_index x 0) (slice_index x 1) (slice_index x 2)
 
   chosen_keeps : (first : Bool) → (slice_index x 2 == 0) ≡ first → AreSame (cond first 0 1 ∷ 2 ∷ []) x y

@@ -7,7 +7,7 @@ use Rattle.mp_modules.specs.declared.function.Function.TheVariants as functions
 use Rattle.mp_modules.specs.declared.memory.Memory.{Memory}
 use Rattle.mp_modules.specs.CElement.{joined}
 use Rattle.mp_modules.specs.Kinds.{output_count}
-use Rattle.mp_modules.specs.Memories.{output_of, with_one_output}
+use Rattle.mp_modules.specs.Memories.{input_levels, output_of}
 use Rattle.mp_modules.specs.Tables.{rendezvous}
 use Rattle.mp_modules.specs.storage.AnyModules.{any_part_of, step}
 use Rattle.mp_modules.specs.storage.Reg.{latched}
@@ -26,8 +26,8 @@ module _ (params : List ℕ) (width : ℕ) (s : Memory) (x y : List ℕ) (p : �
   Goal kind = p < output_count kind → HasSet (holding_sets kind params (after_one kind params width s x) p) set → StaysHeld kind params width s x y p set
 
   -- the set of a function, in the state after the levels
-  set_of : Function → List ℕ → List ℕ
-  set_of f z = function_set f (with_one_output z 0)
+  abbrev set_of : Function → List ℕ → List ℕ
+  set_of f z = function_set f (input_levels z)
 
   -- which is the same after the next levels, if they are the same at its inputs
   same_set : (f : Function) → AreSame (set_of f x) x y → set_of f y ≡ set_of f x

@@ -60,9 +60,9 @@ register_sets s zero = storing_sets s
 register_sets s (suc p) = (suc p ∷ []) ∷ []
 
 -- a function: all inputs; MUX: the input that it chooses, and the one by which it does
-abbrev pub function_set : Function → Memory → List ℕ
-function_set functions.Mux s = (if slice_index s.inputs 2 == 0 then 0 else 1) ∷ 2 ∷ []
-function_set function s = if (function_shape function).inputs == 1 then 0 ∷ [] else 0 ∷ 1 ∷ []
+abbrev pub function_set : Function → List ℕ → List ℕ
+function_set functions.Mux x = (if slice_index x 2 == 0 then 0 else 1) ∷ 2 ∷ []
+function_set function x = if (function_shape function).inputs == 1 then 0 ∷ [] else 0 ∷ 1 ∷ []
 
 -- the sets of inputs of which each holds an output of a module in a state
 abbrev pub holding_sets : Kind → List ℕ → Memory → ℕ → List (List ℕ)
@@ -70,5 +70,5 @@ holding_sets kinds.C params s p = joining_sets (rendezvous params) s
 holding_sets kinds.Call params s p = call_sets s p
 holding_sets kinds.Arbiter params s p = granting_sets (client_at p) p s
 holding_sets kinds.Reg params s p = register_sets s p
-holding_sets (kinds.Function function) params s p = function_set function s ∷ []
+holding_sets (kinds.Function function) params s p = function_set function s.inputs ∷ []
 holding_sets kind params s p = (0 ∷ []) ∷ []

@@ -24,7 +24,7 @@ pub fn holding_sets(kind: Kind, params: &[u64], memory: &Memory, port: u32) -> I
 
 /// All inputs of a function; of a MUX the input that it chooses, and the one by which it does.
 fn function_set(function: Function, memory: &Memory) -> InputSet
-    ensures { set_list result ≡ function_set function memory.now ∷ [] }
+    ensures { set_list result ≡ function_set function memory.now.inputs ∷ [] }
 {
     match function {
         Function::Mux if memory.inputs[2] == 0 => InputSet::Two(0, 2),
