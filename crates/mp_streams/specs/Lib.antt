@@ -1,5 +1,6 @@
 pub mod Outgoing
 pub mod Places
+pub mod InitialBlocks
 pub mod StreamBytes
 pub mod StreamFaults
 pub mod TakeErrors

@@ -2,6 +2,7 @@
 #![tactic(auto)]
 
 mod failed;
+mod initial_block;
 mod out;
 mod piece;
 mod putting;
@@ -15,6 +16,7 @@ mod write_error;
 mod write_sink;
 
 pub use failed::Failed;
+pub use initial_block::InitialBlock;
 pub use out::Out;
 pub use piece::Piece;
 pub use putting::put_all;

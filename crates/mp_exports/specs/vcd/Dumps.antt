@@ -1,5 +1,6 @@
 -- The value change dump of a netlist.
 use Rattle.std.specs.Prelude.{◌+◌, ◌-◌, ◌∷◌, ◌++◌, ◌==◌}
+use Rattle.mp_streams.specs.InitialBlocks.{block_start}
 use Rattle.mp_exports.specs.vcd.Names.{filter, flat_map, range_with_len, WireRecord, Circuit, wire_at, width_of, level, ℕ, List, [], Option, Some, None, Bool, not, codes, decimal}
 use Rattle.mp_exports.specs.vcd.Codes.{code}
 use Rattle.mp_exports.specs.vcd.Values.{value_line}
@@ -59,10 +60,6 @@ unit_text n t = marked n t (changed n t)
 abbrev pub opening_lines : Timescale → List ℕ
 opening_lines scale =
     codes "$timescale " ++ (number_word scale.number ++ (32 ∷ (unit_word scale.unit ++ (line (codes " $end") ++ line (codes "$scope module top $end")))))
-
--- behind the declarations, up to the values of time 0
-abbrev pub block_start : List ℕ
-block_start = line (codes "$upscope $end") ++ (line (codes "$enddefinitions $end") ++ (line (codes "#0") ++ line (codes "$dumpvars")))
 
 -- how long a unit of time is, the declarations, and the level of each wire at time 0
 abbrev pub preamble : Timescale → Circuit → List ℕ

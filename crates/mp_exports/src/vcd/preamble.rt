@@ -6,13 +6,9 @@ use crate::vcd::timescale::Timescale;
 use crate::vcd::value_lines::ValueLine;
 use mp_model::Waves;
 use mp_netlist::{Netlist, WireId};
-use mp_streams::{Failed, Out, Sink, Text};
+use mp_streams::{Failed, InitialBlock, Out, Sink, Text};
 
 const SCOPE: &str = " $end\n$scope module top $end\n";
-
-const BLOCK_START: &str = "$upscope $end\n$enddefinitions $end\n#0\n$dumpvars\n";
-
-const BLOCK_END: &str = "$end\n";
 
 /// The parts of a dump before the changes.
 #[derive(Clone, Copy)]
@@ -43,7 +39,7 @@ pub fn put_preamble<S: Sink>(
     };
     let Timescale { number, unit } = timescale;
     let opening = ("$timescale ", number.word(), " ", (unit.word(), SCOPE));
-    (opening, (declarations, (BLOCK_START, (levels, BLOCK_END)))).put_to(out)
+    (opening, (declarations, InitialBlock { levels })).put_to(out)
 }
 
 /// The lines of a part for each wire that exists, by number.
