@@ -6,7 +6,7 @@ use Rattle.mp_netlist.specs.Slots.{number_named}
 use Rattle.mp_netlist.specs.Uses.{is_used}
 use Rattle.mp_netlist.specs.Edits.{refusal, edited}
 use Rattle.mp_text.specs.lexing.Lines.{lines_of}
-use Rattle.mp_text.specs.lexing.Numbers.{spelled_number, number_from}
+use Rattle.mp_streams.specs.Numbers.{spelled_number, number_from}
 use Rattle.mp_text.specs.lexing.Words.{words_of}
 use Rattle.mp_text.specs.Statements.{statement_of}
 use Rattle.mp_text.specs.Sizes.{text_limit}

@@ -13,7 +13,7 @@ use Rattle.mp_records.specs.declared.single_edit.SingleEdit.{SingleEdit}
 use Rattle.mp_text.specs.declared.lexing.line_error.LineError.{LineError}
 use Rattle.mp_text.specs.declared.lexing.line_error.LineError.TheVariants.{NotAscii, BadNumber}
 use Rattle.mp_text.specs.lexing.Lines.{is_allowed, lines_of}
-use Rattle.mp_text.specs.lexing.Numbers.{spelled_number, number_from}
+use Rattle.mp_streams.specs.Numbers.{spelled_number, number_from}
 use Rattle.mp_text.specs.lexing.Reads.{◌>>=◌}
 use Rattle.mp_text.specs.lexing.Words.{words_of}
 use Rattle.mp_text.specs.declared.text_code.TextCode.{TextCode}

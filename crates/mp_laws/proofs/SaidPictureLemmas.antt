@@ -8,7 +8,7 @@ use Rattle.mp_text.proofs.lemmas.lexing.DividedLemmas.{before_first-append, firs
 use Rattle.mp_text.proofs.lemmas.lexing.ReadBackLemmas.{number_back}
 use Rattle.mp_text.specs.declared.lexing.line_error.LineError.TheVariants.{BadNumber}
 use Rattle.mp_text.specs.declared.question.Question.TheVariants.{Show}
-use Rattle.mp_text.specs.lexing.Numbers.{number_from, spelled_number}
+use Rattle.mp_streams.specs.Numbers.{number_from, spelled_number}
 use Rattle.mp_text.specs.lexing.WordLists.{number_word}
 use Rattle.mp_text.specs.Limits.{max_columns}
 use Rattle.mp_text.specs.PictureForms.{PictureForm}

@@ -3,3 +3,4 @@ pub mod StreamLemmas
 pub mod LeftLemmas
 pub mod OutLemmas
 pub mod FlushLemmas
+pub mod NumberLemmas

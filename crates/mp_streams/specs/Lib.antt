@@ -1,6 +1,7 @@
 pub mod Outgoing
 pub mod Places
 pub mod InitialBlocks
+pub mod Numbers
 pub mod StreamBytes
 pub mod StreamFaults
 pub mod TakeErrors

@@ -3,6 +3,7 @@
 
 mod failed;
 mod initial_block;
+mod number;
 mod out;
 mod piece;
 mod putting;
@@ -17,6 +18,7 @@ mod write_sink;
 
 pub use failed::Failed;
 pub use initial_block::InitialBlock;
+pub use number::spelled_number;
 pub use out::Out;
 pub use piece::Piece;
 pub use putting::put_all;

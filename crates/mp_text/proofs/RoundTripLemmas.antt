@@ -3,7 +3,7 @@ use Rattle.mp_text.proofs.Names.{◌^◌, ◌<◌, ◌≡◌, ◌+◌, ◌≤◌
 use Rattle.mp_text.proofs.FormatLemmas.{horizon_fits, kinds_fit}
 use Rattle.mp_netlist.specs.declared.format.Format.{Format as NetlistFormat}
 use Rattle.mp_text.proofs.WrittenLineLemmas.{lines_of-written}
-use Rattle.mp_text.specs.lexing.Numbers.{spelled_number, number_from}
+use Rattle.mp_streams.specs.Numbers.{spelled_number, number_from}
 use Rattle.mp_text.proofs.StatementBackLemmas.{horizon_stated}
 use Rattle.mp_text.proofs.TextBackLemmas.{Leads, leads_nowhere, leads_slots, line_stated}
 use Rattle.mp_text.proofs.RecordBackLemmas.{wire_leads, stimulus_leads, bundle_leads}

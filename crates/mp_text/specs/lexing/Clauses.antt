@@ -8,7 +8,7 @@ pub use Rattle.mp_streams.specs.Places.{IsPlaced}
 pub use Rattle.mp_wave.specs.ToggleWaves.{toggle_changes}
 pub use Rattle.mp_text.specs.lexing.Divisions.{are_divided, are_division, first_part, is_division, later_parts, lines_of_each, parts_of}
 pub use Rattle.mp_text.specs.lexing.Lines.{is_allowed, is_line_feed, line_words, lines_of}
-pub use Rattle.mp_text.specs.lexing.Numbers.{is_slash, name_and_number, number_from, parts_at_equals, parts_at_slash, spelled_number, time_and_value}
+pub use Rattle.mp_text.specs.lexing.Numbers.{is_slash, name_and_number, parts_at_equals, parts_at_slash, time_and_value}
 pub use Rattle.mp_text.specs.lexing.Reads.{Gives, with_front, ◌>>=◌}
 pub use Rattle.mp_text.specs.lexing.WaveLines.{change_text, changes_text, pair_text}
 pub use Rattle.mp_text.specs.lexing.WordLists.{change_word, count_word, each_word, input_word, number_word, output_word, wire_or_none}

@@ -1,7 +1,8 @@
 -- What words say, alone and in turn.
 use Rattle.std.specs.Prelude.{◌&&◌, ◌∷◌, if◌then◌else◌, nat_le}
 use Rattle.mp_text.specs.lexing.Names.{ℕ, List, [], Option, Some, None, Result, Ok, Err, codes, option_map, ok_or, list_any, bytes_eq, InputName, OutputName, LineError, BadNumber}
-use Rattle.mp_text.specs.lexing.Numbers.{spelled_number, time_and_value, is_slash, name_and_number}
+use Rattle.mp_streams.specs.Numbers.{spelled_number}
+use Rattle.mp_text.specs.lexing.Numbers.{time_and_value, is_slash, name_and_number}
 use Rattle.mp_text.specs.lexing.Reads.{◌>>=◌}
 
 abbrev pub number_word : List ℕ → Result ℕ LineError

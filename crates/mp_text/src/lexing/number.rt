@@ -1,46 +1,19 @@
-//! Decimal numbers, and pairs with them.
-#![tactic(auto, unfolding(crate::specs::lexing::Numbers::spelled_number, crate::specs::lexing::Numbers::time_and_value, crate::specs::lexing::Numbers::parts_at_equals, crate::specs::lexing::Numbers::name_and_number, crate::specs::lexing::Numbers::parts_at_slash))]
+//! Pairs with decimal numbers.
+#![tactic(auto, unfolding(crate::specs::lexing::Numbers::time_and_value, crate::specs::lexing::Numbers::parts_at_equals, crate::specs::lexing::Numbers::name_and_number, crate::specs::lexing::Numbers::parts_at_slash))]
 
 ghost use Rattle.std.specs.Prelude.{◌≡◌, ◌+◌};
-ghost use Rattle.mp_text.specs.lexing.Clauses.{not, length, option_map, IfSome, IsAscii, suffix_len, number_from, spelled_number, parts_at_equals, time_and_value, is_slash, parts_at_slash, name_and_number};
+ghost use Rattle.mp_text.specs.lexing.Clauses.{not, length, option_map, IfSome, IsAscii, suffix_len, parts_at_equals, time_and_value, is_slash, parts_at_slash, name_and_number};
 
 use crate::lexing::word::place_of;
-
-/// The greatest number of digits.
-const MAX_DIGITS: usize = 20;
-
-/// The number that a word of 1 to 20 decimal digits spells, if it is below 2^64.
-pub fn number(word: &[u8]) -> Option<u64>
-    ensures { result ≡ spelled_number word.now }
-{
-    if word.is_empty() || word.len() > MAX_DIGITS {
-        return None;
-    }
-    digits(word)
-}
-
-#[tactic(auto, using(crate::proofs::lemmas::lexing::DecimalLemmas::digit_steps))]
-fn digits(word: &[u8]) -> Option<u64>
-    ensures { result ≡ number_from 0 word.now }
-{
-    let mut value: u64 = 0;
-    for byte in word {
-        if !byte.is_ascii_digit() {
-            return None;
-        }
-        let digit = u64::from(*byte - b'0');
-        value = value.checked_mul(10)?.checked_add(digit)?;
-    }
-    Some(value)
-}
+use mp_streams::spelled_number;
 
 /// A time and a value, as in `5=1`.
 pub fn time_and_value(word: &[u8]) -> Option<(u64, u64)>
     ensures { result ≡ time_and_value word.now }
 {
     let (front, back) = at_equals(word)?;
-    let time = number(front)?;
-    let value = number(back)?;
+    let time = spelled_number(front)?;
+    let value = spelled_number(back)?;
     Some((time, value))
 }
 
@@ -58,7 +31,7 @@ pub fn name_and_number(word: &[u8]) -> Option<(&[u8], u64)>
     ensures ascii { IsAscii word.now → IfSome result (λ pair. IsAscii pair.0.now) }
 {
     let (name, back) = at_slash(word)?;
-    let number = number(back)?;
+    let number = spelled_number(back)?;
     Some((name, number))
 }
 

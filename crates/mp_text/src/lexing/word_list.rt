@@ -5,17 +5,18 @@ ghost use Rattle.std.specs.Prelude.{◌≡◌, ◌<◌};
 ghost use Rattle.mp_text.specs.lexing.Clauses.{ℕ, List, Result, All, IfOk, IsAscii, LineError, OutOfMemory, Gives, texts, list_any, is_slash, number_word, count_word, change_word, input_word, wire_or_none, output_word, each_word};
 
 use crate::lexing::line_error::LineError;
-use crate::lexing::number::{name_and_number, number, time_and_value};
+use crate::lexing::number::{name_and_number, time_and_value};
 use crate::lexing::spelling::is_text;
 use crate::lexing::word::name_of;
 use mp_records::{InputName, Name, OutputName};
+use mp_streams::spelled_number;
 use std::alloc::{AllocError, Global};
 
 /// The number below 2^64 that a word of 1 to 20 digits spells. `BadNumber` comes for any other word.
 pub fn number_word(word: &[u8]) -> Result<u64, LineError>
     ensures { result ≡ number_word word.now }
 {
-    number(word).ok_or(LineError::BadNumber)
+    spelled_number(word).ok_or(LineError::BadNumber)
 }
 
 /// The number from 1 to `most` that a word spells. `BadNumber` comes for any other word.

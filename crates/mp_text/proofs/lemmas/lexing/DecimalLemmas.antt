@@ -1,5 +1,5 @@
 -- Numbers as they are written.
-use Rattle.mp_text.proofs.lemmas.lexing.Names.{◌≡◌, ◌+◌, ◌-◌, ◌*◌, ◌/◌, ◌^◌, ◌<◌, ◌≤◌, ◌∷◌, ◌++◌, length-set, ℕ, true, List, [], Some, decimal, ◌∙◌, arith, is_ascii_digit, list_all, decimal_by_steps, length-decimal-le, decimal_nonempty, nat_tests, list_all-append, number_from, spelled_number, cond, length, get_or, drop, None, at_drop_more, at_drop_all, zero, suc, length-append, decimal_step}
+use Rattle.mp_text.proofs.lemmas.lexing.Names.{◌≡◌, ◌+◌, ◌-◌, ◌*◌, ◌/◌, ◌^◌, ◌<◌, ◌≤◌, ◌∷◌, ◌++◌, length-set, ℕ, true, List, [], Some, decimal, ◌∙◌, arith, is_ascii_digit, list_all, decimal_by_steps, length-decimal-le, decimal_nonempty, nat_tests, list_all-append, number_from, spelled_number, length, zero, suc, length-append, decimal_step}
 use Rattle.std.proofs.Math.Nat.{pow-suc, one-le-pow}
 
 -- one more digit
@@ -23,25 +23,6 @@ pub decimal_digits : (n : ℕ) → n < 2 ^ 64 → list_all is_ascii_digit (decim
 decimal_digits n fits = decimal_by_steps (λ n ds. list_all is_ascii_digit ds ≡ true) (λ n low. grind (arith, nat_tests)) (λ n ds high before. grind (arith, nat_tests, list_all-append)) n fits
 
 pub ruleset changepiece_write_steps = (length-set)
-
--- a number that is too large stays so
-pub number_from_over : (n : ℕ) (bytes : List ℕ) → 2 ^ 64 ≤ n → number_from n bytes ≡ None
-unfolding number_from
-number_from_over n [] over = grind (arith, nat_tests)
-number_from_over n (byte ∷ bytes) over = grind (arith, nat_tests, (number_from_over (n * 10 + (byte - 48)) bytes (omega arith)))
-
--- at a byte
-pub number_from_next : (word : List ℕ) (i n : ℕ) → i < length word
-    → number_from n (drop i word) ≡ cond (is_ascii_digit (get_or word i 0)) (number_from (n * 10 + (get_or word i 0 - 48)) (drop (i + 1) word)) None
-unfolding number_from
-number_from_next word i n within = at_drop_more (number_from n) word i 0 within
-
--- at the end
-pub number_from_end : (word : List ℕ) (i n : ℕ) → length word ≤ i → n < 2 ^ 64 → number_from n (drop i word) ≡ Some n
-unfolding number_from
-number_from_end word i n over fits = at_drop_all (number_from n) word i over ∙ grind (arith, nat_tests)
-
-pub ruleset digit_steps = (number_from_over, number_from_next, number_from_end)
 
 -- a power of ten that is no more than the number
 more_digits : (k n : ℕ) → 10 ^ k ≤ n → n < 2 ^ 64 → k < length (decimal n)

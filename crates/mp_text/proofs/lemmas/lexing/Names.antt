@@ -18,8 +18,9 @@ pub use Rattle.mp_records.specs.Names.{begins_with_letter, is_name_byte}
 unfoldable pub use Rattle.mp_records.specs.Names.{is_name}
 pub use Rattle.mp_streams.proofs.LeftLemmas.{Left, left_as, left_failed, left_none, left_then, left_whole}
 pub use Rattle.mp_streams.proofs.OutLemmas.{puts_next, puts_stopped, puts_then, writes_failed}
+unfoldable pub use Rattle.mp_streams.specs.Numbers.{number_from, spelled_number}
 unfoldable pub use Rattle.mp_text.specs.lexing.Lines.{lines_of}
-unfoldable pub use Rattle.mp_text.specs.lexing.Numbers.{name_and_number, number_from, parts_at_equals, parts_at_slash, spelled_number, time_and_value}
+unfoldable pub use Rattle.mp_text.specs.lexing.Numbers.{name_and_number, parts_at_equals, parts_at_slash, time_and_value}
 unfoldable pub use Rattle.mp_text.specs.lexing.WordLists.{each_word, input_word, output_word}
 unfoldable pub use Rattle.mp_text.specs.lexing.Words.{words_of}
 pub use Rattle.mp_text.specs.lexing.Clauses.{AreAscii, LineError, Writes, after_first, after_last, are_divided, before_first, before_last, change_text, change_word, changes_text, first_part, is_allowed, is_division, is_gap, is_line_feed, is_slash, is_word, is_word_byte, later_parts, lines_of_each, list_all, list_any, number_word, onto_first, pair_text, parts_of, position_or_len, slice_split, statement_part, suffix_len, texts, toggle_changes, with_front, ◌>>=◌}

@@ -1,5 +1,6 @@
-use Rattle.mp_text.proofs.lemmas.lexing.Names.{◌≡◌, ◌<◌, ◌^◌, drop, number_from}
-use Rattle.mp_text.proofs.lexing.number.digits.Given as goal
+use Rattle.std.proofs.Common.{◌≡◌, ◌<◌, ◌^◌, drop}
+use Rattle.mp_streams.specs.Numbers.{number_from}
+use Rattle.mp_streams.proofs.number.digits.Given as goal
 
 -- the digits that are left go on from the value
 abbrev pub invariant-loop-byte : goal.invariant-loop-byte
