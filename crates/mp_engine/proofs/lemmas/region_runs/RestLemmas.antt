@@ -6,8 +6,7 @@ use Rattle.mp_records.specs.declared.module_record.ModuleRecord.{ModuleRecord}
 use Rattle.mp_netlist.specs.Circuit.{Circuit, IsCircuit, module_at}
 use Rattle.mp_netlist.specs.Limits.{checkpoint_units}
 use Rattle.mp_model.specs.Waves.{state}
-use Rattle.mp_kernel.specs.declared.datapath.level_change.LevelChange.{LevelChange}
-use Rattle.mp_simulation.specs.units.NetlistSimulations.{AreStimuli, IsAtRest}
+use Rattle.mp_simulation.specs.units.NetlistSimulations.{IsAtRest}
 use Rattle.mp_simulation.proofs.lemmas.units.RestingLemmas.{rests_on, state_rests}
 use Rattle.mp_simulation.specs.declared.run.stimuli.StimulusChange.{StimulusChange}
 use Rattle.mp_simulation.specs.run.Stimuli.{rest_of, left_of, bits_at, levels_at, AreFrom}

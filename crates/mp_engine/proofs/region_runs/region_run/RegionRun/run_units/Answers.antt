@@ -1,4 +1,4 @@
-use Rattle.std.proofs.Common.{◌≡◌, ◌+◌, ◌-◌, ◌<◌, ◌≤◌, subst, arith}
+use Rattle.std.proofs.Common.{◌≡◌, ◌+◌, ◌-◌, ◌<◌, subst, arith}
 use Rattle.mp_engine.specs.region_runs.RegionRuns.{IsUnderWay}
 use Rattle.mp_engine.proofs.lemmas.region_runs.RegionRunLemmas.{can_less}
 use Rattle.mp_engine.proofs.region_runs.region_run.RegionRun.run_units.Goals as goal
