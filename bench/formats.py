@@ -48,11 +48,15 @@ def dump(netlist, levels):
     return "".join(lines + [f"#{netlist.horizon}\n"])
 
 
+def needs_fourth(netlist):
+    """Whether a module's kind is one that a text has only in the format 4."""
+    return any(found and found[0] in reference.LATER for found in netlist.modules)
+
+
 def text(netlist):
     """The netlist's text."""
     name = lambda wire: netlist.wires[wire][0]
-    is_later = any(found and found[0] in reference.LATER for found in netlist.modules)
-    form = 4 if netlist.is_large or is_later else 2 if netlist.horizon > 65536 else 1
+    form = 4 if netlist.is_large or needs_fourth(netlist) else 2 if netlist.horizon > 65536 else 1
     lines = ([f"format {form}"] if form > 1 else []) + [f"horizon {netlist.horizon}"]
     lines += [f"wire {wire[0]} {wire[1]} {wire[2]}" for wire in netlist.wires if wire]
     for number, found in enumerate(netlist.modules):
