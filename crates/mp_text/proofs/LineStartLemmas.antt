@@ -1,5 +1,5 @@
 -- How a line begins decides what it says.
-use Rattle.mp_text.proofs.Names.{◌≡◌, ◌-◌, ◌<◌, ◌==◌, ◌||◌, ◌∷◌, if◌then◌else◌, rest_ascii, texts_behind, ℕ, zero, suc, min, Bool, true, false, cond, List, [], length, drop, None, Some, Result, Ok, Err, IfErr, refl, ap, ◌∙◌, arith, true≢false, length-take, length-drop, nat_le, slice_get, byte, bytes_eq, codes, before_first, after_first, list_all, cases_eq, leb-false, nat_tests, LineError, WordCount, UnknownStatement, NotAscii, OutOfMemory, is_allowed, words_of, ◌>>=◌, statement_takes, single_takes, question_takes, takes, is_begun, HasForm, is_mark, module_edit, stated_edit, line_word, stated_line, line_of, line_at, each_word, EditWord, Large, SingleWord, LineWord, Single, Batch, Question, QuestionWord, Empty}
+use Rattle.mp_text.proofs.Names.{◌≡◌, ◌-◌, ◌<◌, ◌==◌, ◌||◌, ◌∷◌, if◌then◌else◌, rest_ascii, texts_behind, ℕ, zero, suc, Bool, true, false, cond, List, [], length, drop, None, Some, Result, Ok, Err, IfErr, refl, ap, ◌∙◌, arith, true≢false, length-take, length-drop, nat_le, slice_get, byte, bytes_eq, codes, before_first, after_first, list_all, cases_eq, leb-false, nat_tests, LineError, WordCount, UnknownStatement, NotAscii, OutOfMemory, is_allowed, words_of, ◌>>=◌, statement_takes, question_takes, takes, is_begun, HasForm, is_mark, stated_edit, line_word, stated_line, line_of, line_at, each_word, EditWord, Large, LineWord, Single, Batch, Question, QuestionWord, Empty}
 use Rattle.mp_text.specs.declared.script_line.Line.{Line}
 use Rattle.mp_text.proofs.GivenLemmas.{wanting_given}
 use Rattle.mp_text.specs.Questions.{check_question, range_of, stated_question}

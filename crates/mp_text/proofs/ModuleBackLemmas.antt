@@ -1,5 +1,5 @@
 -- The lines of modules lead where the edits of the modules lead.
-use Rattle.mp_text.proofs.Names.{◌≡◌, ◌^◌, ◌<◌, ◌≤◌, ◌==◌, ◌∷◌, ◌++◌, ℕ, Bool, true, cond, List, length, map, All, Option, Some, None, Ok, decimal, refl, arith, inl, inr, codes, nat_lt, IsTrue, IsSome, IfSome, list_all, cases_Bool, eqb-true, append-nil, All-cons, All-map, All-append, All-get_or, All-from_get_or, All-weaker, Kind, some_input, some_output, param_bound-low, width_from_low, WireId, WireRecord, ModuleRecord, Input, Output, added_module, is_name, input_at, output_at, max_delay, Circuit, IsCircuit, IsModule, IsDelay, HasWidth, wire_at, module_at, width_of, module_width, HasNames, input_word, module_line, wire_name, delay_text, input_text, output_name, output_text, module_edits, has_kind, stated_edit, statement_of, Change, Module, IsPlain, IsPlain-append, IsPlain-decimal, IsPlain-name, and_parts, input_back, late_input_back, no_wire_back, wire_back, All-passing, ltb-true, nat_tests}
+use Rattle.mp_text.proofs.Names.{◌≡◌, ◌^◌, ◌<◌, ◌≤◌, ◌==◌, ◌∷◌, ◌++◌, ℕ, true, List, length, map, All, Option, Some, None, Ok, decimal, refl, arith, inl, inr, codes, nat_lt, IsTrue, IsSome, IfSome, list_all, cases_Bool, eqb-true, append-nil, All-cons, All-map, All-append, All-get_or, All-from_get_or, All-weaker, Kind, some_input, some_output, param_bound-low, width_from_low, WireId, WireRecord, ModuleRecord, Input, Output, added_module, is_name, input_at, output_at, max_delay, Circuit, IsCircuit, IsModule, IsDelay, HasWidth, wire_at, module_at, width_of, module_width, HasNames, input_word, module_line, wire_name, delay_text, input_text, output_name, output_text, module_edits, has_kind, stated_edit, statement_of, Change, Module, IsPlain, IsPlain-append, IsPlain-decimal, IsPlain-name, and_parts, input_back, late_input_back, no_wire_back, wire_back, All-passing, ltb-true, nat_tests}
 use Rattle.mp_modules.specs.Kinds.{word_of, param_bound, param_count, are_params, output_width}
 use Rattle.mp_modules.specs.declared.kind.Kind.TheVariants as kinds
 use Rattle.mp_modules.specs.declared.function.Function.TheVariants as functions

@@ -1,5 +1,5 @@
 -- Numbers as they are written.
-use Rattle.mp_text.proofs.lemmas.lexing.Names.{◌≡◌, ◌+◌, ◌-◌, ◌*◌, ◌/◌, ◌^◌, ◌<◌, ◌≤◌, ◌∷◌, ◌++◌, length-set, ℕ, true, List, [], Some, decimal, ◌∙◌, arith, is_ascii_digit, list_all, decimal_by_steps, length-decimal-le, decimal_nonempty, nat_tests, list_all-append, number_from, spelled_number, length, zero, suc, length-append, decimal_step}
+use Rattle.mp_text.proofs.lemmas.lexing.Names.{◌≡◌, ◌+◌, ◌-◌, ◌*◌, ◌/◌, ◌^◌, ◌<◌, ◌≤◌, ◌∷◌, ◌++◌, length-set, ℕ, true, List, [], Some, decimal, arith, is_ascii_digit, list_all, decimal_by_steps, length-decimal-le, decimal_nonempty, nat_tests, list_all-append, number_from, spelled_number, length, zero, suc, length-append, decimal_step}
 use Rattle.std.proofs.Math.Nat.{pow-suc, one-le-pow}
 
 -- one more digit
