@@ -11,7 +11,7 @@ mod touch;
 pub mod work;
 
 pub use drivers::drivers_of;
-pub use recording::{Finished, RerunRecorder, old_state};
+pub use recording::{Finished, RerunRecorder, is_old_state, old_state};
 pub use set_alike::is_set_alike;
 pub use touch::{is_touched, touched};
 pub use work::{Work, WorkEntries, WorkEntry, WorkSpan, block_of, window_end};

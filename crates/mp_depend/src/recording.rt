@@ -8,4 +8,4 @@ mod states;
 
 pub use finished::Finished;
 pub use rerun_recorder::RerunRecorder;
-pub use states::old_state;
+pub use states::{is_old_state, old_state};

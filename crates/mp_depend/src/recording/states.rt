@@ -1,5 +1,5 @@
 //! States of modules that are known before anything is evaluated.
-ghost use Rattle.std.specs.Prelude.{◌≡◌, Some};
+ghost use Rattle.std.specs.Prelude.{◌≡◌, ◌↔◌, Some, IsTrue};
 ghost use Rattle.mp_records.specs.declared.module_record.ModuleRecord.{ModuleRecord as Part};
 ghost use Rattle.mp_netlist.specs.Circuit.{IsCircuit, module_at};
 ghost use Rattle.mp_netlist.specs.Slots.{slot_at};
@@ -30,4 +30,11 @@ pub fn old_state(run: &Run, id: ModuleId, time: u32) -> Memory
         Some(kept) => kept.kept_at(time),
         None => Memory::with_one_output(&[], 0),
     }
+}
+
+/// Whether a state of a module is the one that a run kept for a time.
+pub fn is_old_state(run: &Run, id: ModuleId, time: u32, memory: Memory) -> bool
+    ensures { IsTrue result ↔ (state_in (slot_at run.now.kept id.0) time ≡ memory) }
+{
+    old_state(run, id, time) == memory
 }

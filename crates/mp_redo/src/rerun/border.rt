@@ -3,10 +3,8 @@ ghost use Rattle.std.specs.Prelude.{◌≡◌};
 
 use crate::rerun::rerun::Rerun;
 use mp_active::Change;
-use mp_depend::old_state;
-use mp_modules::Memory;
+use mp_depend::is_old_state;
 use mp_netlist::ModuleId;
-use mp_partition::Run;
 use std::alloc::AllocError;
 
 impl Rerun {
@@ -122,15 +120,4 @@ impl Rerun {
             _ => false,
         }
     }
-}
-
-ghost use Rattle.std.specs.Prelude.{◌↔◌, IsTrue};
-ghost use Rattle.mp_netlist.specs.Slots.{slot_at};
-ghost use Rattle.mp_depend.specs.recording.Overlays.{state_in};
-
-/// Whether a state of a module is the one that the old run kept for a time.
-fn is_old_state(run: &Run, id: ModuleId, time: u32, memory: Memory) -> bool
-    ensures { IsTrue result ↔ (state_in (slot_at run.now.kept id.0) time ≡ memory) }
-{
-    old_state(run, id, time) == memory
 }
