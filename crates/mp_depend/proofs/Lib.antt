@@ -1,4 +1,5 @@
 pub mod TouchLemmas
+pub mod MarkLemmas
 pub mod DriverLemmas
 pub mod SetAlikeLemmas
 pub mod lemmas

@@ -5,12 +5,14 @@
 #![tactic(auto)]
 
 mod drivers;
+mod marks;
 mod recording;
 mod set_alike;
 mod touch;
 pub mod work;
 
 pub use drivers::drivers_of;
+pub use marks::marks_of;
 pub use recording::{Finished, RerunRecorder, is_old_state, old_state};
 pub use set_alike::is_set_alike;
 pub use touch::{is_touched, touched};

@@ -59,7 +59,6 @@ pub mod StayingLemmas
 pub mod TailLemmas
 pub mod TaskLemmas
 pub mod ToComeLemmas
-pub mod TouchedLemmas
 pub mod TurningLemmas
 pub mod UnderWayLemmas
 pub mod UnitLemmas
