@@ -1,5 +1,6 @@
 pub mod Touched
 pub mod Drivers
 pub mod SetAlike
+pub mod OldWaves
 pub mod work
 pub mod recording

@@ -6,6 +6,7 @@
 
 mod drivers;
 mod marks;
+mod old_waves;
 mod recording;
 mod set_alike;
 mod touch;
@@ -13,6 +14,7 @@ pub mod work;
 
 pub use drivers::drivers_of;
 pub use marks::marks_of;
+pub use old_waves::old_from;
 pub use recording::{Finished, RerunRecorder, is_old_state, old_state};
 pub use set_alike::is_set_alike;
 pub use touch::{is_touched, touched};

@@ -1,5 +1,5 @@
 -- What is left of a re-evaluation when all units are over.
-use Rattle.std.specs.Prelude.{◌≡◌, ℕ, ◌-◌, ◌<◌, ◌≤◌, ◌==◌, Bool, true, false, List, Some, IsSome, length, max, slice_index_or, if◌then◌else◌}
+use Rattle.std.specs.Prelude.{◌≡◌, ℕ, ◌-◌, ◌<◌, ◌≤◌, Bool, true, false, List, Some, IsSome, length, slice_index_or}
 use Rattle.mp_records.specs.declared.module_record.ModuleRecord.{ModuleRecord}
 use Rattle.mp_netlist.specs.Circuit.{Circuit, IsCircuit, wire_at, module_at}
 use Rattle.mp_model.specs.Waves.{state, slot_wave}
@@ -13,6 +13,7 @@ use Rattle.mp_simulation.specs.units.NetlistSimulations.{IsSimulated}
 use Rattle.mp_simulation.specs.run.Runs.{wave_for}
 use Rattle.mp_active.specs.declared.compare.wire_source.WireSource.{WireSource}
 use Rattle.mp_active.specs.compare.Comparing.{off}
+use Rattle.mp_depend.specs.OldWaves.{old_from}
 use Rattle.mp_redo.specs.rerun.Splicing.{IsSplicedAt}
 
 -- the simulation is one of a netlist after a unit, in which the active modules stand with their last states; the others have those of the old run
@@ -29,10 +30,6 @@ pub record HaveEnds (new : Circuit) (run : Outcome) (active : List Bool) (s : Ne
 -- from when on a wire has the levels of the old run
 abbrev pub until_in : List WireSource → ℕ → ℕ
 until_in sources w = (slice_index_or sources w off).until
-
--- from when on a wave is that of the old run, where units from an end on aren't gone through: always, where the wire has always had its levels
-abbrev pub old_from : ℕ → ℕ → ℕ
-old_from until end = if until == 0 then 0 else max until end
 
 -- a wire that has always had the levels of the old run has its wave there, and any other wire has its wave in the simulation up to when it goes on
 -- with that of the old run, if it does

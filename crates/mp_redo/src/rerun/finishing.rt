@@ -6,7 +6,7 @@ ghost use Rattle.mp_model.specs.Waves.{slot_wave};
 ghost use Rattle.mp_partition.specs.runs.Outcomes.{AreSlots, wave_of};
 ghost use Rattle.mp_partition.specs.runs.Runs.{end_memory};
 ghost use Rattle.mp_simulation.specs.run.Runs.{wave_for};
-ghost use Rattle.mp_redo.specs.rerun.Finishing.{HaveEnds, HaveWaves, old_from};
+ghost use Rattle.mp_redo.specs.rerun.Finishing.{HaveEnds, HaveWaves};
 ghost use Rattle.mp_redo.specs.rerun.Splicing.{IsSplicedAt};
 ghost use Rattle.mp_redo.specs.rerun.Reruns.{IsChange};
 
@@ -17,7 +17,7 @@ use mp_active::WireSource;
 use mp_active::agreement::laws::{readers_agree, sleepers_agree, sleepers_rest, wires_agree};
 use mp_active::compare::laws::runs_are_old;
 use mp_active::excerpt::laws::{excerpts_are_circuits, excerpts_are_simulated, excerpts_show};
-use mp_depend::{Finished, RerunRecorder, WorkSpan};
+use mp_depend::{Finished, RerunRecorder, WorkSpan, old_from};
 use mp_kernel::WaveTable;
 use mp_model::Waves;
 use mp_modules::Memory;
@@ -159,7 +159,7 @@ fn all_waves(
     for w in 0..change.new.wire_slots() {
         let toggled = toggles.next();
         let level = levels.next();
-        let from = old_from(sources[w as usize], end);
+        let from = old_from(sources[w as usize].until, end);
         found.push(wave_in(alloc, change, WireId(w), from, toggled, level)?)?;
     }
     Ok(found)
@@ -184,16 +184,6 @@ fn waves_in(simulation: NetlistSimulation) -> SimulatedWaves
         toggles: waves,
         levels,
     }
-}
-
-/// From when on the wave of a wire is that of the old run, if units from an end on weren't gone through.
-fn old_from(source: WireSource, end: u32) -> u32
-    ensures { result ≡ old_from source.until end }
-{
-    if source.until == 0 {
-        return 0;
-    }
-    source.until.max(end)
 }
 
 /// The wave of a wire that exists: that of the old run if it has all its levels, and otherwise that of the simulation, which the old run's may

@@ -43,7 +43,8 @@ use Rattle.mp_redo.specs.declared.rerun.rerun.Rerun.{Rerun}
 use Rattle.mp_redo.specs.rerun.Reruns.{active_of, on_of, until_of, IsRerunBy}
 use Rattle.mp_active.specs.compare.Comparing.{wave_or_none, old_wave}
 use Rattle.mp_active.specs.compare.OldRuns.{RunsAreOld}
-use Rattle.mp_redo.specs.rerun.Finishing.{HaveEnds, HaveWaves, old_from}
+use Rattle.mp_depend.specs.OldWaves.{old_from}
+use Rattle.mp_redo.specs.rerun.Finishing.{HaveEnds, HaveWaves}
 use Rattle.mp_redo.specs.rerun.Settling.{IsSettled}
 use Rattle.mp_redo.specs.rerun.Splicing.{switched, IsSplicedAt}
 use Rattle.mp_redo.proofs.lemmas.rerun.SettlingLemmas.{sleeping_at, back, held}
