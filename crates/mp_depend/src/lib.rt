@@ -10,6 +10,7 @@ mod old_waves;
 mod recording;
 mod set_alike;
 mod touch;
+mod waking;
 pub mod work;
 
 pub use drivers::drivers_of;
@@ -18,4 +19,5 @@ pub use old_waves::old_from;
 pub use recording::{Finished, RerunRecorder, is_old_state, old_state};
 pub use set_alike::is_set_alike;
 pub use touch::{is_touched, touched};
+pub use waking::list_all_asleep;
 pub use work::{Work, WorkEntries, WorkEntry, WorkSpan, block_of, window_end};

@@ -3,7 +3,6 @@ pub mod Numbered
 pub mod Following
 pub mod Seats
 pub mod Coming
-pub mod Hearing
 pub mod Joining
 pub mod Joins
 pub mod Tasks

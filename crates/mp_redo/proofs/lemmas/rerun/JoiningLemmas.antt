@@ -17,7 +17,7 @@ use Rattle.mp_active.specs.agreement.Reading.{late, AreAlike, QuietWhereAlike}
 use Rattle.mp_active.specs.excerpt.Numberings.{Numbering}
 use Rattle.mp_active.specs.compare.Comparing.{wire_of, delay_of, asleep_at}
 use Rattle.mp_redo.specs.declared.rerun.rerun.Rerun.{Rerun}
-use Rattle.mp_redo.specs.rerun.Hearing.{AreHearing}
+use Rattle.mp_depend.specs.Hearing.{AreHearing}
 use Rattle.mp_redo.specs.rerun.Joining.{AreJoining, AreDeparting, departs}
 use Rattle.mp_redo.specs.rerun.Reruns.{IsRerunBy, active_of}
 use Rattle.mp_active.proofs.lemmas.excerpt.TestLemmas.{bit_true}

@@ -7,9 +7,10 @@ use Rattle.mp_kernel.specs.events.Toggling.{row_at, entries_from}
 use Rattle.mp_simulation.proofs.lemmas.bits.ListedLemmas.{listed_here}
 use Rattle.mp_partition.specs.runs.Marks.{is_marked}
 use Rattle.mp_redo.specs.declared.rerun.rerun.Rerun.{Rerun}
-use Rattle.mp_redo.specs.rerun.Hearing.{AreHearing}
+use Rattle.mp_depend.specs.Hearing.{AreHearing}
 use Rattle.mp_redo.specs.rerun.Reruns.{active_of}
-use Rattle.mp_redo.proofs.lemmas.rerun.HearingLemmas.{hearing_none, entries_more, same_hearing}
+use Rattle.mp_depend.proofs.HearingLemmas.{hearing_none}
+use Rattle.mp_redo.proofs.lemmas.rerun.HearingLemmas.{entries_more, same_hearing}
 use Rattle.mp_redo.proofs.lemmas.rerun.LookingLemmas.{joining_looked, joining_kept}
 use Rattle.mp_redo.proofs.lemmas.rerun.JoiningLemmas.{departing_within, row_within, row_eventful, all_join}
 use Rattle.mp_redo.proofs.rerun.rerun.Rerun.list_readers.Goals as goal

@@ -1,6 +1,6 @@
 use Rattle.std.proofs.Common.{◌≡◌, length, take}
 use Rattle.mp_kernel.specs.events.Toggling.{entries_from}
-use Rattle.mp_redo.specs.rerun.Hearing.{AreHearing}
+use Rattle.mp_depend.specs.Hearing.{AreHearing}
 use Rattle.mp_redo.specs.rerun.Reruns.{active_of}
 use Rattle.mp_redo.proofs.rerun.rerun.Rerun.list_readers.Given as goal
 

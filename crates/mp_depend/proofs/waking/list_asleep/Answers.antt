@@ -1,9 +1,9 @@
 use Rattle.std.proofs.Common.{◌++◌, List, [], ◌∷◌, subst, sym}
 use Rattle.mp_records.specs.declared.ids.ModuleId.{ModuleId}
 use Rattle.mp_partition.specs.runs.Marks.{is_marked}
-use Rattle.mp_redo.specs.rerun.Hearing.{AreHearing}
-use Rattle.mp_redo.proofs.lemmas.rerun.HearingLemmas.{hearing_more}
-use Rattle.mp_redo.proofs.rerun.joining.list_asleep.Goals as goal
+use Rattle.mp_depend.specs.Hearing.{AreHearing}
+use Rattle.mp_depend.proofs.HearingLemmas.{hearing_more}
+use Rattle.mp_depend.proofs.waking.list_asleep.Goals as goal
 
 pub returns : goal.returns
 returns c before are =

@@ -3,9 +3,9 @@ use Rattle.std.proofs.lemmas.List.{take_all, append-nil}
 use Rattle.std.proofs.lemmas.List.Elements.{All-get_or}
 use Rattle.mp_kernel.specs.declared.events.fanout_entry.FanoutEntry.{FanoutEntry}
 use Rattle.mp_partition.specs.runs.Marks.{is_marked}
-use Rattle.mp_redo.specs.rerun.Hearing.{AreHearing}
-use Rattle.mp_redo.proofs.lemmas.rerun.HearingLemmas.{hearing_next}
-use Rattle.mp_redo.proofs.rerun.joining.list_all_asleep.Goals as goal
+use Rattle.mp_depend.specs.Hearing.{AreHearing}
+use Rattle.mp_depend.proofs.HearingLemmas.{hearing_next}
+use Rattle.mp_depend.proofs.waking.list_all_asleep.Goals as goal
 
 pub list_asleep-requires-clause-within : goal.list_asleep-requires-clause-within
 list_asleep-requires-clause-within c =

@@ -1,8 +1,8 @@
 use Rattle.std.proofs.Common.{List, ◌++◌, take}
 use Rattle.mp_kernel.specs.declared.events.fanout_entry.FanoutEntry.{FanoutEntry}
 use Rattle.mp_partition.specs.runs.Marks.{is_marked}
-use Rattle.mp_redo.specs.rerun.Hearing.{AreHearing}
-use Rattle.mp_redo.proofs.rerun.joining.list_all_asleep.Given as goal
+use Rattle.mp_depend.specs.Hearing.{AreHearing}
+use Rattle.mp_depend.proofs.waking.list_all_asleep.Given as goal
 
 abbrev pub invariant-loop-entry : goal.invariant-loop-entry
 invariant-loop-entry l =
