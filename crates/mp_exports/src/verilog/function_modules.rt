@@ -5,6 +5,10 @@ ghost use Rattle.mp_exports.specs.verilog.FunctionModules.{function_module, rule
 use mp_modules::Function;
 use mp_streams::{Failed, Out, Sink, Text};
 
+const BEGIN: &str = "  initial begin\n    y = y_initial;\n    #0 forever begin\n";
+
+const END: &str = ") #0;\n    end\n  end\nendmodule\n";
+
 /// The Verilog module of a function.
 #[derive(Clone, Copy)]
 pub(crate) struct FunctionText {
@@ -16,26 +20,19 @@ impl Text for FunctionText {
 
     ghost text = { λ text. function_text text.function };
 
-    #[tactic(auto, unfolding(crate::specs::verilog::FunctionModules::function_text))]
     fn put_to<S: Sink>(&self, out: &mut Out<S>) -> Result<(), Failed> {
         let function = self.function;
-        let says = ("\n// ", function.word(), ": y is ", rule(function));
-        let name = (
-            ".\nmodule ",
-            function_module(function),
-            " #(parameter ",
+        let answer = (value(function), ";\n      @(", heard(function), END);
+        let body = (";\n", BEGIN, "      y <= #y_delay ", answer);
+        let head = (
             params(function),
+            "y_delay = 1, y_initial = 0)",
+            ports(function),
+            body,
         );
-        let head = ("y_delay = 1, y_initial = 0)", ports(function), ";\n");
-        let begin = "  initial begin\n    y = y_initial;\n    #0 forever begin\n";
-        let next = (
-            "      y <= #y_delay ",
-            value(function),
-            ";\n      @(",
-            heard(function),
-        );
-        let end = ") #0;\n    end\n  end\nendmodule\n";
-        (says, name, head, (begin, next, end)).put_to(out)
+        let named = (function_module(function), " #(parameter ", head);
+        let says = (rule(function), ".\nmodule ", named);
+        ("\n// ", function.word(), ": y is ", says).put_to(out)
     }
 }
 
