@@ -29,8 +29,8 @@ class Contents(Builder):
     """The things of a netlist, and its horizon.
 
     Wires, modules, stimuli and bundles are added in any order, changed and removed. `str` of it is its text. `program` is asked, and that of
-    `find_program` if it is `None`; `form` is that of the text (1, 2 or 4), the least that fits if it is `None`; a
-    kind of module may need 4.
+    `find_program` if it is `None`; `form` is that of the text (1, 2 or 4), the least that fits if it is `None`. While a module's kind needs 4, the
+    text has that.
     """
 
     __slots__ = ("program", "_horizon", "_form", "_wires", "_modules", "_stimuli", "_bundles", "_made_at", "_revision", "__weakref__")
@@ -183,6 +183,7 @@ class Contents(Builder):
         yield from self._bundles.values()
 
     def _least_form(self, size: int) -> int:
+        # (as the program writes it; it reads these kinds in no other form)
         if any(module.kind in LATER_KINDS for module in self._modules.values()):
             return 4
         many = len(self._wires) > _WIRES or len(self._modules) > _MODULES or len(self._bundles) > _BUNDLES

@@ -33,7 +33,7 @@ class Netlist(Contents, Questions, Stressed):
 
     Wires, modules, stimuli and bundles are added in any order, changed and removed. `str` of it is its text, and each question runs the program on
     this text. `program` is asked, and that of `find_program` if it is `None`; `form` is that of the text (1, 2 or 4), the least that fits if it
-    is `None`.
+    is `None`. While a module's kind needs 4, the text has that.
     """
 
     __slots__ = ("_idle",)

@@ -8,7 +8,7 @@ import pickle
 import tempfile
 from typing import Any, Callable, List, Tuple
 
-from nesthrim import Bundle, Module, Netlist, Refused, UnknownName, Unread, Wire
+from nesthrim import Bundle, Module, Netlist, Refused, Session, UnknownName, Unread, Wire
 from tests.support import EXAMPLES, Case, example, examples, raw
 
 # a module of each kind, inputs with delays, outputs without wires, an empty stimulus
@@ -130,6 +130,27 @@ class Texts(Case):
         self.assertEqual(COMPUTING, str(Netlist.read(COMPUTING)))
         self.assertEqual(((5, 18), (7, 19)), computing().waves()["y6"].changes)
         self.assertEqual(((11, 7),), tuple(computing().waves()["y5"].changes)[-1:])
+
+    def test_a_form_that_was_asked_for_is_that_of_the_text_until_a_kind_needs_another(self) -> None:
+        for form, first in ((1, ""), (2, "format 2\n")):
+            n = Netlist(20, form=form)
+            a, y = n.wire("a"), n.wire("y")
+            plain = str(n)
+            self.assertEqual(f"{first}horizon 20\nwire a 1 0\nwire y 1 0\n", plain)
+            n.and_("m", a, a, out=y)
+            self.assertEqual("format 4\nhorizon 20\nwire a 1 0\nwire y 1 0\nmodule m AND : a a > y/1\n", str(n))
+            self.assertEqual(str(n), str(Netlist.read(str(n))))
+            self.assertEqual(str(n), str(n.copy()))
+            n.remove(n.module("m"))
+            self.assertEqual(plain, str(n))
+
+    def test_a_kind_that_a_session_adds_is_written_in_its_form(self) -> None:
+        n = Netlist(20)
+        n.wires("a", "y")
+        with Session(n) as session:
+            session.edit("module m AND : a a > y/1")
+            self.assertTrue(session.text().startswith("format 4\nhorizon 20\n"))
+            self.assertEqual(session.text(), str(session.netlist()))
 
     def test_what_is_read_is_written_as_the_program_writes_it(self) -> None:
         for name in examples():
