@@ -1,18 +1,13 @@
 -- Levels and widths where each wire has width 1.
-use Rattle.std.proofs.Common.{◌≡◌, ℕ, ◌^◌, ◌<◌, ◌≤◌, Bool, true, false, not, cond, nat_lt, Option, Some, None, IsSome, length, refl, ap, ◌∙◌, arith, subst}
+use Rattle.std.proofs.Common.{◌≡◌, ℕ, ◌^◌, ◌<◌, ◌≤◌, Bool, true, false, not, nat_lt, Option, Some, None, length, refl, ap, ◌∙◌, arith, subst}
 use Rattle.std.specs.Prelude.{◌&&◌}
-use Rattle.std.proofs.lemmas.Bool.{eqb-true, eq-eqb}
-use Rattle.std.proofs.lemmas.Option.{none-some, same_Some}
-use Rattle.mp_modules.specs.Kinds.{has_width}
-use Rattle.mp_modules.proofs.KindLemmas.{some_input}
+use Rattle.std.proofs.lemmas.Bool.{eq-eqb}
 use Rattle.mp_records.specs.declared.wire_record.WireRecord.{WireRecord}
-use Rattle.mp_records.specs.declared.module_record.ModuleRecord.{ModuleRecord}
-use Rattle.mp_records.specs.Inputs.{no_input, input_at}
-use Rattle.mp_netlist.specs.Circuit.{Circuit, IsCircuit, wire_at, width_of, module_at, module_width}
+use Rattle.mp_netlist.specs.Circuit.{Circuit, IsCircuit, wire_at, width_of}
 use Rattle.mp_model.specs.Waves.{level}
 use Rattle.mp_model.proofs.LevelFitLemmas.{level_fits}
 use Rattle.mp_simulation.specs.units.DataLevels.{has_data, is_bit_wire}
-use Rattle.mp_simulation.specs.run.Narrow.{IsNarrow, has_one_bit}
+use Rattle.mp_simulation.specs.run.Narrow.{IsNarrow}
 
 low_by : (n : Circuit) → IsNarrow n → (w v : ℕ) (slot : Option WireRecord) → wire_at n w ≡ slot → v < 2 ^ width_of slot → v ≤ 1
 low_by n narrow w v None at low = let e : v < 1 = low in omega arith
@@ -21,11 +16,6 @@ low_by n narrow w v (Some r) at low = let e : v < 2 = subst (λ k. v < 2 ^ k) (n
 -- a level is a bit
 pub bit_level : (n : Circuit) → IsCircuit n → IsNarrow n → (w t : ℕ) → level n w t ≤ 1
 bit_level n ok narrow w t = low_by n narrow w (level n w t) (wire_at n w) refl (level_fits n ok w t)
-
--- what the test of each wire says
-narrow_by : (slot : Option WireRecord) (r : WireRecord) → has_one_bit slot ≡ true → slot ≡ Some r → r.width ≡ 1
-narrow_by None r test is = absurd (none-some r is)
-narrow_by (Some v) r test is = subst (λ (x : WireRecord). x.width ≡ 1) (same_Some v r is) (eqb-true v.width 1 test)
 
 no_data : (n : Circuit) → IsNarrow n → (w : ℕ) (slot : Option WireRecord) → wire_at n w ≡ slot → has_data slot ≡ false
 no_data n narrow w None at = refl
