@@ -20,4 +20,4 @@ pub use recording::{Finished, RerunRecorder, is_old_state, old_state};
 pub use set_alike::is_set_alike;
 pub use touch::{is_touched, touched};
 pub use waking::list_all_asleep;
-pub use work::{Work, WorkEntries, WorkEntry, WorkSpan, block_of, window_end};
+pub use work::{Work, WorkEntries, WorkEntry, WorkSpan, block_of, enter, window_end};

@@ -5,7 +5,7 @@ use crate::rerun::rerun::Rerun;
 use crate::rerun::rerun_context::RerunContext;
 use mp_active::Change;
 use mp_active::agreement::laws::sleepers_agree;
-use mp_depend::block_of;
+use mp_depend::{WorkEntry, block_of, enter};
 use mp_model::built;
 use mp_modules::Memory;
 use mp_netlist::{ModuleId, ModuleRecord};
@@ -112,7 +112,12 @@ impl Rerun {
         ensures joined { OnOk result (self.new.activity.joined.items ≡ self.old.activity.joined.items ++ id ∷ []) }
     {
         let block = block_of(change.new.horizon(), time);
-        context.gate.enter(context.rt, id, block, self.window_end);
+        let entry = WorkEntry {
+            module: id,
+            from: block,
+            to: self.window_end,
+        };
+        enter(context.rt, context.gate, entry);
         let memory = self.joining_state(context.alloc, change, id, found, time)?;
         self.activate(change, id, found, &memory, time)
     }

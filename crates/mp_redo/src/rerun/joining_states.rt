@@ -5,7 +5,7 @@ use crate::rerun::rerun::Rerun;
 use crate::rerun::rerun_context::RerunContext;
 use crate::rerun::tasks::{states_by, tasks_of};
 use mp_active::Change;
-use mp_depend::{block_of, old_state};
+use mp_depend::{WorkEntry, block_of, enter, old_state};
 use mp_modules::Memory;
 use mp_phase::Gate;
 use std::alloc::AllocError;
@@ -63,7 +63,12 @@ impl Rerun {
         let mut states = Vec::with_capacity(context.alloc, self.activity.joining.len())?;
         for place in 0..self.activity.joining.len() {
             let id = self.activity.joining[place];
-            context.gate.enter(context.rt, id, time, self.window_end);
+            let entry = WorkEntry {
+                module: id,
+                from: time,
+                to: self.window_end,
+            };
+            enter(context.rt, context.gate, entry);
             states.push(old_state(change.run, id, time))?;
         }
         Ok(states)

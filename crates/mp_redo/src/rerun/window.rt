@@ -5,7 +5,7 @@ use crate::rerun::next_step::NextStep;
 use crate::rerun::rerun::Rerun;
 use crate::rerun::rerun_context::RerunContext;
 use mp_active::Change;
-use mp_depend::{block_of, window_end};
+use mp_depend::{WorkEntry, block_of, enter, window_end};
 use mp_netlist::checkpoint_units;
 use mp_phase::Gate;
 use std::alloc::{AllocError, Global};
@@ -152,7 +152,12 @@ impl Rerun {
     {
         for id in self.recorder.live() {
             if self.is_at_work(change, *id) {
-                gate.enter(rt, *id, time, self.window_end);
+                let entry = WorkEntry {
+                    module: *id,
+                    from: time,
+                    to: self.window_end,
+                };
+                enter(rt, gate, entry);
             }
         }
     }

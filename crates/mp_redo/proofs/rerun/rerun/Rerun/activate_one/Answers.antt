@@ -13,5 +13,4 @@ enter-requires g c =
     let new = c.args.change.now.new.now in
     let time = c.args.time in
     let value : c.block_of-block.result ≡ block_of new.horizon time = c.block_of-block.ensures ∙ ap (λ h. block_of h time) c.horizon.ensures.value in
-    c.requires.allowed c.args.id.0 c.block_of-block.result c.args.self.now.window_end
-    (subst (λ b. IsEntry c.args.change.now.old.now new c.args.id.0 b c.args.self.now.window_end) (sym value) c.requires.works)
+    (c.args.change.now.old.now, new, c.requires.allowed, subst (λ b. IsEntry c.args.change.now.old.now new c.args.id.0 b c.args.self.now.window_end) (sym value) c.requires.works)

@@ -16,8 +16,7 @@ enter-requires g c =
     let id = c.index-id.result.now in
     let low : k < length joining = search rules in
     let end = c.args.self.now.window_end in
-    c.requires.allowed id.0 c.args.time end
-    (subst (λ b. IsEntry change.old.now change.new.now id.0 b end) c.requires.begins (c.requires.work id.0 (k, low, sym c.index-id.ensures)))
+    (change.old.now, change.new.now, c.requires.allowed, subst (λ b. IsEntry change.old.now change.new.now id.0 b end) c.requires.begins (c.requires.work id.0 (k, low, sym c.index-id.ensures)))
 
 pub loop-place-preserved : goal.loop-place-preserved
 loop-place-preserved g c =
