@@ -48,7 +48,7 @@ def corners(judge: Judge, levels: int) -> Iterator[Tuple[int, ...]]:
 class Graphs(Case):
     def test_times_are_those_of_the_program_for_other_delays(self) -> None:
         chance = random.Random(1)
-        texts = [example(name) for name in (MENDED, "wire-delays.net", "register-pipeline.net")]
+        texts = [example(name) for name in (MENDED, "wire-delays.net", "register-pipeline.net", "gcd.net")]
         for text in (*texts, INSIDE, GAP, ADDED, CALLED, STEERED, MERGED, str(fifo(3, 150)), str(accumulator())):
             judge = judged(Netlist.read(text), 2)
             for _ in range(4):
@@ -123,6 +123,10 @@ class Bounds(Case):
         found = min(order.margin(judge.timing.graph.times(point), point) for point in corners(judge, 2) for order in setups)
         answer = netlist.stress(12).bundle("t")
         self.assertEqual((2, found / judge.timing.units, found / judge.timing.units), (answer.margin, answer.worst, answer.bound))
+
+    def test_a_loop_that_computes_holds(self) -> None:
+        answer = Netlist.read(example("gcd.net")).stress(6)
+        self.assertEqual(("holds", 0.1), (answer.verdict, answer.bundle("step_y").worst))
 
     def test_bundles_of_the_example(self) -> None:
         answer = Netlist.read(example(MENDED)).stress(10)
