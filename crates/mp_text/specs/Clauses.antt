@@ -14,7 +14,7 @@ pub use Rattle.mp_text.specs.ScriptLines.{batch_line, line_at, line_word, questi
 pub use Rattle.mp_text.specs.SingleEdits.{port_change, removal, single_edit, single_word}
 pub use Rattle.mp_text.specs.Sizes.{first_words, is_four, states_fourth, text_limit}
 pub use Rattle.mp_records.specs.declared.single_edit.SingleEdit.TheVariants.{AddModule}
-pub use Rattle.mp_text.specs.Statements.{Blank, Change, Format, Start, Statement, Unknown, edit_word, is_mark, kind_in, kind_word, module_edit, params_edit, parts_edit, ports_edit, stated_edit, stated_number, statement_of}
+pub use Rattle.mp_text.specs.Statements.{Blank, Change, Format, Start, Statement, Unknown, bundle_edit, edit_word, is_mark, kind_in, kind_word, module_edit, params_edit, parts_edit, ports_edit, stated_edit, stated_number, statement_of, stimulus_edit, wire_edit}
 pub use Rattle.mp_text.specs.Texts.{GivesText, IsReached, IsReachedIn, after_line, after_lines, after_statement, begun, finished, formatted, in_text, last_line, next_line, text_at, told}
 pub use Rattle.mp_text.specs.Written.{bundle_line, delay_text, format_line, horizon_line, input_text, module_line, name_in, output_name, output_text, spaced, stands_fourth, stimulus_line, stimulus_words, wire_line, wire_name, written, written_format, written_line}
 pub use Rattle.mp_text.specs.declared.text_code.TextCode.TheVariants.{Line, Refused}

@@ -59,20 +59,34 @@ edit_word word =
     else (if bytes_eq word (codes "bundle") then Some Bundle
     else None)))
 
--- the edit of the words behind that word, in a text of that format
-abbrev pub stated_edit : NetlistFormat → EditWord → List (List ℕ) → Result SingleEdit LineError
-stated_edit format Wire (name ∷ width ∷ level ∷ []) = do
+-- the edit of the words behind `wire`
+abbrev pub wire_edit : List (List ℕ) → Result SingleEdit LineError
+wire_edit (name ∷ width ∷ level ∷ []) = do
   w ← number_word width
   l ← number_word level
   Ok (AddWire name w l)
-stated_edit format Module words = module_edit format words
-stated_edit format Stimulus (wire ∷ words) = do
+wire_edit _ = Err WordCount
+
+-- the edit of the words behind `stim`
+abbrev pub stimulus_edit : List (List ℕ) → Result SingleEdit LineError
+stimulus_edit (wire ∷ words) = do
   changes ← each_word change_word words
   Ok (SetStimulus wire changes)
-stated_edit format Bundle (name ∷ request ∷ acknowledge ∷ payload ∷ setup ∷ []) = do
+stimulus_edit _ = Err WordCount
+
+-- the edit of the words behind `bundle`
+abbrev pub bundle_edit : List (List ℕ) → Result SingleEdit LineError
+bundle_edit (name ∷ request ∷ acknowledge ∷ payload ∷ setup ∷ []) = do
   s ← number_word setup
   Ok (AddBundle (record { name = name; request = request; acknowledge = acknowledge; payload = payload; setup = s }))
-stated_edit format _ _ = Err WordCount
+bundle_edit _ = Err WordCount
+
+-- the edit of the words behind that word, in a text of that format
+abbrev pub stated_edit : NetlistFormat → EditWord → List (List ℕ) → Result SingleEdit LineError
+stated_edit format Wire words = wire_edit words
+stated_edit format Module words = module_edit format words
+stated_edit format Stimulus words = stimulus_edit words
+stated_edit format Bundle words = bundle_edit words
 
 -- a line without words, one that begins with another word, the form or the horizon of a text, or the word of an edit with what is behind it
 pub data Statement : Type 0 where

@@ -1,8 +1,7 @@
 //! The edits of statements.
 ghost use Rattle.std.specs.Prelude.{◌≡◌, ◌<◌, ◌∷◌, []};
-ghost use Rattle.mp_text.specs.declared.edit_word.EditWord.TheVariants.{Wire, Module, Stimulus, Bundle};
-ghost use Rattle.mp_text.specs.Clauses.{IsAscii, IfOk, IfSome, length, position, before_first, after_first, OutOfMemory, Gives, texts, AreAscii, stated_edit, params_edit, ports_edit, module_edit, kind_word, is_mark, AddModule};
-ghost use Rattle.mp_netlist.specs.declared.format.Format.{Format as AnyFormat};
+ghost use Rattle.mp_text.specs.declared.edit_word.EditWord.TheVariants.{Module};
+ghost use Rattle.mp_text.specs.Clauses.{IsAscii, IfOk, IfSome, length, position, before_first, after_first, OutOfMemory, Gives, texts, AreAscii, wire_edit, stimulus_edit, bundle_edit, stated_edit, params_edit, ports_edit, module_edit, kind_word, is_mark, AddModule};
 
 use crate::edit_word::EditWord;
 use crate::lexing::{LineError, each_word, name_of, number_word};
@@ -35,7 +34,7 @@ pub fn stated_edit(
 #[tactic(auto, using(crate::proofs::GivenLemmas::word_steps))]
 fn wire_edit(alloc: Global, words: &[&[u8]]) -> Result<SingleEdit, LineError>
     requires { AreAscii words.now }
-    ensures { (format : AnyFormat) → Gives OutOfMemory (λ edit. edit) result (stated_edit format Wire (texts words.now)) }
+    ensures { Gives OutOfMemory (λ edit. edit) result (wire_edit (texts words.now)) }
 {
     let [name, width, level] = words else {
         return Err(LineError::WordCount);
@@ -61,7 +60,7 @@ fn module_edit(alloc: Global, format: Format, words: &[&[u8]]) -> Result<SingleE
 #[tactic(auto, using(crate::proofs::GivenLemmas::word_steps))]
 fn stimulus_edit(alloc: Global, words: &[&[u8]]) -> Result<SingleEdit, LineError>
     requires { AreAscii words.now }
-    ensures { (format : AnyFormat) → Gives OutOfMemory (λ edit. edit) result (stated_edit format Stimulus (texts words.now)) }
+    ensures { Gives OutOfMemory (λ edit. edit) result (stimulus_edit (texts words.now)) }
 {
     let [wire, others @ ..] = words else {
         return Err(LineError::WordCount);
@@ -76,7 +75,7 @@ fn stimulus_edit(alloc: Global, words: &[&[u8]]) -> Result<SingleEdit, LineError
 #[tactic(auto, using(crate::proofs::GivenLemmas::word_steps))]
 fn bundle_edit(alloc: Global, words: &[&[u8]]) -> Result<SingleEdit, LineError>
     requires { AreAscii words.now }
-    ensures { (format : AnyFormat) → Gives OutOfMemory (λ edit. edit) result (stated_edit format Bundle (texts words.now)) }
+    ensures { Gives OutOfMemory (λ edit. edit) result (bundle_edit (texts words.now)) }
 {
     match words {
         [name, request, acknowledge, payload, setup] => bundle_of(
@@ -105,7 +104,7 @@ fn bundle_of(
     requires request { IsAscii request.now }
     requires acknowledge { IsAscii acknowledge.now }
     requires payload { IsAscii payload.now }
-    ensures { (format : AnyFormat) → Gives OutOfMemory (λ edit. edit) result (stated_edit format Bundle (name.now ∷ request.now ∷ acknowledge.now ∷ payload.now ∷ setup.now ∷ [])) }
+    ensures { Gives OutOfMemory (λ edit. edit) result (bundle_edit (name.now ∷ request.now ∷ acknowledge.now ∷ payload.now ∷ setup.now ∷ [])) }
 {
     let setup = number_word(setup)?;
     let (name, request) = two_names(alloc, name, request)?;
