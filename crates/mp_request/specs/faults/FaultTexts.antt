@@ -45,10 +45,13 @@ located line number span =
 abbrev pub meant : List ℕ → List ℕ
 meant name = codes "; did you mean `" ++ (name ++ codes "`?")
 
+abbrev pub elsewhere : List ℕ → List ℕ
+elsewhere name = codes "; " ++ (name ++ codes " needs format 4")
+
 -- a name that is the word itself is that of a kind that another format has
 abbrev pub suggestion : List ℕ → Option (List ℕ) → List ℕ
 suggestion word None = []
-suggestion word (Some name) = if bytes_eq word name then codes "; " ++ (name ++ codes " needs format 4") else meant name
+suggestion word (Some name) = if bytes_eq word name then elsewhere name else meant name
 
 -- the word at a place of a line
 abbrev pub word_at : List ℕ → ℕ × ℕ → List ℕ

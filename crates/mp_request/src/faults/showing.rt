@@ -2,7 +2,7 @@
 ghost use Rattle.std.specs.Prelude.{◌≡◌, ◌++◌, ◌-◌, IfOk, Some, length, map, take, drop, replicate, codes};
 ghost use Rattle.std.specs.Fmt.{decimal};
 ghost use Rattle.mp_request.specs.faults.TextLines.{line_numbered};
-ghost use Rattle.mp_request.specs.faults.FaultTexts.{shown_byte, dots_before, dots_behind, shown_part, marks, margin, located, fault_line, meant, suggestion, word_at, fault_text, width, lead};
+ghost use Rattle.mp_request.specs.faults.FaultTexts.{shown_byte, dots_before, dots_behind, shown_part, marks, margin, located, fault_line, elsewhere, meant, suggestion, word_at, fault_text, width, lead};
 
 use crate::faults::fault::{Fault, find_fault};
 use crate::faults::spans::{is_allowed, is_gap};
@@ -246,9 +246,16 @@ fn push_near(text: &mut Vec<u8>, word: &[u8], name: &Name) -> Result<(), AllocEr
     ensures { IfOk result (λ _. text.new.items ≡ text.old.items ++ suggestion word.now (Some name.now)) }
 {
     if word == name.as_str().as_bytes() {
-        return push_parts(text, b"; ", word, b" needs format 4");
+        return push_elsewhere(text, name);
     }
     push_meant(text, name)
+}
+
+/// Appends that another format has the kind of this name.
+fn push_elsewhere(text: &mut Vec<u8>, name: &Name) -> Result<(), AllocError>
+    ensures { IfOk result (λ _. text.new.items ≡ text.old.items ++ elsewhere name.now) }
+{
+    push_parts(text, b"; ", name.as_str().as_bytes(), b" needs format 4")
 }
 
 /// Appends that this name may have been meant.
