@@ -13,8 +13,8 @@ use Rattle.mp_netlist.specs.Circuit.{Circuit, module_at}
 use Rattle.mp_netlist.specs.Drivers.{driver}
 use Rattle.mp_netlist.proofs.TableLemmas.{slot_within}
 use Rattle.mp_model.specs.Waves.{state}
-use Rattle.mp_sets.specs.Laws.{IsWithin, KeepsMore}
-use Rattle.mp_sets.proofs.ClosedLemmas.{true_false, and_true, or_first, or_second, or_cases, union_is_closed}
+use Rattle.mp_holding.specs.sets.Laws.{IsWithin, KeepsMore}
+use Rattle.mp_holding.proofs.lemmas.sets.ClosedLemmas.{true_false, and_true, or_first, or_second, or_cases, union_is_closed}
 use Rattle.mp_check.specs.Dead.{are_still, dead, last_unit, port_number, port_numbers, port_slots}
 use Rattle.mp_check.specs.Waiting.{awaited, first_wait, has_driver, held_by, is_port_in, may_wait, may_wait_at, port_by, wait_for, waiting}
 use Rattle.mp_check.specs.declared.wait.Wait.{Wait}

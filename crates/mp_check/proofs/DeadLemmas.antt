@@ -14,9 +14,9 @@ use Rattle.mp_netlist.specs.Drivers.{driver}
 use Rattle.mp_netlist.proofs.TableLemmas.{slot_within}
 use Rattle.mp_model.specs.Waves.{level, state}
 use Rattle.mp_holding.specs.Holding.{holding_sets}
-use Rattle.mp_sets.specs.ClosedSets.{is_in, is_closed}
-use Rattle.mp_sets.specs.Laws.{IsWithin, KeepsMore}
-use Rattle.mp_sets.proofs.ClosedLemmas.{true_false, and_true, or_first, or_second, or_cases, all_at, union_is_closed, has_closed_sets}
+use Rattle.mp_holding.specs.sets.ClosedSets.{is_in, is_closed}
+use Rattle.mp_holding.specs.sets.Laws.{IsWithin, KeepsMore}
+use Rattle.mp_holding.proofs.lemmas.sets.ClosedLemmas.{true_false, and_true, or_first, or_second, or_cases, all_at, union_is_closed, has_closed_sets}
 use Rattle.mp_check.specs.Dead.{dead, port_numbers, port_slots, is_kept, is_kept_at, is_quiet, is_still, is_still_in, is_driven_within, are_still, last_unit}
 
 module _ (n : Circuit) where

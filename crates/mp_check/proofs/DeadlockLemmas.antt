@@ -6,8 +6,8 @@ use Rattle.std.proofs.lemmas.Bool.{and_parts, cases_lt, eq-eqb, ne_eqb}
 use Rattle.std.proofs.lemmas.List.{get_or_past, length-map}
 use Rattle.std.proofs.lemmas.List.FromFn.{get_or-range_with_len, length-range_with_len}
 use Rattle.mp_netlist.specs.Circuit.{Circuit, IsCircuit, module_at}
-use Rattle.mp_sets.specs.Marks.{is_marked}
-use Rattle.mp_sets.proofs.ClosedLemmas.{true_false}
+use Rattle.mp_holding.specs.sets.Marks.{is_marked}
+use Rattle.mp_holding.proofs.lemmas.sets.ClosedLemmas.{true_false}
 use Rattle.mp_check.specs.Dead.{AreDead, dead, port_numbers, port_slots}
 use Rattle.mp_check.specs.Waiting.{AreWaiting, wait_of, wait_in, waiting}
 use Rattle.mp_check.specs.Ways.{begins_round, least, way}

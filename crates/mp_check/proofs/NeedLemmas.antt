@@ -5,10 +5,10 @@ use Rattle.std.specs.List.{list_any}
 use Rattle.std.proofs.lemmas.Bool.{cases_lt}
 use Rattle.std.proofs.lemmas.List.Folds.{list_any-append}
 use Rattle.std.proofs.lemmas.Option.{slice_get_past}
-use Rattle.mp_sets.specs.declared.needs.Needs.{Needs}
-use Rattle.mp_sets.specs.declared.needs.Shape.{Shape}
-use Rattle.mp_sets.specs.ClosedSets.{in_closed_set}
-use Rattle.mp_sets.specs.Needs.{are_met, are_met_in, are_met_at}
+use Rattle.mp_holding.specs.declared.sets.needs.Needs.{Needs}
+use Rattle.mp_holding.specs.declared.sets.needs.Shape.{Shape}
+use Rattle.mp_holding.specs.sets.ClosedSets.{in_closed_set}
+use Rattle.mp_holding.specs.sets.Needs.{are_met, are_met_in, are_met_at}
 use Rattle.mp_records.specs.declared.module_record.ModuleRecord.{ModuleRecord}
 use Rattle.mp_netlist.specs.Circuit.{Circuit}
 use Rattle.mp_check.specs.Dead.{are_still, is_still_in}

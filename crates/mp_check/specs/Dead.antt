@@ -11,8 +11,8 @@ use Rattle.mp_netlist.specs.Drivers.{driver}
 use Rattle.mp_model.specs.Waves.{level, state}
 use Rattle.mp_questions.specs.timing.Events.{since}
 use Rattle.mp_questions.specs.timing.Waits.{given}
-use Rattle.mp_sets.specs.Marks.{is_marked}
-use Rattle.mp_sets.specs.ClosedSets.{in_closed_set}
+use Rattle.mp_holding.specs.sets.Marks.{is_marked}
+use Rattle.mp_holding.specs.sets.ClosedSets.{in_closed_set}
 use Rattle.mp_holding.specs.Holding.{holding_sets}
 
 -- ---- ports by number: by module, then port

@@ -14,8 +14,8 @@ use Rattle.mp_netlist.specs.declared.driver.Driver.TheVariants.{Nothing, Stimulu
 use Rattle.mp_netlist.specs.Circuit.{Circuit, module_at}
 use Rattle.mp_netlist.specs.Drivers.{driver}
 use Rattle.mp_model.specs.Waves.{state}
-use Rattle.mp_sets.specs.Marks.{is_marked}
-use Rattle.mp_sets.specs.ClosedSets.{in_closed_set}
+use Rattle.mp_holding.specs.sets.Marks.{is_marked}
+use Rattle.mp_holding.specs.sets.ClosedSets.{in_closed_set}
 use Rattle.mp_check.specs.Dead.{dead, are_still, last_unit, port_numbers, port_number, port_slots}
 use Rattle.mp_holding.specs.Holding.{holding_sets}
 use Rattle.mp_check.specs.declared.wait.Wait.{Wait}

@@ -13,10 +13,10 @@ ghost use Rattle.mp_check.specs.Waiting.{awaited, held_by, waiting_sets};
 use crate::dead::given_level;
 use crate::held_memory::held_sets;
 use crate::module_end::{ModuleEnd, output_at};
+use mp_holding::sets::{Need, is_marked};
 use mp_holding::{InputSet, InputSets};
 use mp_modules::Kind;
 use mp_netlist::WireId;
-use mp_sets::{Need, is_marked};
 
 /// Inputs of a module in an order, at most four.
 #[derive(Clone, Copy)]

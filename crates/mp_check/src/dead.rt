@@ -1,12 +1,12 @@
 //! Ports whose wires never change again.
 ghost use Rattle.std.specs.Prelude.{◌≡◌, ◌<◌, ◌&&◌, ℕ, Bool, true, IfOk, Some, length};
 ghost use Rattle.std.specs.List.{list_any};
-ghost use Rattle.mp_sets.specs.declared.needs.Shape.TheVariants.{Pairs};
+ghost use Rattle.mp_holding.specs.declared.sets.needs.Shape.TheVariants.{Pairs};
 ghost use Rattle.mp_modules.specs.Kinds.{output_count};
 ghost use Rattle.mp_records.specs.Outputs.{delay_of, output_at};
 ghost use Rattle.mp_model.specs.Waves.{state};
 ghost use Rattle.mp_questions.specs.timing.Waits.{given};
-ghost use Rattle.mp_sets.specs.Needs.{are_met, is_met};
+ghost use Rattle.mp_holding.specs.sets.Needs.{are_met, is_met};
 ghost use Rattle.mp_check.specs.Dead.{AreDead, are_still, is_kept, is_kept_at, is_quiet, last_unit};
 ghost use Rattle.mp_holding.specs.Holding.{holding_sets};
 ghost use Rattle.mp_holding.specs.InputSets.{set_list};
@@ -16,8 +16,8 @@ use crate::module_end::{ModuleEnd, PORTS, output_at, port_slots};
 use crate::quiet::is_quiet;
 use crate::run_end::RunEnd;
 use mp_holding::InputSet;
+use mp_holding::sets::{Need, Needs, Shape, greatest_closed_set};
 use mp_netlist::{ModuleId, WireId};
-use mp_sets::{Need, Needs, Shape, greatest_closed_set};
 use std::alloc::{AllocError, Global};
 
 /// The needs of what no set keeps.

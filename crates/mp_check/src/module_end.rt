@@ -6,15 +6,15 @@ ghost use Rattle.mp_netlist.specs.declared.driver.Driver.TheVariants.{Port};
 ghost use Rattle.mp_netlist.specs.Drivers.{driver};
 ghost use Rattle.mp_model.specs.Levels.{input_by};
 ghost use Rattle.mp_model.specs.Waves.{level};
-ghost use Rattle.mp_sets.specs.Needs.{is_met};
+ghost use Rattle.mp_holding.specs.sets.Needs.{is_met};
 ghost use Rattle.mp_check.specs.Dead.{is_driven_within, is_still, is_still_in, port_number, port_slots};
 ghost use Rattle.mp_check.specs.Waiting.{has_driver};
 
 use crate::run_end::RunEnd;
+use mp_holding::sets::Need;
 use mp_modules::{MOST_OUTPUTS, Memory};
 use mp_netlist::{Driver, Input, ModuleId, ModuleRecord, Output, WireId};
 use mp_questions::timing::follow;
-use mp_sets::Need;
 
 /// How many numbers of ports there are for each module.
 pub(crate) const PORTS: u32 = MOST_OUTPUTS as u32;
@@ -38,7 +38,7 @@ pub(crate) struct ModuleEnd<'a> {
 impl<'a> ModuleEnd<'a> {
     ghost use Rattle.std.specs.Prelude.{◌≡◌, ◌<◌, ℕ, Bool, Some, slice_get, slice_index};
     ghost use Rattle.mp_model.specs.Waves.{state};
-    ghost use Rattle.mp_sets.specs.Needs.{is_met};
+    ghost use Rattle.mp_holding.specs.sets.Needs.{is_met};
     ghost use Rattle.mp_check.specs.Dead.{is_still_in, last_unit};
     ghost use Rattle.mp_check.specs.Waiting.{is_port_in};
 

@@ -2,8 +2,8 @@
 ghost use Rattle.std.specs.Prelude.{◌≡◌, ℕ, Bool, IfOk, slice_get};
 ghost use Rattle.std.specs.List.{list_any};
 ghost use Rattle.std.specs.Option.{option_to_list};
-ghost use Rattle.mp_sets.specs.declared.needs.Shape.TheVariants.{Any};
-ghost use Rattle.mp_sets.specs.Needs.{are_met, is_met};
+ghost use Rattle.mp_holding.specs.declared.sets.needs.Shape.TheVariants.{Any};
+ghost use Rattle.mp_holding.specs.sets.Needs.{are_met, is_met};
 ghost use Rattle.mp_check.specs.Awaited.{inputs_list};
 ghost use Rattle.mp_check.specs.Dead.{AreDead};
 ghost use Rattle.mp_check.specs.Waiting.{AreWaiting, is_port_in, may_wait};
@@ -13,8 +13,8 @@ use crate::dead::NEVER;
 use crate::module_end::{ModuleEnd, PORTS, port_number, port_slots};
 use crate::run_end::RunEnd;
 use crate::wait::Wait;
+use mp_holding::sets::{Need, Needs, Shape, greatest_closed_set, is_marked};
 use mp_netlist::{Driver, ModuleId, WireId};
-use mp_sets::{Need, Needs, Shape, greatest_closed_set, is_marked};
 use std::alloc::{AllocError, Global};
 
 /// The ports that are dead and those that wait, as marks by number.

@@ -3,3 +3,4 @@ pub mod FunctionLemmas
 pub mod CallLemmas
 pub mod ArbiterLemmas
 pub mod HoldingLemmas
+pub mod lemmas

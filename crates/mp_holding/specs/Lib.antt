@@ -1,3 +1,4 @@
 pub mod Holding
 pub mod InputSets
 pub mod Laws
+pub mod sets

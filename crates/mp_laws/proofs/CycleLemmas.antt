@@ -13,7 +13,7 @@ use Rattle.mp_netlist.specs.Circuit.{Circuit, module_at}
 use Rattle.mp_netlist.specs.Drivers.{driver}
 use Rattle.mp_model.specs.Waves.{state}
 use Rattle.mp_model.proofs.MemberLemmas.{contains_cases, map_contains}
-use Rattle.mp_sets.proofs.ClosedLemmas.{true_false}
+use Rattle.mp_holding.proofs.lemmas.sets.ClosedLemmas.{true_false}
 use Rattle.mp_check.specs.Dead.{dead, last_unit, port_numbers, port_number, port_slots}
 use Rattle.mp_check.specs.Ways.{begins_round}
 use Rattle.mp_check.specs.Waiting.{awaited, first_wait, has_driver, is_port_in, port_by, wait_for, wait_in, wait_of, waiting}

@@ -25,7 +25,7 @@ use Rattle.mp_model.proofs.HistoryLemmas.{late}
 use Rattle.mp_holding.specs.Holding.{holding_sets}
 use Rattle.mp_holding.specs.Laws.{HasSet, AreSame}
 use Rattle.mp_holding.proofs.HoldingLemmas.{keeps_held_outputs}
-use Rattle.mp_sets.proofs.ClosedLemmas.{true_false, or_cases}
+use Rattle.mp_holding.proofs.lemmas.sets.ClosedLemmas.{true_false, or_cases}
 use Rattle.mp_questions.specs.timing.Events.{since}
 use Rattle.mp_questions.specs.timing.Waits.{given}
 use Rattle.mp_check.specs.Dead.{dead, port_numbers, port_number, is_still, is_still_in, is_driven_within, are_still, last_unit}

@@ -3,8 +3,8 @@ use Rattle.std.specs.Prelude.{◌≡◌, ℕ, ◌≤◌, true, List}
 use Rattle.std.specs.List.{Contains}
 use Rattle.mp_netlist.specs.Circuit.{Circuit, IsCircuit, Drives}
 use Rattle.mp_model.specs.Waves.{level}
-use Rattle.mp_sets.specs.ClosedSets.{is_in, is_closed}
-use Rattle.mp_sets.specs.Laws.{IsWithin}
+use Rattle.mp_holding.specs.sets.ClosedSets.{is_in, is_closed}
+use Rattle.mp_holding.specs.sets.Laws.{IsWithin}
 use Rattle.mp_check.specs.Dead.{dead, is_kept, last_unit, port_number}
 use Rattle.mp_check.specs.Deadlocks.{deadlocks}
 use Rattle.mp_check.specs.declared.wait.Wait.{Wait}

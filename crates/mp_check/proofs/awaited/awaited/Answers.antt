@@ -1,7 +1,7 @@
 use Rattle.std.proofs.Common.{◌≡◌, None, is_some, sym, ap, ◌∙◌}
 use Rattle.mp_records.specs.declared.ports.Output.{Output}
 use Rattle.mp_records.specs.Outputs.{output_at}
-use Rattle.mp_sets.proofs.ClosedLemmas.{true_false}
+use Rattle.mp_holding.proofs.lemmas.sets.ClosedLemmas.{true_false}
 use Rattle.mp_check.specs.Dead.{dead, port_number}
 use Rattle.mp_check.proofs.DeadLemmas.{dead_is_kept, kept_wired, kept_quiet}
 use Rattle.mp_check.proofs.awaited.awaited.Goals as goal

@@ -1,6 +1,6 @@
 use Rattle.std.proofs.Common.{◌≡◌, ℕ, ◌+◌, List, sym, subst, ◌∙◌, arith}
-use Rattle.mp_sets.specs.declared.needs.Needs.{Needs}
-use Rattle.mp_sets.specs.declared.needs.Shape.TheVariants.{Pairs}
+use Rattle.mp_holding.specs.declared.sets.needs.Needs.{Needs}
+use Rattle.mp_holding.specs.declared.sets.needs.Shape.TheVariants.{Pairs}
 use Rattle.mp_check.specs.Dead.{port_slots}
 use Rattle.mp_check.specs.Dead.{is_kept}
 use Rattle.mp_check.proofs.NeedLemmas.{AreNeeds, more_needs, same_closed, weaken_ok}

@@ -1,4 +1,4 @@
-use Rattle.mp_sets.specs.declared.needs.Shape.TheVariants.{Pairs}
+use Rattle.mp_holding.specs.declared.sets.needs.Shape.TheVariants.{Pairs}
 use Rattle.mp_check.specs.Dead.{is_kept}
 use Rattle.mp_check.proofs.NeedLemmas.{AreNeeds}
 use Rattle.mp_check.proofs.dead.dead_ports.Given as goal

@@ -1,4 +1,4 @@
-use Rattle.mp_sets.specs.declared.needs.Shape.TheVariants.{Any}
+use Rattle.mp_holding.specs.declared.sets.needs.Shape.TheVariants.{Any}
 use Rattle.mp_check.specs.Waiting.{may_wait}
 use Rattle.mp_check.proofs.NeedLemmas.{AreNeeds}
 use Rattle.mp_check.proofs.waiting.waiting_ports.Given as goal

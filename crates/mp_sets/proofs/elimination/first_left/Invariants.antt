@@ -1,6 +1,0 @@
-use Rattle.std.proofs.Common.{◌<◌}
-use Rattle.mp_sets.specs.Elimination.{IsGood}
-use Rattle.mp_sets.proofs.elimination.first_left.Given as goal
-
-abbrev pub invariant-loop-number : goal.invariant-loop-number
-invariant-loop-number l = IsGood l.shape l.needs (λ k. k < l.number) l.left.marks.items l.left.gone.items
