@@ -4,10 +4,10 @@ use Rattle.mp_commands.proofs.Names.{ℕ, true, false, List, [], length, drop, s
 use Rattle.std.specs.Borrow.{Bor}
 use Rattle.mp_streams.specs.Outgoing.{Writes}
 use Rattle.mp_text.proofs.lemmas.lexing.DivisionLemmas.{parts_of-split, parts_of-one}
-use Rattle.mp_desk.specs.declared.meeting.tally.Tally.{Tally}
-use Rattle.mp_desk.specs.declared.meeting.meeting_fault.MeetingFault.{MeetingFault}
-use Rattle.mp_desk.specs.declared.meeting.meeting_fault.MeetingFault.TheVariants.{OutOfMemory, NoPlace}
-use Rattle.mp_desk.specs.meeting.Meetings.{IsMeeting}
+use Rattle.mp_meeting.specs.declared.tally.Tally.{Tally}
+use Rattle.mp_meeting.specs.declared.meeting_fault.MeetingFault.{MeetingFault}
+use Rattle.mp_meeting.specs.declared.meeting_fault.MeetingFault.TheVariants.{OutOfMemory, NoPlace}
+use Rattle.mp_meeting.specs.Meetings.{IsMeeting}
 use Rattle.mp_commands.specs.declared.command_runs.run_fault.RunFault.{RunFault}
 use Rattle.mp_commands.specs.command_runs.Runs.{Refuses}
 

@@ -13,10 +13,10 @@ pub use Rattle.mp_commands.specs.declared.command_runs.options.Options.{Options}
 pub use Rattle.mp_commands.specs.declared.command_runs.run_fault.RunFault.{RunFault}
 pub use Rattle.mp_desk.specs.DeskSizes.{is_desk_size}
 pub use Rattle.mp_text.specs.edit_lines.EditLines.{edit_lines}
-pub use Rattle.mp_desk.specs.meeting.Meetings.{IsMeeting}
-pub use Rattle.mp_desk.specs.declared.meeting.meeting_fault.MeetingFault.{MeetingFault}
-pub use Rattle.mp_desk.specs.declared.meeting.meeting_fault.MeetingFault.TheVariants.{NoPlace, OutOfMemory}
-pub use Rattle.mp_desk.specs.declared.meeting.tally.Tally.{Tally}
+pub use Rattle.mp_meeting.specs.Meetings.{IsMeeting}
+pub use Rattle.mp_meeting.specs.declared.meeting_fault.MeetingFault.{MeetingFault}
+pub use Rattle.mp_meeting.specs.declared.meeting_fault.MeetingFault.TheVariants.{NoPlace, OutOfMemory}
+pub use Rattle.mp_meeting.specs.declared.tally.Tally.{Tally}
 pub use Rattle.mp_netlist.specs.Circuit.{Circuit, IsCircuit}
 pub use Rattle.mp_netlist.specs.Edits.{RefusedBy, after, after_each, go_on, is_batch, may_want}
 pub use Rattle.mp_netlist.specs.Replays.{replay}

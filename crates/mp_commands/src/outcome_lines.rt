@@ -4,7 +4,7 @@ ghost use Rattle.mp_commands.specs.Names.{replay, present, Writes, lines_from};
 ghost use Rattle.mp_commands.specs.Desks.{tally_line, viewer_line, outcome_text};
 
 use crate::views::{Evaluated, put_wave_lines};
-use mp_desk::{DeskOutcome, Tally};
+use mp_meeting::{DeskOutcome, Tally};
 use mp_phase::Crew;
 use mp_streams::{Failed, Out, Sink, Text};
 use mp_version::EditSession;

@@ -5,7 +5,8 @@ ghost use Rattle.mp_depend.specs.declared.work.work_entry.WorkEntry.{WorkEntry};
 ghost use Rattle.mp_commands.specs.Names.{RefusedBy, lines_of_each, opening, one_more, present, judged, IsWork, IsMeeting};
 
 use mp_depend::Work;
-use mp_desk::{DeskOutcome, DeskSize, MeetingFault};
+use mp_desk::DeskSize;
+use mp_meeting::{DeskOutcome, MeetingFault};
 use mp_netlist::{Edit, EditError, Netlist};
 use mp_phase::Crew;
 use mp_version::EditSession;
@@ -52,7 +53,7 @@ pub trait Sessions {
         ensures refused { IfErr result (RefusedBy edit (judged (Self.Session.story session.old) edit)) }
         ensures err { OnErr result (session.new ≡ session.old) };
 
-    /// Lets a designer for each block submit its lines while viewers read, as `meet` of `mp_desk` does. It is a method of this trait since a command
+    /// Lets a designer for each block submit its lines while viewers read, as `meet` of `mp_meeting` does. It is a method of this trait since a command
     /// may send only a session whose type it knows to other threads.
     fn meet<R: Threads + Wait + Sync>(
         rt: &R,

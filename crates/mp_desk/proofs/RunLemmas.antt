@@ -12,7 +12,7 @@ use Rattle.mp_netlist.specs.Edits.{after}
 use Rattle.mp_version.specs.Limits.{max_edits}
 use Rattle.mp_version.specs.Stories.{present, counted_edit}
 use Rattle.mp_version.proofs.StoryLemmas.{one_more_leads}
-use Rattle.mp_desk.proofs.PrefixLemmas.{prefix_self, prefix_trans, prefix_length}
+use Rattle.mp_version.proofs.PrefixLemmas.{prefix_self, prefix_trans, prefix_length}
 use Rattle.mp_desk.specs.Worlds.{World, Event, Accept, Refuse, Read, Tell, number, IsReplay, MayCome, next, IsRun, after_run, NumberOf, ReadsWell, EveryRun}
 
 append_nil : {A : Type 0} (xs : List A) → xs ++ [] ≡ xs

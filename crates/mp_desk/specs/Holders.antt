@@ -7,8 +7,8 @@ use Rattle.mp_records.specs.declared.edit_error.EditError.{EditError}
 use Rattle.mp_records.specs.declared.edit_error.EditError.TheVariants.{OutOfMemory}
 use Rattle.mp_netlist.specs.Edits.{RefusedBy}
 use Rattle.mp_version.specs.Stories.{Story, judged}
-use Rattle.mp_desk.specs.Extending.{Extends}
-use Rattle.mp_desk.specs.Chronicles.{unsigned}
+use Rattle.mp_version.specs.Extending.{Extends}
+use Rattle.mp_version.specs.publication.Chronicles.{unsigned}
 
 -- a story whose edits have these authors goes on from an earlier one, of whose edits these authors were known
 pub record GoesOn (now : Story) (authors : List ℕ) (before : Story) (known : List ℕ) : Type 0 where

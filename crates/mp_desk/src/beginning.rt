@@ -1,18 +1,13 @@
 //! How the history of a desk begins.
 ghost use Rattle.std.specs.Prelude.{◌≡◌, ◌∷◌, [], All, IfOk, vec_len};
 ghost use Rattle.std.specs.Arc.{arc_value};
-ghost use Rattle.mp_desk.specs.Chronicles.{unsigned};
+ghost use Rattle.mp_version.specs.publication.Chronicles.{unsigned};
 
 use crate::desk_refused::DeskCause;
 use crate::desk_size::DeskSize;
-use crate::edit_authors::EditAuthors;
-use crate::log_writer::{LogWriter, begun};
-use crate::pass::Pass;
-use crate::publication::Publication;
-use crate::publishing::Published;
-use crate::signatures::Signatures;
 use mp_version::Version;
-use std::alloc::{AllocError, Global};
+use mp_version::publication::{LogWriter, Pass, Publication, begin_history};
+use std::alloc::Global;
 use std::sync::{Arc, Wait};
 
 /// A history with its first version, which is published, and a place for each designer and each viewer.
@@ -37,7 +32,12 @@ pub(crate) fn begin<R: Wait + Drop>(
     ensures designers { IfOk result (λ b. (vec_len b.designers ≡ size.designers) × All (λ p. p ≡ b.publication ∷ []) b.designers.items) }
     ensures viewers { IfOk result (λ b. (vec_len b.viewers ≡ size.viewers) × All (λ p. p ≡ b.publication ∷ []) b.viewers.items) }
 {
-    let (writer, mut publication) = first_publication(rt, alloc, version, size)?;
+    let (writer, mut publication) = begin_history(
+        rt,
+        alloc,
+        version,
+        size.designers + size.viewers,
+    )?;
     let (designers, viewers) = places_of(alloc, &mut publication, size)?;
     Ok(Beginning {
         writer,
@@ -45,25 +45,6 @@ pub(crate) fn begin<R: Wait + Drop>(
         designers,
         viewers,
     })
-}
-
-/// The writer of a history that begins with this version, and the publication of that version, with room for all readers of a desk of this size.
-fn first_publication<R: Wait + Drop>(
-    rt: R,
-    alloc: Global,
-    version: &Arc<Version>,
-    size: DeskSize,
-) -> Result<(LogWriter, Publication<R>), AllocError>
-    ensures writer { IfOk result (λ both. (both.0.story ≡ arc_value version.now) × (both.0.authors ≡ unsigned (arc_value version.now))) }
-    ensures publication { IfOk result (λ both. both.1 ≡ record { book = both.0.book; story = arc_value version.now }) }
-{
-    // A history that nobody else holds can be begun, so lack of memory is the only error.
-    let Some(writer) = begun(version) else {
-        return Err(AllocError);
-    };
-    let first = first_published(alloc, version, &writer)?;
-    let publication = Publication::new(rt, alloc, first, size.designers + size.viewers)?;
-    Ok((writer, publication))
 }
 
 /// A place for each designer and a place for each viewer. Memory is taken before the places are.
@@ -81,20 +62,4 @@ fn places_of<R: Wait + Drop>(
     let designers = publication.places(for_designers, size.designers)?;
     let viewers = publication.places(for_viewers, size.viewers)?;
     Ok((designers, viewers))
-}
-
-/// What is published first: the version with which the history begins, whose edits nobody at the desk made.
-fn first_published(
-    alloc: Global,
-    version: &Arc<Version>,
-    writer: &LogWriter,
-) -> Result<Published, AllocError>
-    requires story { writer.now.story ≡ arc_value version.now }
-    requires authors { writer.now.authors ≡ unsigned (arc_value version.now) }
-    ensures { IfOk result (λ p. p ≡ record { book = writer.now.book; story = arc_value version.now }) }
-{
-    let list = EditAuthors::unsigned(alloc, version.number())?;
-    let signatures = Signatures::of(list, writer);
-    let version = Arc::try_clone(version)?;
-    Ok(Published::new(version, writer.prefix(), signatures))
 }

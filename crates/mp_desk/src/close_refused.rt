@@ -1,9 +1,8 @@
 //! Why a desk was not closed.
 use crate::designer::Designer;
 use crate::desk::Desk;
-use crate::edit_keeper::EditKeeper;
 use crate::name::DeskName;
-use mp_version::EditSession;
+use mp_version::{EditKeeper, EditSession};
 use std::sync::Wait;
 use thiserror::Error;
 

@@ -1,13 +1,8 @@
 //! Those who edit.
-use crate::authors::Authors;
-use crate::log_prefix::LogPrefix;
-use crate::log_writer::LogWriter;
 use crate::name::DeskName;
-use crate::pass::{Pass, ReadError};
-use crate::publication::Publication;
-use crate::showing::show;
-use crate::signatures::Signatures;
-use crate::signed_version::SignedVersion;
+use mp_version::publication::{
+    Authors, LogPrefix, LogWriter, Pass, Publication, ReadError, SignedVersion, show,
+};
 use std::marker::Model;
 use std::sync::Wait;
 use std::sync::ledger::{Book, Share};
@@ -28,7 +23,7 @@ pub struct Designer<L: DeskName> {
 
 impl<L: DeskName> Model for Designer<L> {
     ghost use Rattle.std.specs.Prelude.{◌≡◌, length};
-    ghost use Rattle.mp_desk.specs.Knowing.{Has, stories_of};
+    ghost use Rattle.mp_version.specs.publication.Knowing.{Has, stories_of};
     ghost use Rattle.mp_desk.specs.Holders.{Working};
 
     ghost Value = { Working };
@@ -43,7 +38,7 @@ impl<L: DeskName> Designer<L> {
     ghost use Rattle.std.specs.Arc.{arc_value};
     ghost use mathlib.Core.List.{IsPrefix};
     ghost use Rattle.mp_version.specs.Limits.{max_edits};
-    ghost use Rattle.mp_desk.specs.Extending.{Extends};
+    ghost use Rattle.mp_version.specs.Extending.{Extends};
 
     /// Reads the version that is published now, and not one that was kept, without waiting. Its authors begin with those that were known before.
     /// `Closed` comes if the desk is closed, and `OutOfMemory` if memory runs out; then the version seen last stays.
@@ -59,7 +54,7 @@ impl<L: DeskName> Designer<L> {
         let published = self.pass.enter()?;
         let prefix = published.prefix().again();
         let (version, signatures) = published.into_parts();
-        let Signatures { list, authors } = signatures;
+        let (list, authors) = signatures.into_parts();
         authors.begins_with(&self.signed);
         self.seen = prefix;
         self.signed = authors;

@@ -6,7 +6,6 @@ use crate::designer::Designer;
 use crate::desk_parts::DeskParts;
 use crate::desk_refused::{DeskCause, DeskRefused};
 use crate::desk_state::DeskState;
-use crate::edit_keeper::EditKeeper;
 use crate::kept_session::KeptSession;
 use crate::name::DeskName;
 use crate::parting::{part_designers, part_viewers};
@@ -16,7 +15,7 @@ use crate::staffing::{designers_at, viewers_at};
 use crate::submit_error::SubmitError;
 use crate::viewer::Viewer;
 use mp_netlist::Edit;
-use mp_version::EditSession;
+use mp_version::{EditKeeper, EditSession};
 use std::marker::Model;
 use std::sync::{Mutex, Wait};
 use std::thread::Threads;
@@ -42,7 +41,7 @@ impl<S: EditSession, K: EditKeeper, L: DeskName, R: Wait + Drop> Model for Desk<
 
 impl<S: EditSession, K: EditKeeper, L: DeskName, R: Wait + Drop> Desk<S, K, L, R> {
     ghost use Rattle.std.specs.Prelude.{◌≢◌, ◌+◌, length, vec_len, All, IfOk, IfErr};
-    ghost use Rattle.mp_desk.specs.Extending.{Extends};
+    ghost use Rattle.mp_version.specs.Extending.{Extends};
     ghost use Rattle.mp_desk.specs.Holders.{fresh_viewer, AreFresh, ExtendsEach, HaveSeenTheSame, accepted_by, IsSigned};
     ghost use Rattle.mp_desk.specs.declared.desk_refused.DeskCause.TheVariants.{OutOfMemory};
 
@@ -162,7 +161,7 @@ impl<S: EditSession, K: EditKeeper, L: DeskName, R: Wait + Drop> Desk<S, K, L, R
     ghost use Rattle.std.specs.Arc.{arc_value};
     ghost use mathlib.Core.List.{IsPrefix};
     ghost use Rattle.mp_version.specs.Stories.{Story, one_more};
-    ghost use Rattle.mp_desk.specs.Extending.{Extends};
+    ghost use Rattle.mp_version.specs.Extending.{Extends};
     ghost use Rattle.mp_desk.specs.Holders.{Signs};
     ghost use Rattle.mp_desk.specs.Keepers.{NotAccepted};
 

@@ -4,12 +4,9 @@ ghost use Rattle.std.specs.Prelude.{◌≡◌};
 use crate::beginning::{Beginning, begin};
 use crate::desk_refused::DeskRefused;
 use crate::desk_size::DeskSize;
-use crate::edit_keeper::EditKeeper;
 use crate::kept_session::KeptSession;
-use crate::log_writer::LogWriter;
-use crate::pass::Pass;
-use crate::publication::Publication;
-use mp_version::EditSession;
+use mp_version::publication::{LogWriter, Pass, Publication};
+use mp_version::{EditKeeper, EditSession};
 use std::alloc::Global;
 use std::marker::Model;
 use std::sync::Wait;
@@ -29,7 +26,7 @@ pub struct DeskParts<S: EditSession, K: EditKeeper, R: Wait + Drop> {
 
 impl<S: EditSession, K: EditKeeper, R: Wait + Drop> Model for DeskParts<S, K, R> {
     ghost use Rattle.std.specs.Prelude.{◌≡◌, ◌+◌, ◌∷◌, [], All, vec_len};
-    ghost use Rattle.mp_desk.specs.Chronicles.{unsigned};
+    ghost use Rattle.mp_version.specs.publication.Chronicles.{unsigned};
     ghost use Rattle.mp_desk.specs.Holders.{Parts};
 
     ghost Value = { Parts S };

@@ -1,10 +1,9 @@
 //! Why no desk was made.
 ghost use Rattle.std.specs.Prelude.{◌≡◌};
 
-use crate::edit_keeper::EditKeeper;
 use crate::kept_session::KeptSession;
-use crate::publication::NoPlace;
-use mp_version::EditSession;
+use mp_version::publication::NoPlace;
+use mp_version::{EditKeeper, EditSession};
 use std::alloc::AllocError;
 use thiserror::Error;
 

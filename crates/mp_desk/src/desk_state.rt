@@ -2,22 +2,17 @@
 ghost use Rattle.std.specs.Prelude.{◌≡◌, ◌≤◌, ◌++◌, ◌∷◌, [], length, IfOk, IfSome};
 ghost use Rattle.std.specs.Arc.{arc_value};
 ghost use Rattle.mp_version.specs.Limits.{max_edits};
-ghost use Rattle.mp_desk.specs.Extending.{Succeeds};
-ghost use Rattle.mp_desk.specs.Chronicles.{written_on};
+ghost use Rattle.mp_version.specs.Extending.{Succeeds};
+ghost use Rattle.mp_version.specs.publication.Chronicles.{written_on};
 
 use crate::designer::Designer;
-use crate::edit_authors::EditAuthors;
-use crate::edit_keeper::EditKeeper;
-use crate::log_writer::LogWriter;
 use crate::name::DeskName;
 use crate::notice::Notice;
-use crate::publication::Publication;
-use crate::publishing::Published;
 use crate::receipt::Receipt;
-use crate::signatures::Signatures;
 use crate::submit_error::SubmitError;
 use mp_netlist::{Edit, EditError};
-use mp_version::{EditSession, Version};
+use mp_version::publication::{EditAuthors, LogWriter, Publication, Published, Signatures};
+use mp_version::{EditKeeper, EditSession, Version};
 use std::alloc::AllocError;
 use std::marker::{Model, PhantomData};
 use std::sync::ledger::{Book, Share};
@@ -54,7 +49,7 @@ impl<S: EditSession, K: EditKeeper, L: DeskName, R: Wait + Drop> DeskState<S, K,
     ghost use Rattle.mp_records.specs.declared.edit_error.EditError.TheVariants.{OutOfMemory};
     ghost use Rattle.mp_version.specs.Stories.{one_more};
     ghost use Rattle.mp_version.specs.Steps.{story_after};
-    ghost use Rattle.mp_desk.specs.Extending.{Extends};
+    ghost use Rattle.mp_version.specs.Extending.{Extends};
     ghost use Rattle.mp_desk.specs.Holders.{Signs};
     ghost use Rattle.mp_desk.specs.Keepers.{MayBeLost, NotAccepted};
     ghost use Rattle.mp_desk.specs.declared.submit_error.SubmitError.TheVariants as errors;

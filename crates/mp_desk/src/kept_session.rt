@@ -1,9 +1,8 @@
 //! A session with what keeps its edits.
 ghost use Rattle.std.specs.Prelude.{◌≡◌};
 
-use crate::edit_keeper::EditKeeper;
 use crate::unkept::Unkept;
-use mp_version::EditSession;
+use mp_version::{EditKeeper, EditSession};
 use std::marker::Model;
 
 /// A session, with what keeps its edits. A contract sees both.

@@ -1,12 +1,9 @@
 //! A desk: designers submit edits of one session, and viewers read its versions without waiting.
 //!
-//! `Desk` has the session, what keeps its edits, its history and the published version. `meeting` runs designers with blocks of lines, and viewers, at one desk on threads of
-//! their own.
+//! `Desk` has the session, what keeps its edits, its history and the published version.
 #![tactic(auto)]
 
-mod authors;
 mod beginning;
-mod chronicle;
 mod close_refused;
 mod designer;
 mod desk;
@@ -14,23 +11,12 @@ mod desk_parts;
 mod desk_refused;
 mod desk_size;
 mod desk_state;
-mod edit_authors;
-mod edit_keeper;
 mod kept_session;
 pub mod laws;
-mod log_prefix;
-mod log_writer;
-mod meeting;
 mod name;
 mod notice;
 mod parting;
-mod pass;
-mod publication;
-mod publishing;
 mod receipt;
-mod showing;
-mod signatures;
-mod signed_version;
 mod staffed;
 mod staffing;
 mod submit_error;
@@ -43,17 +29,12 @@ pub use desk::Desk;
 pub use desk_parts::DeskParts;
 pub use desk_refused::{DeskCause, DeskRefused};
 pub use desk_size::{BadDeskSize, DeskSize, MAX_DESIGNERS, MAX_VIEWERS};
-pub use edit_authors::EditAuthors;
-pub use edit_keeper::{EditKeeper, NotKept};
 pub use kept_session::KeptSession;
-pub use meeting::{
-    Adjourned, DesignerTally, DeskOutcome, MeetingFault, Tally, adjourn, meet, start_all,
-};
+pub use mp_version::publication::{EditAuthors, ReadError, SignedVersion};
+pub use mp_version::{EditKeeper, NotKept};
 pub use name::DeskName;
 pub use notice::Notice;
-pub use pass::ReadError;
 pub use receipt::Receipt;
-pub use signed_version::SignedVersion;
 pub use staffed::Staffed;
 pub use submit_error::SubmitError;
 pub use unkept::Unkept;

@@ -1,6 +1,6 @@
 //! Word of a version.
-use crate::log_prefix::LogPrefix;
 use crate::name::DeskName;
+use mp_version::publication::LogPrefix;
 use std::marker::{Model, PhantomData};
 
 /// A notice of a published version, without the version itself. Contracts see the version's story.

@@ -1,15 +1,13 @@
 //! How designers and viewers leave a desk that is closed.
 ghost use Rattle.std.specs.Prelude.{◌≡◌, ◌+◌, length, vec_len, All};
 ghost use mathlib.Core.List.{IsPrefix};
-ghost use Rattle.mp_desk.specs.Extending.{Extends};
+ghost use Rattle.mp_version.specs.Extending.{Extends};
 ghost use Rattle.mp_desk.specs.Holders.{ExtendsEach, BeginWithEach, GoesOn, accepted_by, HaveSeenTheSame};
 
 use crate::designer::Designer;
-use crate::log_writer::LogWriter;
 use crate::name::DeskName;
-use crate::publication::Publication;
-use crate::showing::show;
 use crate::viewer::Viewer;
+use mp_version::publication::{LogWriter, Publication, show};
 use std::sync::Wait;
 use std::sync::ledger::Share;
 

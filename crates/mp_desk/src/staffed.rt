@@ -1,10 +1,9 @@
 //! A desk that was opened.
 use crate::designer::Designer;
 use crate::desk::Desk;
-use crate::edit_keeper::EditKeeper;
 use crate::name::DeskName;
 use crate::viewer::Viewer;
-use mp_version::EditSession;
+use mp_version::{EditKeeper, EditSession};
 use std::sync::Wait;
 
 /// A desk, with its designers and viewers.

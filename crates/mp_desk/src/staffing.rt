@@ -1,15 +1,14 @@
 //! Designers and viewers at their places.
 ghost use Rattle.std.specs.Prelude.{◌≡◌, ◌+◌, ◌∷◌, ◌<◌, [], vec_len, All, IfOk, OnOk};
 ghost use Rattle.std.specs.Arc.{arc_value};
-ghost use Rattle.mp_desk.specs.Chronicles.{unsigned};
+ghost use Rattle.mp_version.specs.publication.Chronicles.{unsigned};
 ghost use Rattle.mp_desk.specs.Holders.{fresh_designer, fresh_viewer, AreFresh};
 
 use crate::designer::Designer;
-use crate::log_writer::LogWriter;
 use crate::name::DeskName;
-use crate::pass::Pass;
 use crate::viewer::Viewer;
 use mp_version::Version;
+use mp_version::publication::{LogWriter, Pass};
 use std::alloc::{AllocError, Global};
 use std::marker::PhantomData;
 use std::sync::Arc;

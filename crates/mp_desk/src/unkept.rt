@@ -1,6 +1,6 @@
 //! What keeps no edits.
-use crate::edit_keeper::{EditKeeper, NotKept};
 use mp_netlist::Edit;
+use mp_version::{EditKeeper, NotKept};
 
 /// Keeps no edits, for a desk whose edits end with it. It is never lost.
 #[derive(Clone, Copy, Drop)]

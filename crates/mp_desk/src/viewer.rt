@@ -1,15 +1,10 @@
 //! Those who look.
-use crate::authors::Authors;
-use crate::log_prefix::LogPrefix;
-use crate::log_writer::LogWriter;
 use crate::name::DeskName;
 use crate::notice::Notice;
-use crate::pass::{Pass, ReadError};
-use crate::publication::Publication;
-use crate::showing::show;
-use crate::signatures::Signatures;
-use crate::signed_version::SignedVersion;
 use mp_version::Version;
+use mp_version::publication::{
+    Authors, LogPrefix, LogWriter, Pass, Publication, ReadError, SignedVersion, show,
+};
 use std::marker::{Model, PhantomData};
 use std::sync::{Arc, Wait};
 
@@ -30,7 +25,7 @@ pub struct Viewer<L: DeskName> {
 impl<L: DeskName> Model for Viewer<L> {
     ghost use Rattle.std.specs.Prelude.{◌≡◌, length};
     ghost use Rattle.std.specs.Arc.{arc_value};
-    ghost use Rattle.mp_desk.specs.Knowing.{Has, stories_of};
+    ghost use Rattle.mp_version.specs.publication.Knowing.{Has, stories_of};
     ghost use Rattle.mp_desk.specs.Holders.{Seeing};
 
     ghost Value = { Seeing };
@@ -44,7 +39,7 @@ impl<L: DeskName> Viewer<L> {
     ghost use Rattle.std.specs.Prelude.{◌≡◌, ◌⊎◌, ◌∷◌, length, IfOk, OnErr};
     ghost use Rattle.std.specs.Arc.{arc_value};
     ghost use mathlib.Core.List.{IsPrefix};
-    ghost use Rattle.mp_desk.specs.Extending.{Extends};
+    ghost use Rattle.mp_version.specs.Extending.{Extends};
     ghost use Rattle.mp_desk.specs.Holders.{GoesOn};
 
     /// The version that was read last; at first the one with which the desk was opened.
@@ -76,7 +71,7 @@ impl<L: DeskName> Viewer<L> {
         published.prefix().agrees(&self.heard);
         let (version, signatures) = published.into_parts();
         let copy = Arc::try_clone(&version).map_err(|_| ReadError::OutOfMemory)?;
-        let Signatures { list, authors } = signatures;
+        let (list, authors) = signatures.into_parts();
         authors.begins_with(&self.signed);
         self.last = copy;
         self.signed = authors;

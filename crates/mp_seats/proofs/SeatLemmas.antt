@@ -5,8 +5,8 @@ use Rattle.mp_text.specs.lines.Given.{given}
 use Rattle.mp_text.specs.lines.Incoming.{Incoming}
 use Rattle.mp_streams.specs.Outgoing.{Outgoing}
 use Rattle.mp_version.specs.Stories.{Story, one_more}
-use Rattle.mp_desk.specs.Extending.{Extends}
-use Rattle.mp_desk.proofs.PrefixLemmas.{prefix_self, prefix_trans, prefix_last, extends_self, extends_trans, extends_length, extends_one_more, up_to-earlier}
+use Rattle.mp_version.specs.Extending.{Extends}
+use Rattle.mp_version.proofs.PrefixLemmas.{prefix_self, prefix_trans, prefix_last, extends_self, extends_trans, extends_length, extends_one_more, up_to-earlier}
 use Rattle.mp_seats.specs.declared.talk.talk_fault.TalkFault.{TalkFault}
 use Rattle.mp_seats.specs.talk.Answers.{AreAnswers}
 use Rattle.mp_seats.specs.talk.Conversations.{Conversed}

@@ -11,9 +11,9 @@ use Rattle.mp_text.specs.declared.question.Question.{Question}
 use Rattle.mp_text.specs.declared.script_line.Line.TheVariants.{Empty}
 use Rattle.mp_text.specs.ScriptLines.{line_at}
 use Rattle.mp_version.specs.Stories.{Story}
-use Rattle.mp_desk.specs.Extending.{Extends}
+use Rattle.mp_version.specs.Extending.{Extends}
 use Rattle.mp_desk.specs.Holders.{RefusedAfter}
-use Rattle.mp_desk.proofs.PrefixLemmas.{prefix_self, prefix_take, prefix_trans, extends_self}
+use Rattle.mp_version.proofs.PrefixLemmas.{prefix_self, prefix_take, prefix_trans, extends_self}
 use Rattle.mp_seats.specs.talk.Answers.{PutsAnswer}
 use Rattle.mp_seats.specs.declared.refusal.Refusal.TheVariants as refusals
 use Rattle.mp_seats.specs.declared.reply.Reply.{Reply}

@@ -8,11 +8,10 @@ use Rattle.mp_text.specs.lexing.Lines.{lines_of}
 use Rattle.mp_text.specs.lines.Given.{given}
 use Rattle.mp_text.specs.lines.Incoming.{Incoming}
 use Rattle.mp_version.specs.Stories.{Story}
-use Rattle.mp_desk.specs.Extending.{Extends}
+use Rattle.mp_version.specs.Extending.{Extends, up_to}
 use Rattle.mp_seats.specs.declared.talk.talk_fault.TalkFault.{TalkFault}
 use Rattle.mp_seats.specs.talk.Conversations.{Closes}
 use Rattle.mp_seats.specs.declared.reply.Reply.TheVariants.{Accepted}
-use Rattle.mp_desk.specs.meeting.Fates.{up_to}
 use Rattle.mp_seats.specs.Marks.{Mark, AcceptedAt, RefusedAt, AnsweredAt, Rise, accepted_of, refused_of, told_of, places_of, AreSigned}
 use Rattle.mp_seats.specs.Replies.{Writing, IsEditLine, IsRefusalAt, IsAnswerAt}
 use Rattle.mp_seats.specs.Steps.{Seated, HasReadFor}

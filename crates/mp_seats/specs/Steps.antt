@@ -11,7 +11,7 @@ use Rattle.mp_text.specs.declared.script_line.Line.{Line}
 use Rattle.mp_text.specs.declared.script_line.Line.TheVariants.{Ask}
 use Rattle.mp_text.specs.ScriptLines.{line_at}
 use Rattle.mp_version.specs.Stories.{Story, one_more}
-use Rattle.mp_desk.specs.Extending.{Extends}
+use Rattle.mp_version.specs.Extending.{Extends}
 use Rattle.mp_desk.specs.Holders.{RefusedAfter}
 use Rattle.mp_seats.specs.declared.refusal.Refusal.{Refusal}
 use Rattle.mp_seats.specs.declared.refusal.Refusal.TheVariants as refusals

@@ -3,7 +3,7 @@ ghost use Rattle.std.specs.Prelude.{◌≡◌, Bool, length, IfOk, OnErr};
 ghost use Rattle.std.specs.Arc.{arc_value};
 ghost use Rattle.std.specs.Thread.{IsSync};
 ghost use mathlib.Core.List.{IsPrefix};
-ghost use Rattle.mp_desk.specs.Extending.{Extends};
+ghost use Rattle.mp_version.specs.Extending.{Extends};
 ghost use Rattle.mp_seats.specs.Steps.{Seated, with_seen, with_read, with_refusal, Submits};
 
 use crate::refusal::Refusal;

@@ -1,7 +1,8 @@
 //! The sessions of this program.
 use mp_commands::Sessions;
 use mp_depend::Work;
-use mp_desk::{DeskOutcome, DeskSize, MeetingFault, meet};
+use mp_desk::DeskSize;
+use mp_meeting::{DeskOutcome, MeetingFault, meet};
 use mp_netlist::{Edit, EditError, Netlist};
 use mp_phase::{Crew, OpenGate};
 use mp_session::Session;

@@ -1,6 +1,6 @@
 -- What a live desk writes where it is run.
 use Rattle.std.specs.Prelude.{◌≡◌, ◌++◌, ℕ, List, Result, Ok, Err}
-use Rattle.mp_desk.specs.declared.meeting.tally.Tally.{Tally}
+use Rattle.mp_meeting.specs.declared.tally.Tally.{Tally}
 use Rattle.mp_seats.specs.declared.talk.talk_fault.TalkFault.{TalkFault}
 use Rattle.mp_seats.specs.hosting.OwnSeats.{HasTalkedWithin}
 use Rattle.mp_seats.specs.hosting.Places.{SeatNames}

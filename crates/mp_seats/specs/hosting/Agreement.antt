@@ -7,10 +7,10 @@ use Rattle.mp_text.specs.declared.script_line.Line.{Line}
 use Rattle.mp_text.specs.declared.script_line.Line.TheVariants.{Empty, Ask}
 use Rattle.mp_text.specs.ScriptLines.{line_at}
 use Rattle.mp_version.specs.Stories.{Story, opening}
-use Rattle.mp_desk.specs.declared.meeting.tally.Tally.{Tally}
-use Rattle.mp_desk.specs.meeting.Fates.{Fate, Accepted, Refused}
-use Rattle.mp_desk.specs.meeting.Meetings.{IsWorked, IsMeeting}
-use Rattle.mp_desk.specs.meeting.Fates.{up_to}
+use Rattle.mp_meeting.specs.declared.tally.Tally.{Tally}
+use Rattle.mp_meeting.specs.Fates.{Fate, Accepted, Refused}
+use Rattle.mp_meeting.specs.Meetings.{IsWorked, IsMeeting}
+use Rattle.mp_version.specs.Extending.{up_to}
 use Rattle.mp_seats.specs.Marks.{Mark, AcceptedAt, RefusedAt, AnsweredAt}
 use Rattle.mp_seats.specs.Replies.{Writing}
 use Rattle.mp_seats.specs.Seats.{IsSeat}

@@ -1,9 +1,9 @@
 -- Designers and viewers as those who sit at seats.
 use Rattle.std.specs.Prelude.{◌≡◌, ℕ, ◌+◌, ◌<◌, List, [], ◌∷◌, length, slice_index_or}
 use Rattle.mp_version.specs.Stories.{Story}
-use Rattle.mp_desk.specs.Chronicles.{unsigned}
+use Rattle.mp_version.specs.publication.Chronicles.{unsigned}
 use Rattle.mp_desk.specs.Holders.{Seeing}
-use Rattle.mp_desk.specs.meeting.Sittings.{DesignerTally}
+use Rattle.mp_meeting.specs.Sittings.{DesignerTally}
 use Rattle.mp_seats.specs.Steps.{Seated}
 
 -- a designer at a seat

@@ -2,11 +2,11 @@
 use Rattle.std.specs.Prelude.{◌≡◌, ◌<◌, ℕ, true, false, List, length, map, All, Option}
 use mathlib.Core.List.{IsPrefix}
 use Rattle.mp_version.specs.Stories.{Story}
-use Rattle.mp_desk.specs.Chronicles.{unsigned}
-use Rattle.mp_desk.specs.Extending.{Extends}
-use Rattle.mp_desk.specs.declared.meeting.tally.Tally.{Tally}
-use Rattle.mp_desk.specs.meeting.Sittings.{DesignerTally}
-use Rattle.mp_desk.specs.meeting.Seats.{HasAdjourned}
+use Rattle.mp_version.specs.publication.Chronicles.{unsigned}
+use Rattle.mp_version.specs.Extending.{Extends}
+use Rattle.mp_meeting.specs.declared.tally.Tally.{Tally}
+use Rattle.mp_meeting.specs.Sittings.{DesignerTally}
+use Rattle.mp_meeting.specs.Seats.{HasAdjourned}
 use Rattle.mp_seats.specs.Replies.{Writing}
 use Rattle.mp_seats.specs.Steps.{Seated}
 use Rattle.mp_seats.specs.hosting.Guests.{sitter, just_come, just_looking}

@@ -5,7 +5,7 @@ use Rattle.mp_text.specs.lexing.Lines.{line_words}
 use Rattle.mp_text.specs.lines.Incoming.{Incoming}
 use Rattle.mp_version.specs.Stories.{Story}
 use Rattle.mp_seats.specs.declared.talk.talk_fault.TalkFault.{TalkFault}
-use Rattle.mp_desk.specs.Extending.{Extends}
+use Rattle.mp_version.specs.Extending.{Extends}
 use Rattle.mp_seats.specs.talk.Answers.{Answering, ForAllAuthors}
 use Rattle.mp_seats.specs.talk.Conversations.{Conversed}
 use Rattle.mp_seats.specs.Replies.{Writing}

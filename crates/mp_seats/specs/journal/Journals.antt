@@ -5,7 +5,7 @@ use Rattle.mp_streams.specs.StreamBytes.{AppendsPrefix}
 use Rattle.mp_streams.specs.declared.failed.Failed.{Failed}
 use Rattle.mp_records.specs.declared.edit.Edit.{Edit}
 use Rattle.mp_text.specs.edit_lines.EditLines.{edit_lines}
-use Rattle.mp_desk.specs.declared.edit_keeper.NotKept.{NotKept}
+use Rattle.mp_version.specs.declared.edit_keeper.NotKept.{NotKept}
 
 -- a journal: the bytes that its sink had taken before and those that it has taken now, as far as it tells them, whether a write failed, and how many edits
 -- there were when it was begun

@@ -3,7 +3,7 @@ use Rattle.std.specs.Prelude.{◌≡◌, ℕ, List, Option}
 use Rattle.std.specs.declared.fs.File.{File}
 use Rattle.mp_streams.specs.StreamFaults.{Counted}
 use Rattle.mp_version.specs.Stories.{Story}
-use Rattle.mp_desk.specs.declared.meeting.tally.Tally.{Tally}
+use Rattle.mp_meeting.specs.declared.tally.Tally.{Tally}
 use Rattle.mp_seats.specs.declared.hosting.seat_place.SeatName.{SeatName}
 use Rattle.mp_seats.specs.Replies.{Writing}
 use Rattle.mp_seats.specs.hosting.Hostings.{IsHosted}

@@ -1,7 +1,8 @@
 //! A designer at a seat.
 use crate::hosting::rises::Rises;
 use crate::{Occupant, Refusal};
-use mp_desk::{DesignerTally, Desk, DeskName, EditKeeper, SignedVersion, SubmitError};
+use mp_desk::{Desk, DeskName, EditKeeper, SignedVersion, SubmitError};
+use mp_meeting::DesignerTally;
 use mp_netlist::Edit;
 use mp_version::EditSession;
 use std::alloc::AllocError;

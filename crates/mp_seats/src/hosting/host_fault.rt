@@ -1,9 +1,9 @@
 //! Why a desk isn't served.
 ghost use Rattle.std.specs.Prelude.{◌≡◌};
-ghost use Rattle.mp_desk.specs.declared.meeting.meeting_fault.MeetingFault.TheVariants.{OutOfMemory};
+ghost use Rattle.mp_meeting.specs.declared.meeting_fault.MeetingFault.TheVariants.{OutOfMemory};
 ghost use Rattle.mp_seats.specs.declared.hosting.host_fault.HostFault.TheVariants as faults;
 
-use mp_desk::MeetingFault;
+use mp_meeting::MeetingFault;
 use std::alloc::{AllocError, AllocFailed};
 use thiserror::Error;
 

@@ -1,6 +1,7 @@
 //! What a desk that was served leads to.
 use crate::talk::TalkFault;
-use mp_desk::{DeskOutcome, EditKeeper};
+use mp_desk::EditKeeper;
+use mp_meeting::DeskOutcome;
 use mp_version::EditSession;
 
 /// What a desk that was served leads to.

@@ -15,10 +15,8 @@ use crate::hosting::hosted::Hosted;
 use crate::hosting::people::People;
 use crate::hosting::served::Served;
 use crate::hosting::service::serve;
-use mp_desk::{
-    Adjourned, BadDeskSize, Desk, DeskName, DeskOutcome, DeskParts, DeskSize, EditKeeper,
-    KeptSession, MeetingFault, Staffed, adjourn, start_all,
-};
+use mp_desk::{BadDeskSize, Desk, DeskName, DeskParts, DeskSize, EditKeeper, KeptSession, Staffed};
+use mp_meeting::{Adjourned, DeskOutcome, MeetingFault, adjourn, start_all};
 use mp_streams::{Out, Sink, Source};
 use mp_text::LineReader;
 use mp_version::EditSession;

@@ -1,6 +1,7 @@
 //! The people of a desk that was served.
 use crate::talk::TalkFault;
-use mp_desk::{DesignerTally, DeskName, Viewer};
+use mp_desk::{DeskName, Viewer};
+use mp_meeting::DesignerTally;
 
 /// The people of a desk that was served, and how the lines of whoever ran it ended.
 #[derive(Drop)]

@@ -1,5 +1,5 @@
 use Rattle.std.specs.Prelude.{◌≡◌, ◌<◌}
-use Rattle.mp_desk.proofs.lemmas.meeting.SittingLemmas.{lines_of-none}
+use Rattle.mp_meeting.proofs.SittingLemmas.{lines_of-none}
 use Rattle.mp_commands.proofs.Names.{[], length, subst, rules, err_from_is_err_and, puts_none, lines_of}
 use Rattle.mp_commands.proofs.PlayLemmas.{ArePlayed, one_more, replies_all, replies_part}
 use Rattle.mp_commands.proofs.play.put_replies.Goals as goal

@@ -1,7 +1,7 @@
 use Rattle.std.proofs.Common.{◌≡◌, ◌+◌, length, ap, sym, ◌∙◌, arith, rules}
 use Rattle.std.specs.Arc.{arc_value}
 use Rattle.std.proofs.lemmas.List.{length_push}
-use Rattle.mp_desk.specs.Chronicles.{Shown, Signed, Written, written_on}
+use Rattle.mp_version.specs.publication.Chronicles.{Shown, Signed, Written, written_on}
 use Rattle.mp_desk.proofs.desk_state.write_version.Goals as goal
 
 pub new-next-requires-clause-each : goal.new-next-requires-clause-each

@@ -1,5 +1,5 @@
 use Rattle.std.proofs.Common.{rules, ◌≡◌, ◌++◌, ◌∷◌, [], sym, subst}
-use Rattle.mp_desk.specs.Knowing.{Known}
+use Rattle.mp_version.specs.publication.Knowing.{Known}
 use Rattle.mp_desk.specs.Holders.{AreFresh}
 use Rattle.mp_desk.proofs.StaffLemmas.{all_front, one_more_fresh}
 use Rattle.mp_desk.proofs.staffing.designers_at.Goals as goal

@@ -2,7 +2,7 @@ use Rattle.std.proofs.Common.{rules, ◌≡◌, ◌++◌, ◌∷◌, [], Option,
 use Rattle.std.specs.Option.{option_to_list}
 use Rattle.std.specs.Arc.{arc_value}
 use Rattle.std.proofs.lemmas.List.Elements.{All-push}
-use Rattle.mp_desk.specs.Knowing.{Known}
+use Rattle.mp_version.specs.publication.Knowing.{Known}
 use Rattle.mp_desk.specs.Holders.{Seeing, fresh_viewer}
 use Rattle.mp_desk.proofs.StaffLemmas.{all_front}
 use Rattle.mp_desk.proofs.staffing.viewers_at.Goals as goal

@@ -8,12 +8,11 @@ use Rattle.mp_text.specs.declared.script_line.Line.{Line}
 use Rattle.mp_text.specs.declared.script_line.Line.TheVariants.{Empty, Change, Ask}
 use Rattle.mp_text.specs.ScriptLines.{line_at}
 use Rattle.mp_version.specs.Stories.{Story, opening}
-use Rattle.mp_desk.specs.Extending.{Extends}
-use Rattle.mp_desk.specs.Chronicles.{unsigned}
-use Rattle.mp_desk.specs.meeting.Fates.{Fate, Accepted, Refused, said, unless_empty, AreFates}
-use Rattle.mp_desk.specs.meeting.Fates as fates_of
+use Rattle.mp_version.specs.Extending.{Extends, up_to}
+use Rattle.mp_version.specs.publication.Chronicles.{unsigned}
+use Rattle.mp_meeting.specs.Fates.{Fate, Accepted, Refused, said, unless_empty, AreFates}
+use Rattle.mp_meeting.specs.Fates as fates_of
 use Rattle.mp_seats.specs.declared.reply.Reply.TheVariants as replies
-use Rattle.mp_desk.specs.meeting.Fates.{up_to}
 use Rattle.mp_seats.specs.Marks.{Mark, RefusedAt, AnsweredAt, Rise, accepted_of, refused_of, told_of, places_of, AreSigned}
 use Rattle.mp_seats.specs.Replies.{Writing, IsReadRefusal, IsReadAnswer}
 use Rattle.mp_seats.specs.Steps.{AddsRead}

@@ -15,7 +15,7 @@ use Rattle.mp_seats.specs.Steps.{IsSignedStep}
 use Rattle.mp_seats.specs.declared.hosting.seat_place.SeatName.{SeatName}
 use Rattle.mp_seats.specs.hosting.Places.{TellsOf}
 use Rattle.mp_seats.specs.hosting.OwnSeats.{Owner, IsSeatsLine, IsOwnStep, IsSignedOwnStep}
-use Rattle.mp_desk.proofs.PrefixLemmas.{prefix_self}
+use Rattle.mp_version.proofs.PrefixLemmas.{prefix_self}
 use Rattle.mp_seats.proofs.StepLemmas.{step_begins}
 
 -- any other line is answered as at any seat

@@ -3,11 +3,11 @@ use Rattle.std.proofs.Common.{◌≡◌, ◌+◌, ◌<◌, ◌≤◌, ℕ, zero,
 use Rattle.std.proofs.lemmas.List.{map-append, length-map}
 use mathlib.Core.List.{IsPrefix}
 use Rattle.mp_version.specs.Stories.{Story}
-use Rattle.mp_desk.specs.Extending.{Extends}
+use Rattle.mp_version.specs.Extending.{Extends}
 use Rattle.mp_desk.specs.Holders.{Working, Seeing, fresh_viewer, AreFresh, ExtendsEach, BeginWithEach}
-use Rattle.mp_desk.specs.meeting.Sittings.{DesignerTally, begun}
-use Rattle.mp_desk.specs.declared.meeting.tally.Tally.{Tally}
-use Rattle.mp_desk.specs.meeting.Seats.{working, HasAdjourned}
+use Rattle.mp_meeting.specs.Sittings.{DesignerTally, begun}
+use Rattle.mp_meeting.specs.declared.tally.Tally.{Tally}
+use Rattle.mp_meeting.specs.Seats.{working, HasAdjourned}
 use Rattle.mp_seats.specs.Steps.{Seated}
 use Rattle.mp_seats.specs.hosting.Guests.{sitter, looker, just_looking, HaveCome}
 

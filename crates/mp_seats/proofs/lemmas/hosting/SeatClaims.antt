@@ -2,11 +2,11 @@
 use Rattle.std.proofs.Common.{◌≡◌, ℕ, ◌+◌, ◌-◌, ◌<◌, ◌≤◌, suc, Bool, true, List, [], ◌∷◌, length, map, slice_index_or, All, Option, refl, sym, ap, subst, inl, inr, length-append, arith}
 use mathlib.Core.List.{IsPrefix}
 use Rattle.mp_version.specs.Stories.{Story}
-use Rattle.mp_desk.specs.Chronicles.{unsigned}
+use Rattle.mp_version.specs.publication.Chronicles.{unsigned}
 use Rattle.mp_desk.specs.Holders.{ExtendsEach, accepted_by, BeginWithEach}
-use Rattle.mp_desk.proofs.PrefixLemmas.{prefix_self, prefix_trans, extends_self, extends_length}
-use Rattle.mp_desk.specs.meeting.Sittings.{DesignerTally}
-use Rattle.mp_desk.specs.meeting.Seats.{working}
+use Rattle.mp_version.proofs.PrefixLemmas.{prefix_self, prefix_trans, extends_self, extends_length}
+use Rattle.mp_meeting.specs.Sittings.{DesignerTally}
+use Rattle.mp_meeting.specs.Seats.{working}
 use Rattle.mp_seats.specs.Marks.{Mark, AcceptedAt, RefusedAt, AnsweredAt, Rise, accepted_of, told_of, places_of, AreSigned}
 use Rattle.mp_seats.specs.Replies.{Writing}
 use Rattle.mp_seats.specs.Steps.{Seated}

@@ -11,7 +11,7 @@ use Rattle.mp_streams.specs.Outgoing.{Outgoing, Writes}
 use Rattle.mp_streams.specs.StreamBytes.{AppendsPrefix}
 use Rattle.mp_records.specs.declared.edit.Edit.{Edit}
 use Rattle.mp_text.specs.edit_lines.EditLines.{edit_text, edit_lines}
-use Rattle.mp_desk.specs.declared.edit_keeper.NotKept.{NotKept}
+use Rattle.mp_version.specs.declared.edit_keeper.NotKept.{NotKept}
 use Rattle.mp_seats.specs.journal.Journals.{Journal, HasTaken, Passes, Continues, KeepsEdits}
 
 -- where nothing is held before and behind, what was written is with the sink

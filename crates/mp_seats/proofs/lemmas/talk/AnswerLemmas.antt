@@ -10,7 +10,7 @@ use Rattle.mp_streams.proofs.FlushLemmas.{passed_on, not_passed_on}
 use mathlib.Core.List.{IsPrefix}
 use Rattle.mp_text.specs.lines.Given.{given}
 use Rattle.mp_text.specs.lines.Incoming.{Incoming}
-use Rattle.mp_desk.proofs.PrefixLemmas.{prefix_trans}
+use Rattle.mp_version.proofs.PrefixLemmas.{prefix_trans}
 use Rattle.mp_seats.specs.declared.talk.talk_fault.TalkFault.{TalkFault}
 use Rattle.mp_seats.specs.talk.Answers.{Answering, ForAllAuthors, AreAnswers, PutsAnswer}
 use Rattle.mp_seats.specs.talk.Conversations.{Conversed}

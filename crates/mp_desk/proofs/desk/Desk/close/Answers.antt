@@ -1,6 +1,6 @@
 use Rattle.std.proofs.Common.{◌≡◌, ◌∙◌, rules, arith, All, ap, sym, subst, length, vec_len}
 use Rattle.mp_version.specs.Stories.{Story}
-use Rattle.mp_desk.specs.Extending.{Extends}
+use Rattle.mp_version.specs.Extending.{Extends}
 use Rattle.mp_desk.specs.Holders.{ExtendsEach, Seeing, GoesOn}
 use Rattle.mp_desk.proofs.desk.Desk.close.Goals as goal
 

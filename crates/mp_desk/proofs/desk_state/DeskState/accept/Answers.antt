@@ -3,11 +3,11 @@ use Rattle.std.specs.Arc.{arc_value}
 use mathlib.Core.List.{IsPrefix}
 use Rattle.mp_version.specs.Stories.{Story, one_more}
 use Rattle.mp_version.specs.Steps.{story_after}
-use Rattle.mp_desk.specs.Chronicles.{Shown}
-use Rattle.mp_desk.specs.Extending.{Succeeds}
+use Rattle.mp_version.specs.publication.Chronicles.{Shown}
+use Rattle.mp_version.specs.Extending.{Succeeds}
 use Rattle.mp_desk.specs.Keepers.{Standing}
-use Rattle.mp_desk.proofs.PrefixLemmas.{extends_one_more, succeeds_one_more}
-use Rattle.mp_desk.proofs.ChainLemmas.{prefix_before}
+use Rattle.mp_version.proofs.PrefixLemmas.{extends_one_more, succeeds_one_more}
+use Rattle.mp_version.proofs.lemmas.publication.ChainLemmas.{prefix_before}
 use Rattle.mp_desk.proofs.KeeperLemmas.{on_ok}
 use Rattle.mp_desk.proofs.desk_state.DeskState.accept.Goals as goal
 

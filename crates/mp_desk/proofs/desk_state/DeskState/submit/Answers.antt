@@ -1,7 +1,7 @@
 use Rattle.std.proofs.Common.{◌≡◌, ◌∷◌, ◌++◌, [], ap, ◌∙◌, subst}
 use mathlib.Core.List.{IsPrefix}
 use Rattle.mp_desk.specs.Holders.{Working}
-use Rattle.mp_desk.proofs.PrefixLemmas.{prefix_trans}
+use Rattle.mp_version.proofs.PrefixLemmas.{prefix_trans}
 use Rattle.mp_desk.proofs.KeeperLemmas.{stopped}
 use Rattle.mp_desk.proofs.desk_state.DeskState.submit.Goals as goal
 

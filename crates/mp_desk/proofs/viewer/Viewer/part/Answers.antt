@@ -1,8 +1,8 @@
 use Rattle.std.proofs.Common.{◌≤◌, length, subst, arith}
 use Rattle.std.specs.Arc.{arc_value}
 use Rattle.mp_desk.specs.Holders.{Seeing, GoesOn}
-use Rattle.mp_desk.specs.Chronicles.{Shown, Follows}
-use Rattle.mp_desk.proofs.PrefixLemmas.{extends_length}
+use Rattle.mp_version.specs.publication.Chronicles.{Shown, Follows}
+use Rattle.mp_version.proofs.PrefixLemmas.{extends_length}
 use Rattle.mp_desk.proofs.viewer.Viewer.part.Goals as goal
 
 pub returns-clause-looked : goal.returns-clause-looked

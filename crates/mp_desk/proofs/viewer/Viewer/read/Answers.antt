@@ -2,13 +2,13 @@ use Rattle.std.proofs.Common.{rules, ◌≡◌, ◌≤◌, List, ◌∷◌, leng
 use mathlib.Core.List.{IsPrefix}
 use Rattle.mp_version.specs.Stories.{Story}
 use Rattle.std.specs.Arc.{arc_value}
-use Rattle.mp_desk.specs.Extending.{Extends}
-use Rattle.mp_desk.specs.Chronicles.{Shown, Follows, Signed}
+use Rattle.mp_version.specs.Extending.{Extends}
+use Rattle.mp_version.specs.publication.Chronicles.{Shown, Follows, Signed}
 use Rattle.mp_desk.specs.Holders.{Seeing}
-use Rattle.mp_desk.specs.Knowing.{Known, Has, stories_of}
-use Rattle.mp_desk.proofs.KeepingLemmas.{covers_has}
-use Rattle.mp_desk.proofs.PrefixLemmas.{extends_length}
-use Rattle.mp_desk.proofs.ShowingLemmas.{shown_is}
+use Rattle.mp_version.specs.publication.Knowing.{Known, Has, stories_of}
+use Rattle.mp_version.proofs.lemmas.publication.KeepingLemmas.{covers_has}
+use Rattle.mp_version.proofs.PrefixLemmas.{extends_length}
+use Rattle.mp_version.proofs.lemmas.publication.ShowingLemmas.{shown_is}
 use Rattle.mp_desk.proofs.viewer.Viewer.read.Goals as goal
 
 pub agrees-requires : goal.agrees-requires
@@ -21,7 +21,7 @@ pub begins_with-requires : goal.begins_with-requires
 begins_with-requires g c =
     let p : Shown = c.in_ok-published.published in
     let f : Follows p _ = covers_has p _ _ c.in_ok-published.ensures.0 c.self.invariant.0 in
-    c.self.invariant.3 ∙ sym f.same_book ∙ sym c.into_parts-version.ensures.book ∙ sym (ap (λ (s : Signed). s.book) c.signatures.view_is)
+    c.self.invariant.3 ∙ sym f.same_book ∙ sym c.into_parts-version.ensures.book ∙ sym (ap (λ (s : Signed). s.book) c.into_parts-list.ensures.authors)
 
 pub invariant_of-self-2 : goal.invariant_of-self-2
 invariant_of-self-2 g c =
@@ -33,8 +33,8 @@ invariant_of-self-2 g c =
       subst (λ (k : Known). Has k (record { book = g.L.DeskName.history; story = arc_value c.in_ok-copy.copy })) (sym c.in_ok-published.ensures.1) (inl is),
       c.self.invariant.1,
       c.self.invariant.2,
-      ap (λ (s : Signed). s.book) c.signatures.view_is ∙ c.into_parts-version.ensures.book ∙ f.same_book,
-      ap (λ (s : Signed). length s.authors) c.signatures.view_is ∙ each ∙ ap (λ (z : Shown). length z.story.edits) is,
+      ap (λ (s : Signed). s.book) c.into_parts-list.ensures.authors ∙ c.into_parts-version.ensures.book ∙ f.same_book,
+      ap (λ (s : Signed). length s.authors) c.into_parts-list.ensures.authors ∙ each ∙ ap (λ (z : Shown). length z.story.edits) is,
     )
 
 pub returns-clause-later : goal.returns-clause-later
@@ -65,12 +65,14 @@ returns-clause-authors g c =
     let f : Follows p _ = covers_has p _ _ c.in_ok-published.ensures.0 c.self.invariant.0 in
     let longer = extends_length p.story (arc_value c.self.inside.last) f.extends in
     let each = c.into_parts-version.ensures.each in
-    let seen = ap (λ (s : Signed). length s.authors) c.signatures.view_is in
+    let seen = ap (λ (s : Signed). length s.authors) c.into_parts-list.ensures.authors in
     let before = c.self.invariant.4 in
-    let le : length c.self.inside.signed.authors ≤ length c.signatures.inside.authors.authors = omega (arith, longer, each, seen, before) in (
-      sym c.signatures.invariant,
-      subst (IsPrefix c.args.self.now.signed) (sym c.signatures.invariant)
-          (subst (λ (z : Seeing). IsPrefix z.signed c.signatures.inside.authors.authors) c.self.view_is (c.begins_with.ensures le)),
+    let known = c.into_parts-list.result.1 in
+    let listed = ap (λ (s : Signed). s.authors) c.into_parts-list.ensures.authors ∙ sym c.into_parts-list.ensures.list in
+    let le : length c.self.inside.signed.authors ≤ length known.authors = omega (arith, longer, each, seen, before) in (
+      listed,
+      subst (IsPrefix c.args.self.now.signed) listed
+          (subst (λ (z : Seeing). IsPrefix z.signed known.authors) c.self.view_is (c.begins_with.ensures le)),
     )
 
 pub returns-clause-each : goal.returns-clause-each
@@ -78,4 +80,4 @@ returns-clause-each g c =
     let same : c.in_ok-copy.copy.value ≡ arc_value c.into_parts-version.result.0 = search rules in
     let each = c.into_parts-version.ensures.each in
     let version = c.into_parts-version.ensures.version in
-    ap (λ (s : Signed). length s.authors) c.signatures.view_is ∙ each ∙ ap (λ (s : Story). length s.edits) (sym version ∙ sym same)
+    ap (λ (s : Signed). length s.authors) c.into_parts-list.ensures.authors ∙ each ∙ ap (λ (s : Story). length s.edits) (sym version ∙ sym same)

@@ -1,10 +1,10 @@
 use Rattle.std.proofs.Common.{◌≡◌, ◌+◌, ◌<◌, ◌∷◌, ◌++◌, [], ℕ, List, true, length, map, vec_len, All, sym, ap, subst, length-append, arith}
 use mathlib.Core.List.{IsPrefix}
 use Rattle.mp_version.specs.Stories.{Story}
-use Rattle.mp_desk.specs.Extending.{Extends}
+use Rattle.mp_version.specs.Extending.{Extends}
 use Rattle.mp_desk.specs.Holders.{Seeing, fresh_viewer, IsSigned}
-use Rattle.mp_desk.specs.declared.meeting.tally.Tally.{Tally}
-use Rattle.mp_desk.specs.meeting.Seats.{working, HasAdjourned}
+use Rattle.mp_meeting.specs.declared.tally.Tally.{Tally}
+use Rattle.mp_meeting.specs.Seats.{working, HasAdjourned}
 use Rattle.mp_seats.specs.Replies.{Writing, signed_writing}
 use Rattle.mp_seats.specs.hosting.Guests.{sitter, looker, just_come, just_looking}
 use Rattle.mp_seats.specs.hosting.OwnSeats.{HasTalked}

@@ -2,7 +2,7 @@ use Rattle.std.proofs.Common.{◌≡◌, ◌<◌, [], ℕ, List, Some, length, m
 use Rattle.std.proofs.lemmas.List.{append-nil}
 use Rattle.mp_text.specs.lexing.Lines.{lines_of}
 use Rattle.mp_text.specs.ScriptLines.{line_at}
-use Rattle.mp_desk.proofs.lemmas.meeting.SittingLemmas.{lines_of-none}
+use Rattle.mp_meeting.proofs.SittingLemmas.{lines_of-none}
 use Rattle.mp_seats.specs.journal.Scripts.{IsMadeLine}
 use Rattle.mp_seats.proofs.lemmas.journal.MakingLemmas.{SoFar, one_line}
 use Rattle.mp_seats.proofs.journal.making_again.make_again.Goals as goal

@@ -1,7 +1,7 @@
 use Rattle.std.proofs.Common.{◌≡◌, subst}
 use mathlib.Core.List.{IsPrefix}
 use Rattle.std.specs.Arc.{arc_value}
-use Rattle.mp_desk.specs.Extending.{Extends}
+use Rattle.mp_version.specs.Extending.{Extends}
 use Rattle.mp_seats.specs.Steps.{Seated, with_seen, with_read}
 use Rattle.mp_seats.proofs.StepLemmas.{asked_answered, asked_refused}
 use Rattle.mp_seats.proofs.seat.Seat.put_asked.Goals as goal

@@ -1,5 +1,0 @@
-use Rattle.mp_desk.specs.Knowing.{KeepsRead}
-use Rattle.mp_desk.proofs.showing.show.Given as goal
-
-abbrev pub invariant-loop : goal.invariant-loop
-invariant-loop g l = KeepsRead l.initial.pass l.pass × (goal.iterator-loop g).can_next l.iterator' × (goal.iterator-loop g).is_finite l.iterator'

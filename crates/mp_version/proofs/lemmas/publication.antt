@@ -1,0 +1,4 @@
+pub mod ChainLemmas
+pub mod AddingLemmas
+pub mod KeepingLemmas
+pub mod ShowingLemmas

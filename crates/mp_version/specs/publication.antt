@@ -1,0 +1,2 @@
+pub mod Chronicles
+pub mod Knowing
