@@ -5,6 +5,7 @@ mod activity;
 mod border;
 mod change;
 mod coming;
+mod entered_window;
 mod finishing;
 mod first_activity;
 mod first_simulation;

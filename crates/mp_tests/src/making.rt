@@ -2,7 +2,10 @@
 
 pub mod branches;
 pub mod buffers;
+pub mod groups;
 pub mod meeting;
 pub mod passage_counter;
 pub mod sessions;
+pub mod test_netlist;
 pub mod texts;
+pub mod two_inputs;

@@ -20,7 +20,7 @@ pub(crate) struct Reached {
 /// After so many rounds that found another module the whole netlist is evaluated again.
 const MOST_ROUNDS: u32 = 8;
 
-/// What an edit reaches, if that is at most so many modules and is soon found.
+/// What an edit reaches, if at most so many modules are found beside those that it names, and soon.
 pub(crate) fn find_reached(
     alloc: Global,
     change: &Revision<'_>,

@@ -17,8 +17,19 @@ impl<G: Gate> Gate for RegionGate<'_, G> {
     ghost may = { λ gate m from to. G.may gate.gate.now (slice_index_or gate.modules.now m 0) from to };
 
     fn enter<R: Wait>(&self, rt: &R, module: ModuleId, from: u32, to: u32) {
-        if let Some(number) = self.modules.get(module.0 as usize) {
-            self.gate.enter(rt, ModuleId(*number), from, to);
-        }
+        let number = number_of(self.modules, module);
+        self.gate.enter(rt, number, from, to);
+    }
+}
+
+ghost use Rattle.std.specs.Prelude.{◌≡◌, slice_index_or};
+
+/// The number in the netlist of a module of the region, by these numbers; 0 if it isn't in the region.
+fn number_of(modules: &[u32], module: ModuleId) -> ModuleId
+    ensures { result.0 ≡ slice_index_or modules.now module.0 0 }
+{
+    match modules.get(module.0 as usize) {
+        Some(number) => ModuleId(*number),
+        None => ModuleId(0),
     }
 }

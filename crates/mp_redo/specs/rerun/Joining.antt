@@ -1,6 +1,6 @@
 -- Modules that become active.
-use Rattle.std.specs.Prelude.{◌≡◌, ◌⊎◌, ◌↔◌, ◌==◌, ◌&&◌, ℕ, Bool, false, not, List, Some, IsSome, nat_lt}
-use Rattle.std.specs.List.{Contains}
+use Rattle.std.specs.Prelude.{◌≡◌, ◌⊎◌, ◌↔◌, ◌==◌, ◌&&◌, ℕ, ◌<◌, Bool, false, not, List, Some, IsSome, nat_lt}
+use Rattle.std.specs.List.{AllPairs, Contains}
 use Rattle.mp_records.specs.declared.ids.ModuleId.{ModuleId}
 use Rattle.mp_records.specs.declared.module_record.ModuleRecord.{ModuleRecord}
 use Rattle.mp_netlist.specs.Circuit.{Circuit, module_at}
@@ -11,12 +11,17 @@ use Rattle.mp_active.specs.compare.Comparing.{wire_of, delay_of, asleep_at}
 use Rattle.mp_active.specs.agreement.Reading.{late}
 use Rattle.mp_redo.specs.declared.rerun.rerun.Rerun.{Rerun}
 
--- they are just the modules that stand, aren't active, and are apart at a time
+-- each of these modules is listed once, by number
+abbrev pub AreByNumber : List ModuleId → Type 0
+AreByNumber ids = AllPairs (λ (a b : ModuleId). a.0 < b.0) ids
+
+-- they are just the modules that stand, aren't active, and are apart at a time, each listed once
 pub record AreJoining (old new : Circuit) (active : ℕ → Bool) (time : ℕ) (joining : List ModuleId) : Type 0 where
   pub stand : (m : ℕ) → Contains joining (record { 0 = m }) → IsSome (module_at new m)
   pub asleep : (m : ℕ) → Contains joining (record { 0 = m }) → active m ≡ false
   pub apart : (m : ℕ) → Contains joining (record { 0 = m }) → IsApart old new m time
   pub all : (m : ℕ) (r : ModuleRecord) → module_at new m ≡ Some r → active m ≡ false → IsApart old new m time → Contains joining (record { 0 = m })
+  pub once : AreByNumber joining
 
 -- no module that sleeps is apart at a time
 abbrev pub NoneIsApart : Circuit → Circuit → (ℕ → Bool) → ℕ → Type 0

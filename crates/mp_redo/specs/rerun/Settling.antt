@@ -44,7 +44,7 @@ pub record HasEnded (old new : Circuit) (run : Outcome) (end : ℕ) (s : Rerun) 
   pub at : IsAtWindow old new run (block_of new.horizon (end - 1)) (end - 1) s
   pub settled : end < new.horizon → IsSettled new run end s
 
--- the units before a time and all up to the next are over; or all are
+-- the units before a time and all up to the next are over, and the window of the next was entered; or all are
 abbrev pub IsAhead : Circuit → Circuit → Outcome → ℕ → Rerun → NextStep → Type 0
-IsAhead old new run time s (Next next) = (time ≤ next) × (next < new.horizon) × (next < s.window_end) × IsUnderWay old new run (next - 1) s
+IsAhead old new run time s (Next next window) = (time ≤ next) × (next < new.horizon) × (next < s.window_end) × (window.end ≡ s.window_end) × IsUnderWay old new run (next - 1) s
 IsAhead old new run time s (Over end) = HasEnded old new run end s

@@ -1,13 +1,12 @@
 //! Modules become active.
 ghost use Rattle.std.specs.Prelude.{◌≡◌};
 
+use crate::rerun::join::JoiningState;
 use crate::rerun::rerun::Rerun;
 use crate::rerun::rerun_context::RerunContext;
 use mp_active::Change;
 use mp_active::agreement::laws::sleepers_agree;
-use mp_depend::{WorkEntry, block_of, enter};
 use mp_model::built;
-use mp_modules::Memory;
 use mp_netlist::{ModuleId, ModuleRecord};
 use mp_phase::Gate;
 use std::alloc::AllocError;
@@ -25,6 +24,7 @@ impl Rerun {
     ghost use Rattle.mp_active.specs.excerpt.Numberings.{Numbering};
     ghost use Rattle.mp_redo.specs.rerun.Entering.{AllWork};
     ghost use Rattle.mp_redo.specs.rerun.Joining.{HaveJoined};
+    ghost use Rattle.mp_redo.specs.rerun.Joins.{IsFor};
     ghost use Rattle.mp_redo.specs.rerun.Reruns.{IsChange, IsRerunBy, IsRerunAt, active_of};
     ghost use Rattle.mp_redo.specs.rerun.Returning.{HasReturned, IsToldAwake};
     ghost use Rattle.mp_redo.specs.rerun.Waking.{HasWoken, HaveWoken};
@@ -111,15 +111,8 @@ impl Rerun {
         ensures woken { OnOk result (HasWoken id.0 self.old self.new) }
         ensures joined { OnOk result (self.new.activity.joined.items ≡ self.old.activity.joined.items ++ id ∷ []) }
     {
-        let block = block_of(change.new.horizon(), time);
-        let entry = WorkEntry {
-            module: id,
-            from: block,
-            to: self.window_end,
-        };
-        enter(context.rt, context.gate, entry);
-        let memory = self.joining_state(context.alloc, change, id, found, time)?;
-        self.activate(change, id, found, &memory, time)
+        let state = self.joining_state(context, change, id, found, time)?;
+        self.activate(change, id, found, &state, time)
     }
 
     /// Activates as many modules as the crew shares out: their states are found first, as tasks.
@@ -155,13 +148,13 @@ impl Rerun {
         Ok(())
     }
 
-    /// A module becomes active before the unit of a time, in its state of the old run. Up to then it has slept.
+    /// A module becomes active before the unit of a time, in its state of the old run. Up to then it has slept. It has passed the gate for its entry.
     fn activate(
         &mut self,
         change: &Change<'_>,
         id: ModuleId,
         found: &ModuleRecord,
-        memory: &Memory,
+        state: &JoiningState,
         time: u32,
     ) -> Result<(), AllocError>
         requires change { IsChange change.now }
@@ -169,7 +162,8 @@ impl Rerun {
         requires below { time < change.now.new.now.horizon }
         requires stands { module_at change.now.new.now id.0 ≡ Some found.now }
         requires asleep { active_of self.old id.0 ≡ false }
-        requires state { memory.now ≡ state_before change.now.old.now id.0 found.now time }
+        requires entry { IsFor id (block_of change.now.new.now.horizon time) self.old.window_end state.now.entry }
+        requires state { state.now.memory ≡ state_before change.now.old.now id.0 found.now time }
         requires is { (latest : ℕ) × IsRerunAt change.now.old.now change.now.new.now change.now.run.now latest (time - 1) self.old }
         ensures is { OnOk result ((latest : ℕ) → IsRerunAt change.now.old.now change.now.new.now change.now.run.now latest (time - 1) self.old →
             IsRerunAt change.now.old.now change.now.new.now change.now.run.now latest (time - 1) self.new) }
@@ -179,7 +173,7 @@ impl Rerun {
         sleepers_agree();
         let part = built(change.new, found);
         self.turn_ports_on(change, id, found, time - 1)?;
-        self.seat(change, id, found, &part, memory)?;
+        self.seat(change, id, found, &part, &state.memory)?;
         self.put_outputs(change, id, found, time - 1)?;
         self.tell_awake(change, id, found, time - 1)?;
         Ok(())

@@ -1,11 +1,13 @@
-//! A module that becomes active within a block, as a task.
+//! A module that becomes active within a block, as a task, and the state in which it does.
 
 ghost use Rattle.std.specs.Prelude.{◌<◌, ◌≤◌, vec_len};
 ghost use Rattle.mp_modules.specs.declared.memory.TheConstants.{MOST_INPUTS};
 
+use mp_depend::{WorkEntry, enter, old_state};
 use mp_model::{InPiece, respond};
 use mp_modules::{AnyModule, MOST_INPUTS, Memory};
 use mp_netlist::ModuleId;
+use mp_partition::Run;
 use mp_phase::{Gate, Work};
 use std::alloc::{AllocError, Global};
 use std::sync::Wait;
@@ -25,17 +27,30 @@ pub(crate) struct Join {
     pub ghost ports: { vec_len inputs ≤ MOST_INPUTS },
 }
 
+/// The state in which a module becomes active, and its entry of the work. The module has passed the gate for the entry, and has come to the state from
+/// the entry's beginning on: only this file makes such a state, since the entry is private to it.
+#[derive(Drop)]
+pub(crate) struct JoiningState {
+    entry: WorkEntry,
+    pub memory: Memory,
+}
+
 impl Work for Join {
     ghost use Rattle.mp_model.specs.response.Pieces.{levels_at};
-    ghost use Rattle.mp_redo.specs.rerun.Joins.{ComesTo, IsOnly};
+    ghost use Rattle.mp_redo.specs.rerun.Joins.{HasCome, IsOnly};
 
-    type Done = Memory;
+    type Done = JoiningState;
 
-    ghost gives = { λ join memory. ComesTo join.part (levels_at join.inputs.items) join.memory join.from join.to memory };
+    ghost gives = { λ join state. HasCome join.«module» join.part (levels_at join.inputs.items) join.memory join.from join.to join.window_end state.entry state.memory };
 
     ghost enters = { λ join. IsOnly join.«module».0 join.from join.window_end };
 
-    fn work<R: Wait, G: Gate>(self, rt: &R, alloc: Global, gate: &G) -> Result<Memory, AllocError> {
+    fn work<R: Wait, G: Gate>(
+        self,
+        rt: &R,
+        alloc: Global,
+        gate: &G,
+    ) -> Result<JoiningState, AllocError> {
         gate.enter(rt, self.module, self.from, self.window_end);
         let piece = respond(
             alloc,
@@ -45,6 +60,35 @@ impl Work for Join {
             self.from,
             self.to,
         )?;
-        Ok(piece.memory)
+        Ok(JoiningState {
+            entry: WorkEntry {
+                module: self.module,
+                from: self.from,
+                to: self.window_end,
+            },
+            memory: piece.memory,
+        })
+    }
+}
+
+impl JoiningState {
+    ghost use Rattle.std.specs.Prelude.{◌≡◌};
+    ghost use Rattle.mp_netlist.specs.Circuit.{Circuit};
+    ghost use Rattle.mp_netlist.specs.Slots.{slot_at};
+    ghost use Rattle.mp_phase.specs.Allowed.{IsAllowed};
+    ghost use Rattle.mp_depend.specs.recording.Overlays.{state_in};
+    ghost use Rattle.mp_depend.specs.work.Work.{IsEntry};
+
+    /// The state that the old run kept for the beginning of an entry of the work. The module of the entry passes the gate, which allows it to.
+    pub(crate) fn of_kept<R: Wait, G: Gate>(rt: &R, gate: &G, run: &Run, entry: WorkEntry) -> Self
+        requires { (old : Circuit) × (new : Circuit) × IsAllowed (IsEntry old new) (G.may gate.now) × IsEntry old new entry.«module».0 entry.from entry.to }
+        ensures entry { result.entry ≡ entry }
+        ensures memory { result.memory ≡ state_in (slot_at run.now.kept entry.«module».0) entry.from }
+    {
+        enter(rt, gate, entry);
+        JoiningState {
+            entry,
+            memory: old_state(run, entry.module, entry.from),
+        }
     }
 }

@@ -2,6 +2,7 @@
 ghost use Rattle.std.specs.Prelude.{◌≡◌, ◌↔◌};
 ghost use Rattle.std.specs.List.{Contains};
 ghost use Rattle.mp_records.specs.declared.ids.ModuleId.{ModuleId as Id};
+ghost use Rattle.mp_redo.specs.rerun.Joining.{AreByNumber};
 
 use crate::rerun::coming::coming_changes;
 use crate::rerun::following::list_due;
@@ -101,7 +102,8 @@ impl Rerun {
 
 /// Each of the listed modules stays listed once, by number.
 fn list_once(ids: &mut Vec<ModuleId>)
-    ensures { (id : Id) → Contains ids.new.items id ↔ Contains ids.old.items id }
+    ensures same { (id : Id) → Contains ids.new.items id ↔ Contains ids.old.items id }
+    ensures once { AreByNumber ids.new.items }
 {
     ids.sort_unstable_by_key(|id| id.0);
     ids.dedup();

@@ -50,8 +50,8 @@ fn run_again<R: Threads + Wait + Sync, G: Gate + Sync>(
     ensures work_spans { IfOk result (λ both. AreWorkSpans change.now.old.now change.now.new.now both.1.items) }
 {
     let mut rerun = Rerun::begin(context.alloc, change)?;
-    rerun.enter_window(context.rt, context.gate, change, 0);
-    let Ok(end) = rerun.pass_all(context, change) else {
+    let entered = rerun.enter_window(context.rt, context.gate, change, 0);
+    let Ok(end) = rerun.pass_all(context, change, entered) else {
         drop(rerun);
         return Err(AllocError);
     };

@@ -1,43 +1,79 @@
-//! The state in which a module becomes active whose inputs have mostly rested.
+//! The state in which a module becomes active, whose inputs have mostly rested.
 ghost use Rattle.std.specs.Prelude.{◌≡◌};
 
-use crate::rerun::old_state::old_state_before;
+use crate::rerun::join::JoiningState;
 use crate::rerun::rerun::Rerun;
+use crate::rerun::rerun_context::RerunContext;
+use crate::rerun::tasks::task_of;
 use mp_active::{Change, rests_near};
-use mp_depend::{block_of, old_state};
-use mp_model::built;
-use mp_modules::Memory;
+use mp_depend::{WorkEntry, block_of};
 use mp_netlist::{Input, ModuleId, ModuleRecord};
 use mp_partition::Run;
-use std::alloc::{AllocError, Global};
+use mp_phase::{Gate, Work};
+use std::alloc::AllocError;
+use std::sync::Wait;
 
 impl Rerun {
-    ghost use Rattle.std.specs.Prelude.{◌≡◌, ◌<◌, ◌≤◌, All, IsTrue, IfOk};
-    ghost use Rattle.mp_partition.specs.runs.Checkpoints.{state_before};
+    ghost use Rattle.std.specs.Prelude.{◌≡◌, ◌<◌, ◌≤◌, true, false, All, IsTrue, IfOk};
+    ghost use Rattle.mp_phase.specs.Allowed.{IsAllowed};
     ghost use Rattle.mp_depend.specs.work.Revisions.{IsKept};
+    ghost use Rattle.mp_depend.specs.work.Work.{block_of, IsEntry};
     ghost use Rattle.mp_redo.specs.rerun.Reruns.{IsChange};
     ghost use Rattle.mp_redo.specs.rerun.Resting.{HasRested};
+    ghost use Rattle.mp_redo.specs.rerun.Tasks.{IsJoiningState};
 
-    /// The state of a module before the unit of a time in the old run: that at its block's begin if its inputs have rested since then.
-    pub(crate) fn joining_state(
+    /// The state of a module before the unit of a time in the old run. It passes the gate for all from its block's begin to the end of the window, and
+    /// answers once more from that begin on, if its inputs haven't rested since then.
+    pub(crate) fn joining_state<R: Wait, G: Gate>(
         &self,
-        alloc: Global,
+        context: &RerunContext<'_, R, G>,
         change: &Change<'_>,
         id: ModuleId,
         found: &ModuleRecord,
         time: u32,
-    ) -> Result<Memory, AllocError>
+    ) -> Result<JoiningState, AllocError>
+        requires allowed { IsAllowed (IsEntry change.now.old.now change.now.new.now) (G.may context.now.gate.now) }
         requires change { IsChange change.now }
         requires kept { IsKept change.now.old.now change.now.new.now id.0 found.now }
         requires below { time < change.now.new.now.horizon }
-        ensures { IfOk result (λ memory. memory ≡ state_before change.now.old.now id.0 found.now time) }
+        requires works { IsEntry change.now.old.now change.now.new.now id.0 (block_of change.now.new.now.horizon time) self.now.window_end }
+        ensures { IfOk result (IsJoiningState change.now.old.now time (block_of change.now.new.now.horizon time) self.now.window_end id) }
     {
         let block = block_of(change.new.horizon(), time);
-        if block > 0 && self.have_rested(change, id, found.inputs.as_slice(), block, time) {
-            return Ok(old_state(change.run, id, block));
+        if self.is_in_kept_state(change, id, found, block, time) {
+            let entry = WorkEntry {
+                module: id,
+                from: block,
+                to: self.window_end,
+            };
+            return Ok(JoiningState::of_kept(context.rt, context.gate, change.run, entry));
         }
-        let part = built(change.new, found);
-        old_state_before(alloc, change, id, found, &part, time)
+        let join = task_of(context.alloc, change, id, time, self.window_end)?;
+        join.work(context.rt, context.alloc, context.gate)
+    }
+
+    /// Whether a module is known to be in the state of its block's begin before the unit of a time in the old run: the block begins with the unit, or
+    /// the module's inputs have rested since then.
+    fn is_in_kept_state(
+        &self,
+        change: &Change<'_>,
+        id: ModuleId,
+        found: &ModuleRecord,
+        block: u32,
+        time: u32,
+    ) -> bool
+        requires { block ≤ time }
+        ensures some { result ≡ true → block < time → 0 < block }
+        ensures rested { result ≡ true → block < time → All (HasRested change.now.run.now block time) found.now.inputs }
+        ensures below { result ≡ false → block < time }
+    {
+        if block == time {
+            return true;
+        }
+        if block == 0 {
+            return false;
+        }
+        self.have_rested(change, id, found.inputs.as_slice(), block, time)
     }
 
     /// Whether what was at a module's inputs in the old run stays as it was right before a time up to before another.

@@ -9,13 +9,12 @@ ghost use Rattle.mp_redo.specs.rerun.Reruns.{IsChange};
 ghost use Rattle.mp_redo.specs.rerun.Tasks.{AreKept, IsDone, IsTaskOf};
 ghost use Rattle.mp_records.specs.declared.module_record.ModuleRecord.{ModuleRecord as Part};
 
-use crate::rerun::join::Join;
+use crate::rerun::join::{Join, JoiningState};
 use crate::rerun::old_state::old_pieces;
 use crate::rerun::rerun_context::RerunContext;
 use mp_active::Change;
 use mp_depend::{block_of, old_state};
 use mp_model::built;
-use mp_modules::Memory;
 use mp_netlist::ModuleId;
 use mp_phase::{Gate, run_here};
 use std::alloc::{AllocError, Global};
@@ -23,7 +22,7 @@ use std::sync::Wait;
 use std::thread::Threads;
 
 /// The task of a module: what it did in the old run from its block's begin to before a time.
-fn task_of(
+pub(crate) fn task_of(
     alloc: Global,
     change: &Change<'_>,
     id: ModuleId,
@@ -35,7 +34,7 @@ fn task_of(
     requires below { time < change.now.new.now.horizon }
     requires within { block_of change.now.new.now.horizon time < time }
     requires works { IsEntry change.now.old.now change.now.new.now id.0 (block_of change.now.new.now.horizon time) window_end }
-    ensures is { IfOk result (λ join. IsTaskOf change.now.old.now time id join) }
+    ensures is { IfOk result (IsTaskOf change.now.old.now time (block_of change.now.new.now.horizon time) window_end id) }
     ensures works { IfOk result (λ join. IsEntry change.now.old.now change.now.new.now join.«module».0 join.from join.window_end) }
 {
     let Some(found) = change.new.module(id) else {
@@ -67,7 +66,7 @@ pub(crate) fn tasks_of(
     requires below { time < change.now.new.now.horizon }
     requires within { block_of change.now.new.now.horizon time < time }
     requires work { AllWork change.now.old.now change.now.new.now (block_of change.now.new.now.horizon time) window_end joining.now }
-    ensures are { IfOk result (λ tasks. AreDone (IsTaskOf change.now.old.now time) joining.now tasks.items) }
+    ensures are { IfOk result (λ tasks. AreDone (IsTaskOf change.now.old.now time (block_of change.now.new.now.horizon time) window_end) joining.now tasks.items) }
     ensures work { IfOk result (λ tasks. AllTasksWork change.now.old.now change.now.new.now tasks.items) }
 {
     let mut tasks = Vec::with_capacity(alloc, joining.len())?;
@@ -81,7 +80,7 @@ pub(crate) fn tasks_of(
 pub(crate) fn states_by<R: Threads + Wait + Sync, G: Gate + Sync>(
     context: &RerunContext<'_, R, G>,
     tasks: Vec<Join>,
-) -> Result<Vec<Memory>, AllocError>
+) -> Result<Vec<JoiningState>, AllocError>
     requires allowed { AreAllowed Enters (G.may context.now.gate.now) tasks.items }
     ensures { IfOk result (λ states. AreDone IsDone tasks.items states.items) }
 {

@@ -1,6 +1,7 @@
 //! A unit of a netlist that is evaluated again.
 ghost use Rattle.std.specs.Prelude.{◌≡◌};
 
+use crate::rerun::entered_window::EnteredWindow;
 use crate::rerun::rerun::Rerun;
 use crate::rerun::rerun_context::RerunContext;
 use mp_active::Change;
@@ -26,24 +27,26 @@ impl Rerun {
         context: &RerunContext<'_, R, G>,
         change: &Change<'_>,
         time: u32,
+        entered: EnteredWindow,
     ) -> Result<(), AllocError>
         requires allowed { IsAllowed (IsEntry change.now.old.now change.now.new.now) (G.may context.now.gate.now) }
         requires change { IsChange change.now }
         requires some { 0 < time }
         requires below { time < change.now.new.now.horizon }
         requires within { time < self.old.window_end }
+        requires entered { time < entered.end }
         requires before { IsUnderWay change.now.old.now change.now.new.now change.now.run.now (time - 1) self.old }
         ensures end { OnOk result (self.new.window_end ≡ self.old.window_end) }
         ensures after { OnOk result (IsUnderWay change.now.old.now change.now.new.now change.now.run.now time self.new) }
     {
         if self.is_quiet(change, time) {
-            self.pass_quiet(change, time)?;
+            self.pass_quiet(change, time, entered)?;
             return Ok(());
         }
         self.find_joining(change, time)?;
         self.activate_all(context, change, time)?;
         self.set_wires(change, time)?;
-        self.run_unit(time)?;
+        self.run_unit(time, entered)?;
         Ok(())
     }
 
@@ -85,23 +88,30 @@ impl Rerun {
     }
 
     /// Goes through the unit of a time in which nothing is set, and no module joins.
-    fn pass_quiet(&mut self, change: &Change<'_>, time: u32) -> Result<(), AllocError>
+    fn pass_quiet(
+        &mut self,
+        change: &Change<'_>,
+        time: u32,
+        entered: EnteredWindow,
+    ) -> Result<(), AllocError>
         requires change { IsChange change.now }
         requires some { 0 < time }
         requires below { time < change.now.new.now.horizon }
         requires within { time < self.old.window_end }
+        requires entered { time < entered.end }
         requires quiet { IsQuiet time self.old }
         requires before { IsUnderWay change.now.old.now change.now.new.now change.now.run.now (time - 1) self.old }
         ensures end { OnOk result (self.new.window_end ≡ self.old.window_end) }
         ensures after { OnOk result (IsUnderWay change.now.old.now change.now.new.now change.now.run.now time self.new) }
     {
         self.set_nothing(change, time);
-        self.run_unit(time)?;
+        self.run_unit(time, entered)?;
         Ok(())
     }
 
-    /// What is set changes in the unit of a time, and active modules answer.
-    fn run_unit(&mut self, time: u32) -> Result<(), AllocError>
+    /// What is set changes in the unit of a time, and active modules answer. The unit's window has to have been entered.
+    fn run_unit(&mut self, time: u32, _entered: EnteredWindow) -> Result<(), AllocError>
+        requires entered { time < _entered.end }
         requires fit { CanPass self.old.set.bits.items self.old.set.levels.items time self.old.simulation }
         requires low { time < 2 ^ 32 - 1 }
         ensures kept { OnOk result (self.new ≡ record self.old { simulation = self.new.simulation }) }

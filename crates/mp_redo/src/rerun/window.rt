@@ -1,11 +1,12 @@
 //! A netlist that is evaluated again goes from window to window.
 ghost use Rattle.std.specs.Prelude.{◌≡◌};
 
+use crate::rerun::entered_window::EnteredWindow;
 use crate::rerun::next_step::NextStep;
 use crate::rerun::rerun::Rerun;
 use crate::rerun::rerun_context::RerunContext;
 use mp_active::Change;
-use mp_depend::{WorkEntry, block_of, enter, window_end};
+use mp_depend::{block_of, window_end};
 use mp_netlist::checkpoint_units;
 use mp_phase::Gate;
 use std::alloc::{AllocError, Global};
@@ -14,32 +15,36 @@ use std::thread::Threads;
 
 impl Rerun {
     ghost use Rattle.std.specs.Prelude.{◌≡◌, ◌-◌, ◌<◌, ◌≤◌, IfOk, OnOk};
-    ghost use Rattle.mp_depend.specs.recording.Live.{AreAtWork};
     ghost use Rattle.mp_phase.specs.Allowed.{IsAllowed};
-    ghost use Rattle.mp_redo.specs.rerun.Reruns.{IsChange, active_of};
+    ghost use Rattle.mp_redo.specs.rerun.Reruns.{IsChange};
     ghost use Rattle.mp_redo.specs.rerun.Settling.{HasEnded, IsAhead};
     ghost use Rattle.mp_redo.specs.rerun.Windows.{IsUnderWay, IsAtWindow};
-    ghost use Rattle.mp_depend.specs.work.Work.{block_of, window_of, IsEntry, IsWindow};
+    ghost use Rattle.mp_depend.specs.work.Work.{block_of, window_of, IsEntry};
 
-    /// Goes through the units up to an end, which it returns: the horizon, or a time from which on the rest is that of the old run.
+    /// Goes through the units after the first one, whose window was entered, up to an end, which it returns: the horizon, or a time from which on the
+    /// rest is that of the old run.
     pub(crate) fn pass_all<R: Threads + Wait + Sync, G: Gate + Sync>(
         &mut self,
         context: &RerunContext<'_, R, G>,
         change: &Change<'_>,
+        first: EnteredWindow,
     ) -> Result<u32, AllocError>
         requires allowed { IsAllowed (IsEntry change.now.old.now change.now.new.now) (G.may context.now.gate.now) }
         requires change { IsChange change.now }
+        requires entered { first.end ≡ self.old.window_end }
         requires before { IsUnderWay change.now.old.now change.now.new.now change.now.run.now 0 self.old }
         ensures { IfOk result (λ end. HasEnded change.now.old.now change.now.new.now change.now.run.now end self.new) }
     {
         let horizon = change.new.horizon();
+        let mut entered = first;
         let mut time = 1;
         while time < horizon {
-            match self.look_ahead(context.rt, context.gate, change, time)? {
-                NextStep::Next(next) => {
+            match self.look_ahead(context.rt, context.gate, change, time, entered)? {
+                NextStep::Next(next, window) => {
+                    entered = window;
                     time = self.pass_still(change, next);
                     if time < self.window_end {
-                        self.pass_unit(context, change, time)?;
+                        self.pass_unit(context, change, time, entered)?;
                         time += 1;
                     }
                 }
@@ -50,23 +55,26 @@ impl Rerun {
         Ok(horizon)
     }
 
-    /// What follows the units before a time. If a window ends there, the next one begins: then, or, if nothing happens for a while, at a later time.
+    /// What follows the units before a time. If the window that was entered ends there, the next one begins: then, or, if nothing happens for a while, at
+    /// a later time.
     fn look_ahead<R: Wait, G: Gate>(
         &mut self,
         rt: &R,
         gate: &G,
         change: &Change<'_>,
         time: u32,
+        entered: EnteredWindow,
     ) -> Result<NextStep, AllocError>
         requires allowed { IsAllowed (IsEntry change.now.old.now change.now.new.now) (G.may gate.now) }
         requires change { IsChange change.now }
         requires some { 0 < time }
         requires below { time < change.now.new.now.horizon }
+        requires entered { entered.end ≡ self.old.window_end }
         requires before { IsUnderWay change.now.old.now change.now.new.now change.now.run.now (time - 1) self.old }
         ensures { IfOk result (IsAhead change.now.old.now change.now.new.now change.now.run.now time self.new) }
     {
         if time < self.window_end {
-            return Ok(NextStep::Next(time));
+            return Ok(NextStep::Next(time, entered));
         }
         self.end_window(change, time)?;
         let next = self.idle_end(change, time);
@@ -76,8 +84,8 @@ impl Rerun {
         if self.is_settled(change, next) {
             return Ok(NextStep::Over(next));
         }
-        self.begin_window(rt, gate, change, next)?;
-        Ok(NextStep::Next(next))
+        let window = self.begin_window(rt, gate, change, next)?;
+        Ok(NextStep::Next(next, window))
     }
 
     /// The window ends at a time: modules that have joined in it are kept in the recorder.
@@ -108,7 +116,7 @@ impl Rerun {
         gate: &G,
         change: &Change<'_>,
         time: u32,
-    ) -> Result<(), AllocError>
+    ) -> Result<EnteredWindow, AllocError>
         requires allowed { IsAllowed (IsEntry change.now.old.now change.now.new.now) (G.may gate.now) }
         requires change { IsChange change.now }
         requires some { 0 < time }
@@ -116,12 +124,12 @@ impl Rerun {
         requires begins { window_of change.now.new.now time ≡ time }
         requires before { IsAtWindow change.now.old.now change.now.new.now change.now.run.now (block_of change.now.new.now.horizon (time - 1)) (time - 1) self.old }
         ensures end { OnOk result (time < self.new.window_end) }
+        ensures entered { IfOk result (λ window. window.end ≡ self.new.window_end) }
         ensures after { OnOk result (IsUnderWay change.now.old.now change.now.new.now change.now.run.now (time - 1) self.new) }
     {
         self.begin_block(change, time)?;
         self.window_end = window_end(change.least, change.new.horizon(), time);
-        self.enter_window(rt, gate, change, time);
-        Ok(())
+        Ok(self.enter_window(rt, gate, change, time))
     }
 
     /// If a block begins at a time, its border is crossed.
@@ -136,29 +144,5 @@ impl Rerun {
             self.at_checkpoint(change, time)?;
         }
         Ok(())
-    }
-
-    /// The active modules, which are at work before a window that begins at a time, pass the gate for it.
-    pub(crate) fn enter_window<R: Wait, G: Gate>(
-        &self,
-        rt: &R,
-        gate: &G,
-        change: &Change<'_>,
-        time: u32,
-    )
-        requires allowed { IsAllowed (IsEntry change.now.old.now change.now.new.now) (G.may gate.now) }
-        requires window { IsWindow change.now.new.now time self.now.window_end }
-        requires work { AreAtWork change.now.old.now change.now.new.now (block_of change.now.new.now.horizon time) time (active_of self.now) }
-    {
-        for id in self.recorder.live() {
-            if self.is_at_work(change, *id) {
-                let entry = WorkEntry {
-                    module: *id,
-                    from: time,
-                    to: self.window_end,
-                };
-                enter(rt, gate, entry);
-            }
-        }
     }
 }

@@ -70,3 +70,9 @@ wire a15 1 0
 wire y15 1 0
 module b15 BUF : a15 > y15/2
 ";
+
+/// A buffer that hears nothing.
+pub const BUFFER: &str = "wire a 1 0
+wire y 1 0
+module b BUF : a > y/3
+";

@@ -51,3 +51,19 @@ impl Meeting {
         self.met.load(Ordering::SeqCst) == self.calls
     }
 }
+
+/// A meeting that is lent to a session.
+#[derive(Clone, Copy, Drop)]
+pub struct LentMeeting<'a> {
+    pub meeting: &'a Meeting,
+}
+
+impl Gate for LentMeeting<'_> {
+    ghost use Rattle.std.specs.Prelude.{true};
+
+    ghost may = { λ gate m from to. true };
+
+    fn enter<R: Wait>(&self, rt: &R, module: ModuleId, from: u32, to: u32) {
+        self.meeting.enter(rt, module, from, to);
+    }
+}

@@ -4,6 +4,7 @@ ghost use Rattle.mp_depend.specs.work.Revisions.{IsRevision};
 
 use super::changing::changed;
 use crate::making::buffers::{FOUR_BUFFERS, TWO_BUFFERS};
+use crate::making::groups::{BOTH_GROUPS, TWO_GROUPS};
 use crate::making::meeting::Meeting;
 use crate::making::texts::netlist;
 use mp_engine::{Crew, OpenGate, evaluate_here};
@@ -25,6 +26,9 @@ enum Way {
     Parts,
 }
 
+/// The first wire of a netlist rises.
+const RISE: &str = "stim a 2=1";
+
 /// Evaluates a netlist again after a change.
 fn redone<R: Threads + Wait + Sync>(
     context: &RerunContext<'_, R, Meeting>,
@@ -43,27 +47,29 @@ fn redone<R: Threads + Wait + Sync>(
     Ok(())
 }
 
-/// Evaluates the netlist again after its first wire rises.
-fn redone_at_rise<R: Threads + Wait + Sync>(
+/// Evaluates the netlist again after the change that a line states.
+fn redone_after<R: Threads + Wait + Sync>(
     context: &RerunContext<'_, R, Meeting>,
     way: Way,
     old: &Netlist,
+    change: &str,
 ) -> Result<(), Fail> {
     let run = evaluate_here(context.rt, context.alloc, old, &OpenGate)?;
-    let new = changed(context.alloc, old, "stim a 2=1")?;
+    let new = changed(context.alloc, old, change)?;
     let ended = redone(context, way, old, &run, &new);
     drop(run);
     drop(new);
     Ok(ended?)
 }
 
-/// As many modules as there are threads join at the time at which their wire rises, and all see each other.
+/// As many modules as there are threads pass the gate for a span from time 0, and all see each other.
 fn assert_meeting(
     rt: &(impl Abort + Threads + Wait + Sync),
     alloc: Global,
     count: u32,
     way: Way,
     statements: &str,
+    change: &str,
 ) -> Result<(), Fail> {
     let crew = Crew::new(count, 1)?;
     let gate = Meeting::of(u64::from(count), 0);
@@ -74,7 +80,7 @@ fn assert_meeting(
         gate: &gate,
     };
     let old = netlist(alloc, 20, statements)?;
-    let ended = redone_at_rise(&context, way, &old);
+    let ended = redone_after(&context, way, &old, change);
     drop(old);
     ended?;
     assert!(rt; gate.is_held());
@@ -83,15 +89,16 @@ fn assert_meeting(
 
 #[test]
 fn two_joining_modules_meet(rt: HostRuntime) -> Result<(), Fail> {
-    assert_meeting(&rt, rt.alloc(), 2, Way::Whole, TWO_BUFFERS)
+    assert_meeting(&rt, rt.alloc(), 2, Way::Whole, TWO_BUFFERS, RISE)
 }
 
 #[test]
 fn four_joining_modules_meet(rt: HostRuntime) -> Result<(), Fail> {
-    assert_meeting(&rt, rt.alloc(), 4, Way::Whole, FOUR_BUFFERS)
+    assert_meeting(&rt, rt.alloc(), 4, Way::Whole, FOUR_BUFFERS, RISE)
 }
 
+/// A module of each part works from time 0 on. One thread alone would let them pass the gate one after the other.
 #[test]
 fn modules_of_two_parts_meet(rt: HostRuntime) -> Result<(), Fail> {
-    assert_meeting(&rt, rt.alloc(), 2, Way::Parts, TWO_BUFFERS)
+    assert_meeting(&rt, rt.alloc(), 2, Way::Parts, TWO_GROUPS, BOTH_GROUPS)
 }

@@ -1,4 +1,5 @@
 //! A module that is reached late works from the last checkpoint not after that time.
+use crate::making::buffers::BUFFER;
 use crate::making::texts::netlist;
 use mp_depend::block_of;
 use mp_engine::{OpenGate, evaluate_here};
@@ -6,12 +7,6 @@ use mp_netlist::ModuleId;
 use mp_partition::Run;
 use std::process::Abort;
 use std::test::Fail;
-
-/// A buffer that hears nothing.
-const BUFFER: &str = "wire a 1 0
-wire y 1 0
-module b BUF : a > y/3
-";
 
 /// The last checkpoint not after a time, at which the run has the buffer's state.
 fn assert_last(rt: &impl Abort, run: &Run, time: u32, checkpoint: u32) {

@@ -54,7 +54,7 @@ joining_work old new ok run from time s some is below joining joins m has = reco
     ]
 
 -- a task whose module works may let it enter where that may
-task_allowed : (old new : Circuit) (may : ℕ → ℕ → ℕ → Bool) → IsAllowed (IsEntry old new) may → (task : Join) → IsEntry old new task.«module».0 task.from task.window_end → IsAllowed (Enters task) may
+pub task_allowed : (old new : Circuit) (may : ℕ → ℕ → ℕ → Bool) → IsAllowed (IsEntry old new) may → (task : Join) → IsEntry old new task.«module».0 task.from task.window_end → IsAllowed (Enters task) may
 task_allowed old new may allowed task works m from to enters =
     subst (λ k. may k from to ≡ true) (sym enters.0)
     (subst (λ k. may task.«module».0 k to ≡ true) (sym enters.1)

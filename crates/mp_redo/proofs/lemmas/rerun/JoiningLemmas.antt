@@ -18,7 +18,7 @@ use Rattle.mp_active.specs.excerpt.Numberings.{Numbering}
 use Rattle.mp_active.specs.compare.Comparing.{wire_of, delay_of, asleep_at}
 use Rattle.mp_redo.specs.declared.rerun.rerun.Rerun.{Rerun}
 use Rattle.mp_depend.specs.Hearing.{AreHearing}
-use Rattle.mp_redo.specs.rerun.Joining.{AreJoining, AreDeparting, departs}
+use Rattle.mp_redo.specs.rerun.Joining.{AreByNumber, AreJoining, AreDeparting, departs}
 use Rattle.mp_redo.specs.rerun.Reruns.{IsRerunBy, active_of}
 use Rattle.mp_active.proofs.lemmas.excerpt.TestLemmas.{bit_true}
 use Rattle.mp_redo.proofs.lemmas.rerun.NumberLemmas.{asleep_within}
@@ -137,10 +137,11 @@ module _ (old n : Circuit) (run : Outcome) (numbering : Numbering) (since : ℕ 
             omega (arith, low, count)
 
     pub all_join : (joining : List ModuleId) → AreHearing (active_of s) (entries_from s.simulation.bits.simulator.fanout s.comparison.departing.items) joining →
-        AreJoining old n (active_of s) (t + 1) joining
-    all_join joining hearing = record {
+        AreByNumber joining → AreJoining old n (active_of s) (t + 1) joining
+    all_join joining hearing once = record {
       stand = λ m listed_in. let one = found m ((hearing m).0 listed_in).1 in some_is (module_at n m) one.part one.at;
       asleep = λ m listed_in. ((hearing m).0 listed_in).0;
       apart = λ m listed_in. let one = found m ((hearing m).0 listed_in).1 in apart_there m one.part one.number one.at ((hearing m).0 listed_in).0 one.reads one.listed_there;
       all = λ m r at asleep apart. (hearing m).1 (asleep, departs_there m r at asleep apart);
+      once = once;
     }

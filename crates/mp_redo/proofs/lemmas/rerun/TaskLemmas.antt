@@ -2,18 +2,17 @@
 use Rattle.std.proofs.Common.{◌≡◌, ℕ, ◌+◌, ◌-◌, ◌<◌, List, [], ◌∷◌, ◌++◌, Some, IsSome, false, length, take, slice_index_or, sym, subst}
 use Rattle.std.specs.List.{Contains}
 use Rattle.std.proofs.lemmas.List.{take_more}
-use Rattle.mp_modules.specs.declared.memory.Memory.{Memory}
 use Rattle.mp_records.specs.declared.ids.ModuleId.{ModuleId}
 use Rattle.mp_records.specs.declared.module_record.ModuleRecord.{ModuleRecord}
 use Rattle.mp_netlist.specs.Circuit.{Circuit, module_at}
-use Rattle.mp_partition.specs.runs.Checkpoints.{state_before}
 use Rattle.mp_partition.specs.runs.Outcomes.{Outcome}
 use Rattle.mp_phase.specs.Phase.{AreDone}
 use Rattle.mp_phase.proofs.PhaseLemmas.{are_done-push, are_done-at}
 use Rattle.mp_active.specs.excerpt.Numberings.{Numbering}
+use Rattle.mp_redo.specs.declared.rerun.join.JoiningState.{JoiningState}
 use Rattle.mp_redo.specs.declared.rerun.rerun.Rerun.{Rerun}
 use Rattle.mp_redo.specs.rerun.Reruns.{active_of, IsFollowed}
-use Rattle.mp_redo.specs.rerun.Tasks.{AreKept, IsOldState}
+use Rattle.mp_redo.specs.rerun.Tasks.{AreKept, IsJoiningState}
 use Rattle.mp_redo.proofs.lemmas.rerun.WakingLemmas.{is_kept}
 use Rattle.mp_redo.proofs.lemmas.rerun.StandingLemmas.{standing}
 
@@ -42,8 +41,8 @@ are_kept old new run numbering since time s some is ids stand asleep m has =
     (one.0, is_kept old new run numbering since time m one.0 s some is one.1 (asleep m has))
 
 -- the state at a module's place is its own
-pub state_at : (old : Circuit) (time : ℕ) (ids : List ModuleId) (states : List Memory) (k : ℕ) (id : ModuleId) (memory : Memory) (r : ModuleRecord) → AreDone (IsOldState old time) ids states → k < length ids
-    → slice_index_or ids k id ≡ id → slice_index_or states k memory ≡ memory → module_at old id.0 ≡ Some r → memory ≡ state_before old id.0 r time
-state_at old time ids states k id memory r are low named is at =
-    let here : IsOldState old time (slice_index_or ids k id) (slice_index_or states k memory) = are_done-at (IsOldState old time) ids states k id memory are low in
-    (subst (λ (x : Memory). IsOldState old time id x) is (subst (λ (i : ModuleId). IsOldState old time i (slice_index_or states k memory)) named here)) r at
+pub state_at : (old : Circuit) (time from to : ℕ) (ids : List ModuleId) (states : List JoiningState) (k : ℕ) (id : ModuleId) (state : JoiningState) → AreDone (IsJoiningState old time from to) ids states → k < length ids
+    → slice_index_or ids k id ≡ id → slice_index_or states k state ≡ state → IsJoiningState old time from to id state
+state_at old time from to ids states k id state are low named is =
+    let here : IsJoiningState old time from to (slice_index_or ids k id) (slice_index_or states k state) = are_done-at (IsJoiningState old time from to) ids states k id state are low in
+    subst (λ (x : JoiningState). IsJoiningState old time from to id x) is (subst (λ (i : ModuleId). IsJoiningState old time from to i (slice_index_or states k state)) named here)

@@ -24,7 +24,7 @@ returns-clause-works c =
     subst (λ b. IsEntry change.old.now new c.args.id.0 b c.args.window_end) (sym here) c.requires.works
 
 pub returns-clause-is : goal.returns-clause-is
-returns-clause-is c = λ memory done r at.
+returns-clause-is c = λ state done.
     let change = c.args.change.now in
     let old = change.old.now in
     let new = change.new.now in
@@ -37,8 +37,6 @@ returns-clause-is c = λ memory done r at.
     let known : Some kept.0 ≡ Some found = sym kept.1.after ∙ sym c.in-Some.ensures.value in
     let same : kept.0 ≡ found = cc in
     let both : IsKept old new id found = subst (IsKept old new id) same kept.1 in
-    let named : Some found ≡ Some r = sym both.before ∙ at in
-    let one : found ≡ r = cc in
     let b = c.block_of-block.result in
     let here : c.block_of-block.result ≡ block_of new.horizon time = c.block_of-block.ensures ∙ ap (λ h. block_of h time) c.horizon.ensures.value in
     let block : c.block_of-block.result ≡ block_of old.horizon time = here ∙ ap (λ h. block_of h time) is.revision.horizon in
@@ -47,10 +45,17 @@ returns-clause-is c = λ memory done r at.
     let alike = is.revision.horizon in
     let low : c.args.time < old.horizon = omega (arith, below, alike) in
     let rise : c.block_of-block.result < c.args.time = subst (λ k. k < c.args.time) (sym here) within in
-    subst (λ (s : ModuleRecord). memory ≡ state_before old id s time) one
-    (done.2
-    ∙ answered_state old is.old_form run is.run id b time found c.built.result (levels_at c.in_ok-inputs.inputs.items) c.old_state.result done.0 both.before
+    let comes = done.comes in
+    let come : state.memory ≡ state_before old id found time = comes.2
+    ∙ answered_state old is.old_form run is.run id b time found c.built.result (levels_at c.in_ok-inputs.inputs.items) c.old_state.result comes.0 both.before
     (c.built.ensures ∙ sym (built_same old new is.old_form is.form is.revision id found both)) rise (omega (arith, low))
     (c.old_state.ensures ∙ block_state old is.old_form run is.run id b time found both.before block low)
     (λ t from before. c.in_ok-inputs.ensures.levels t from before ∙ ap (map (λ (i : Input). level_of (old_wave run i.wire.0) (t - i.delay))) c.as_slice.ensures)
-    done.1)
+    comes.1 in
+    record {
+      entry_is = record { own = done.entry_is.own; begins = done.entry_is.begins ∙ here; ends = done.entry_is.ends };
+      old_state = λ r at.
+          let named : Some found ≡ Some r = sym both.before ∙ at in
+          let one : found ≡ r = cc in
+          subst (λ (s : ModuleRecord). state.memory ≡ state_before old id s time) one come;
+    }

@@ -37,7 +37,7 @@ put_outputs-requires-clause-can c =
     let asleep : active_of c.turn_ports_on.new.self c.args.id.0 ≡ false = ap (λ (x : Rerun). active_of x c.args.id.0) c.in_ok-turn_ports_on.ensures.turned.kept ∙ c.requires.asleep in (
       at.numbering,
       at.since,
-      can_return c.args.change.now.old.now c.args.change.now.new.now c.args.change.now.run.now c.requires.change.form at.numbering at.since (c.args.time - 1) c.args.id.0 c.args.found.now c.args.memory.now
+      can_return c.args.change.now.old.now c.args.change.now.new.now c.args.change.now.run.now c.requires.change.form at.numbering at.since (c.args.time - 1) c.args.id.0 c.args.found.now c.args.state.now.memory
           c.turn_ports_on.new.self c.seat.new.self at.is c.requires.stands asleep c.in_ok-seat.ensures,
     )
 
@@ -54,11 +54,11 @@ tell_awake-requires-clause-returned c =
     let stays = c.requires.state
     ∙ memory_is c.args.change.now.old.now c.args.change.now.new.now c.args.change.now.run.now was.numbering was.since c.args.time c.args.id.0 c.args.found.now c.args.self.now c.requires.some was.is.followed c.requires.stands c.requires.asleep
     c.sleepers_agree.ensures.agree are.old_form are.form are.revision in
-    let can = can_return c.args.change.now.old.now c.args.change.now.new.now c.args.change.now.run.now are.form at.numbering at.since (c.args.time - 1) c.args.id.0 c.args.found.now c.args.memory.now
+    let can = can_return c.args.change.now.old.now c.args.change.now.new.now c.args.change.now.run.now are.form at.numbering at.since (c.args.time - 1) c.args.id.0 c.args.found.now c.args.state.now.memory
     c.turn_ports_on.new.self c.seat.new.self at.is c.requires.stands asleep c.in_ok-seat.ensures in (
       at.numbering,
       at.since,
-      returned c.args.change.now.old.now c.args.change.now.new.now c.args.change.now.run.now are.form at.numbering at.since (c.args.time - 1) c.args.id.0 c.args.found.now c.args.memory.now
+      returned c.args.change.now.old.now c.args.change.now.new.now c.args.change.now.run.now are.form at.numbering at.since (c.args.time - 1) c.args.id.0 c.args.found.now c.args.state.now.memory
           c.turn_ports_on.new.self c.seat.new.self c.put_outputs.new.self at.is lit c.requires.stands asleep stays c.in_ok-seat.ensures (c.in_ok-put_outputs.ensures at.numbering at.since can),
     )
 
@@ -72,13 +72,13 @@ returns-clause-is c = λ latest before.
     let stays = c.requires.state
     ∙ memory_is c.args.change.now.old.now c.args.change.now.new.now c.args.change.now.run.now was.numbering was.since c.args.time c.args.id.0 c.args.found.now c.args.self.now c.requires.some was.is.followed c.requires.stands c.requires.asleep
     c.sleepers_agree.ensures.agree are.old_form are.form are.revision in
-    let can = can_return c.args.change.now.old.now c.args.change.now.new.now c.args.change.now.run.now are.form at.numbering at.since (c.args.time - 1) c.args.id.0 c.args.found.now c.args.memory.now
+    let can = can_return c.args.change.now.old.now c.args.change.now.new.now c.args.change.now.run.now are.form at.numbering at.since (c.args.time - 1) c.args.id.0 c.args.found.now c.args.state.now.memory
     c.turn_ports_on.new.self c.seat.new.self at.is c.requires.stands asleep c.in_ok-seat.ensures in
     record {
       numbering = at.numbering;
       since = at.since;
       is = c.in_ok-tell_awake.ensures.is at.numbering at.since
-          (returned c.args.change.now.old.now c.args.change.now.new.now c.args.change.now.run.now are.form at.numbering at.since (c.args.time - 1) c.args.id.0 c.args.found.now c.args.memory.now
+          (returned c.args.change.now.old.now c.args.change.now.new.now c.args.change.now.run.now are.form at.numbering at.since (c.args.time - 1) c.args.id.0 c.args.found.now c.args.state.now.memory
           c.turn_ports_on.new.self c.seat.new.self c.put_outputs.new.self at.is lit c.requires.stands asleep stays c.in_ok-seat.ensures (c.in_ok-put_outputs.ensures at.numbering at.since can));
       early = at.early;
     }
@@ -87,17 +87,17 @@ pub returns-clause-woken : goal.returns-clause-woken
 returns-clause-woken c =
     let at = c.in_ok-turn_ports_on.ensures.is c.requires.is.0 c.requires.is.1 in
     let asleep : active_of c.turn_ports_on.new.self c.args.id.0 ≡ false = ap (λ (x : Rerun). active_of x c.args.id.0) c.in_ok-turn_ports_on.ensures.turned.kept ∙ c.requires.asleep in
-    let can = can_return c.args.change.now.old.now c.args.change.now.new.now c.args.change.now.run.now c.requires.change.form at.numbering at.since (c.args.time - 1) c.args.id.0 c.args.found.now c.args.memory.now
+    let can = can_return c.args.change.now.old.now c.args.change.now.new.now c.args.change.now.run.now c.requires.change.form at.numbering at.since (c.args.time - 1) c.args.id.0 c.args.found.now c.args.state.now.memory
     c.turn_ports_on.new.self c.seat.new.self at.is c.requires.stands asleep c.in_ok-seat.ensures in
-    has_woken c.args.change.now.new.now c.args.found.now c.args.memory.now c.args.id.0 at.numbering (c.args.time - 1) _ c.args.self.now c.turn_ports_on.new.self c.seat.new.self c.put_outputs.new.self c.tell_awake.new.self
+    has_woken c.args.change.now.new.now c.args.found.now c.args.state.now.memory c.args.id.0 at.numbering (c.args.time - 1) _ c.args.self.now c.turn_ports_on.new.self c.seat.new.self c.put_outputs.new.self c.tell_awake.new.self
     c.in_ok-turn_ports_on.ensures.turned c.in_ok-seat.ensures (c.in_ok-put_outputs.ensures at.numbering at.since can) c.in_ok-tell_awake.ensures.told
 
 pub returns-clause-joined : goal.returns-clause-joined
 returns-clause-joined c =
     let at = c.in_ok-turn_ports_on.ensures.is c.requires.is.0 c.requires.is.1 in
     let asleep : active_of c.turn_ports_on.new.self c.args.id.0 ≡ false = ap (λ (x : Rerun). active_of x c.args.id.0) c.in_ok-turn_ports_on.ensures.turned.kept ∙ c.requires.asleep in
-    let can = can_return c.args.change.now.old.now c.args.change.now.new.now c.args.change.now.run.now c.requires.change.form at.numbering at.since (c.args.time - 1) c.args.id.0 c.args.found.now c.args.memory.now
+    let can = can_return c.args.change.now.old.now c.args.change.now.new.now c.args.change.now.run.now c.requires.change.form at.numbering at.since (c.args.time - 1) c.args.id.0 c.args.found.now c.args.state.now.memory
     c.turn_ports_on.new.self c.seat.new.self at.is c.requires.stands asleep c.in_ok-seat.ensures in
     c.in_ok-tell_awake.ensures.joined
-    ∙ ap (λ (xs : List ModuleId). xs ++ c.args.id ∷ []) (joined_before c.args.change.now.new.now c.args.found.now c.args.memory.now c.args.id.0 at.numbering (c.args.time - 1) _ c.args.self.now c.turn_ports_on.new.self c.seat.new.self c.put_outputs.new.self
+    ∙ ap (λ (xs : List ModuleId). xs ++ c.args.id ∷ []) (joined_before c.args.change.now.new.now c.args.found.now c.args.state.now.memory c.args.id.0 at.numbering (c.args.time - 1) _ c.args.self.now c.turn_ports_on.new.self c.seat.new.self c.put_outputs.new.self
     c.tell_awake.new.self c.in_ok-turn_ports_on.ensures.turned c.in_ok-seat.ensures (c.in_ok-put_outputs.ensures at.numbering at.since can) c.in_ok-tell_awake.ensures.told)

@@ -1,14 +1,16 @@
-use Rattle.std.proofs.Common.{rules, ◌≡◌, ◌+◌, ◌-◌, ◌<◌, ◌≤◌, true, false, List, Option, Some, None, IsSome, length, slice_index_or, ap, sym, subst, ◌∙◌, arith}
+use Rattle.std.proofs.Common.{rules, ◌≡◌, ℕ, ◌+◌, ◌-◌, ◌<◌, ◌≤◌, true, false, List, Option, Some, None, IsSome, length, slice_index_or, ap, sym, subst, ◌∙◌, arith}
 use Rattle.std.specs.List.{Contains}
 use Rattle.std.proofs.lemmas.List.{get_or_default}
 use Rattle.mp_records.specs.declared.ids.ModuleId.{ModuleId}
 use Rattle.mp_records.specs.declared.module_record.ModuleRecord.{ModuleRecord}
 use Rattle.mp_netlist.specs.Circuit.{module_at}
 use Rattle.mp_model.proofs.SlotLemmas.{slot_within}
+use Rattle.mp_depend.specs.work.Work.{block_of}
 use Rattle.mp_redo.specs.declared.rerun.rerun.Rerun.{Rerun}
+use Rattle.mp_redo.specs.rerun.Joins.{IsFor}
 use Rattle.mp_redo.specs.rerun.Reruns.{active_of, IsRerunAt}
 use Rattle.mp_phase.proofs.PhaseLemmas.{are_done-length}
-use Rattle.mp_redo.specs.rerun.Tasks.{IsOldState}
+use Rattle.mp_redo.specs.rerun.Tasks.{IsJoiningState}
 use Rattle.mp_redo.proofs.lemmas.rerun.TaskLemmas.{are_kept, state_at}
 use Rattle.mp_redo.proofs.lemmas.rerun.WakingLemmas.{is_kept, HaveWokenUpTo, passed_over, one_woken, have_become, have_joined}
 use Rattle.mp_redo.proofs.rerun.rerun.Rerun.activate_many.Goals as goal
@@ -36,9 +38,28 @@ index-requires-then-not-index g c =
     let s = c.args.self.now in
     let old = c.args.change.now.old.now in
     let so = c.loop-place.invariant.so in
-    let all = are_done-length (IsOldState old c.args.time) s.activity.joining.items c.in_ok-states.states.items c.in_ok-states.ensures in
+    let all = are_done-length (IsJoiningState old c.args.time (block_of c.args.change.now.new.now.horizon c.args.time) s.window_end) s.activity.joining.items c.in_ok-states.states.items c.in_ok-states.ensures in
     let low : c.loop-place.place < length s.activity.joining.items = search rules in
     omega (arith, all, low)
+
+pub activate-requires-clause-entry : goal.activate-requires-clause-entry
+activate-requires-clause-entry g c =
+    let old = c.args.change.now.old.now in
+    let new = c.args.change.now.new.now in
+    let s = c.args.self.now in
+    let joining = s.activity.joining.items in
+    let k = c.loop-place.place in
+    let l = c.loop-place.self in
+    let so = c.loop-place.invariant.so in
+    let id = c.index-id.result.now in
+    let from = block_of new.horizon c.args.time in
+    let low : k < length joining = search rules in
+    let same : l.activity.joining.items ≡ joining = ap (λ (x : Rerun). x.activity.joining.items) so.woken.kept in
+    let named : slice_index_or joining k id ≡ id = sym (c.index-id.ensures ∙ ap (λ (xs : List ModuleId). slice_index_or xs k id) same) in
+    let end : l.window_end ≡ s.window_end = ap (λ (x : Rerun). x.window_end) so.woken.kept in
+    let state = c.index-then-not-index.result.now in
+    let is = state_at old c.args.time from s.window_end joining c.in_ok-states.states.items k id state c.in_ok-states.ensures low named (sym c.index-then-not-index.ensures) in
+    subst (λ (e : ℕ). IsFor id from e state.entry) (sym end) is.entry_is
 
 pub activate-requires-clause-state : goal.activate-requires-clause-state
 activate-requires-clause-state g c =
@@ -61,7 +82,9 @@ activate-requires-clause-state g c =
     let off : c.index.result.now ≡ false = search rules in
     let asleep : active_of l id.0 ≡ false = get_or_default l.activity.active.items id.0 false c.index.result.now marked ∙ sym c.index.ensures ∙ off in
     let kept = is_kept old new c.args.change.now.run.now now.numbering now.since c.args.time id.0 c.in-Some.found.now l c.requires.some now.is.followed at asleep in
-    state_at old c.args.time joining c.in_ok-states.states.items k id c.index-then-not-index.result.now c.in-Some.found.now c.in_ok-states.ensures low named (sym c.index-then-not-index.ensures) kept.before
+    let state = c.index-then-not-index.result.now in
+    let is = state_at old c.args.time (block_of new.horizon c.args.time) s.window_end joining c.in_ok-states.states.items k id state c.in_ok-states.ensures low named (sym c.index-then-not-index.ensures) in
+    is.old_state c.in-Some.found.now kept.before
 
 pub activate-requires-clause-is : goal.activate-requires-clause-is
 activate-requires-clause-is g c = (c.requires.is.0, c.loop-place.invariant.is c.requires.is.0 c.requires.is.1)

@@ -1,5 +1,3 @@
-use Rattle.std.proofs.Common.{◌≡◌, ap, sym, subst, ◌∙◌}
-use Rattle.mp_depend.specs.work.Work.{block_of, IsEntry}
 use Rattle.mp_redo.proofs.lemmas.rerun.WakingLemmas.{is_kept}
 use Rattle.mp_redo.proofs.rerun.rerun.Rerun.activate_one.Goals as goal
 
@@ -8,9 +6,12 @@ joining_state-requires-clause-kept g c =
     let at = c.requires.is.1 in
     is_kept c.args.change.now.old.now c.args.change.now.new.now c.args.change.now.run.now at.numbering at.since c.args.time c.args.id.0 c.args.found.now c.args.self.now c.requires.some at.is.followed c.requires.stands c.requires.asleep
 
-pub enter-requires : goal.enter-requires
-enter-requires g c =
-    let new = c.args.change.now.new.now in
-    let time = c.args.time in
-    let value : c.block_of-block.result ≡ block_of new.horizon time = c.block_of-block.ensures ∙ ap (λ h. block_of h time) c.horizon.ensures.value in
-    (c.args.change.now.old.now, new, c.requires.allowed, subst (λ b. IsEntry c.args.change.now.old.now new c.args.id.0 b c.args.self.now.window_end) (sym value) c.requires.works)
+pub activate-requires-clause-entry : goal.activate-requires-clause-entry
+activate-requires-clause-entry g c = c.in_ok-state.ensures.entry_is
+
+pub activate-requires-clause-state : goal.activate-requires-clause-state
+activate-requires-clause-state g c =
+    let at = c.requires.is.1 in
+    let kept = is_kept c.args.change.now.old.now c.args.change.now.new.now c.args.change.now.run.now at.numbering at.since c.args.time c.args.id.0 c.args.found.now c.args.self.now c.requires.some at.is.followed c.requires.stands
+    c.requires.asleep in
+    c.in_ok-state.ensures.old_state c.args.found.now kept.before

@@ -42,4 +42,4 @@ returns-clause-joining c =
     (c.in_ok-find_departing.ensures.is c.requires.is.0 c.requires.is.1) back in
     subst (λ u. AreJoining old new (active_of c.args.self.now) u joining) next
     (let same = subst (λ (r : Rerun). AreJoining old new (active_of r) (c.args.time - 1 + 1) joining) c.in_ok-find_departing.ensures.looked are in
-    record { stand = same.stand; asleep = same.asleep; apart = same.apart; all = same.all })
+    record { stand = same.stand; asleep = same.asleep; apart = same.apart; all = same.all; once = same.once })

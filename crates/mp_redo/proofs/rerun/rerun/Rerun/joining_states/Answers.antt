@@ -4,7 +4,7 @@ use Rattle.mp_records.specs.declared.ids.ModuleId.{ModuleId}
 use Rattle.mp_phase.specs.Phase.{AreDone}
 use Rattle.mp_depend.specs.work.Work.{block_of}
 use Rattle.mp_redo.specs.rerun.Entering.{AllWork}
-use Rattle.mp_redo.specs.rerun.Tasks.{IsDone, IsOldState, IsTaskOf}
+use Rattle.mp_redo.specs.rerun.Tasks.{IsDone, IsJoiningState, IsTaskOf}
 use Rattle.mp_redo.proofs.lemmas.rerun.EnteringLemmas.{tasks_allowed}
 use Rattle.mp_redo.proofs.lemmas.rerun.TaskLemmas.{done_through}
 use Rattle.mp_redo.proofs.rerun.rerun.Rerun.joining_states.Goals as goal
@@ -24,7 +24,10 @@ pub returns : goal.returns
 returns g c =
     let old = c.args.change.now.old.now in
     let time = c.args.time in
+    let from = block_of c.args.change.now.new.now.horizon time in
+    let to = c.args.self.now.window_end in
     let joining = c.args.self.now.activity.joining.items in
     let tasks = c.in_ok-tasks.tasks.items in
-    let are = subst (λ (ids : List ModuleId). AreDone (IsTaskOf old time) ids tasks) c.as_slice-joining.ensures.value c.in_ok-tasks.ensures.are in
-    IfOk-weaker c.states_by.result _ _ (λ states done. done_through (IsTaskOf old time) IsDone (IsOldState old time) (λ id task memory gives is. gives memory is) joining tasks states.items are done) c.states_by.ensures
+    let are = subst (λ (ids : List ModuleId). AreDone (IsTaskOf old time from to) ids tasks) c.as_slice-joining.ensures.value c.in_ok-tasks.ensures.are in
+    IfOk-weaker c.states_by.result _ _
+    (λ states done. done_through (IsTaskOf old time from to) IsDone (IsJoiningState old time from to) (λ id task state gives is. gives state is) joining tasks states.items are done) c.states_by.ensures

@@ -100,4 +100,4 @@ returns-clause-joining c old n run latest t old_ok ok revised at are =
     subst (λ (xs : List ℕ). AreHearing (active_of s) (entries_from s.simulation.bits.simulator.fanout xs) joining)
     (take_all c.loop-place.place s.comparison.departing.items (omega (arith, end, over))) c.loop-place.invariant.hearing in
     all_join old n run at.numbering at.since t s at.is are old_ok ok revised c.readers_agree.ensures.quiet c.list_once.new.ids.items
-    (same_hearing (active_of s) entries joining c.list_once.new.ids.items c.list_once.ensures hearing)
+    (same_hearing (active_of s) entries joining c.list_once.new.ids.items c.list_once.ensures.same hearing) c.list_once.ensures.once
