@@ -89,7 +89,8 @@ def started(*words, before=lambda: None):
     """A run of the script with pipes, which an interrupt reaches. What comes before it is done in its process."""
 
     def begin():
-        signal.signal(signal.SIGINT, signal.SIG_DFL)
+        for stop in (signal.SIGINT, signal.SIGHUP):  # (`nohup` has hangups ignored)
+            signal.signal(stop, signal.SIG_DFL)
         before()
 
     how = {"stdin": subprocess.PIPE, "stdout": subprocess.PIPE, "stderr": subprocess.PIPE}

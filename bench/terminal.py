@@ -29,7 +29,8 @@ class Terminal:
 
         def take_terminal():
             fcntl.ioctl(0, termios.TIOCSCTTY, 0)
-            signal.signal(signal.SIGINT, signal.SIG_DFL)
+            for stop in (signal.SIGINT, signal.SIGHUP):  # (`nohup` has hangups ignored)
+                signal.signal(stop, signal.SIG_DFL)
 
         env = {**(os.environ if env is None else env), "TERM": term}
         self.run = subprocess.Popen(words, stdin=theirs, stdout=theirs, stderr=theirs, env=env, start_new_session=True, preexec_fn=take_terminal)

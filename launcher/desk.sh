@@ -182,7 +182,8 @@ serve_desk() {
     trap end_input HUP
     trap interrupt INT TERM
     { exec {given}<&0; } 2>/dev/null || exec {given}</dev/null
-    exec {lines}< <(exec "${leash[@]}" cat <&"$given" {lock}<&-)
+    # (an interrupt of the terminal reaches the script alone, so that it has told of the end before the program comes to it)
+    exec {lines}< <(trap '' INT && exec "${leash[@]}" cat <&"$given" {lock}<&-)
     feeder=$!
     if [ -n "$ended" ]; then stop_feeding; fi
     become_program "$@" <&"$lines" &
