@@ -33,10 +33,10 @@ BYTES_OF_A_CHECK = 5_000_000_000  # which no check by one job takes
 
 # the seconds of a processor that the proof of each crate takes by docs/PERFORMANCE.md. A line of one takes five times as long as of another
 SECONDS = {
-    "mp_streams": 91, "mp_wave": 168, "mp_modules": 116, "mp_records": 232, "mp_netlist": 466, "mp_model": 237, "mp_kernel": 271, "mp_partition": 316,
-    "mp_simulation": 359, "mp_version": 172, "mp_phase": 242, "mp_text": 587, "mp_engine": 553, "mp_depend": 164, "mp_active": 308, "mp_redo": 859,
-    "mp_near": 286, "mp_session": 169, "mp_desk": 674, "mp_report": 142, "mp_questions": 418, "mp_check": 369, "mp_steady": 229, "mp_picture": 508,
-    "mp_exports": 416, "mp_seats": 676, "mp_commands": 505, "mp_request": 428, "mpwb": 536,
+    "mp_streams": 115, "mp_wave": 171, "mp_modules": 165, "mp_records": 315, "mp_netlist": 569, "mp_model": 250, "mp_kernel": 292, "mp_partition": 323,
+    "mp_simulation": 482, "mp_version": 440, "mp_phase": 262, "mp_text": 711, "mp_engine": 732, "mp_depend": 219, "mp_active": 335, "mp_redo": 1173,
+    "mp_near": 471, "mp_session": 240, "mp_desk": 350, "mp_meeting": 419, "mp_report": 154, "mp_questions": 466, "mp_holding": 85, "mp_check": 525,
+    "mp_steady": 357, "mp_picture": 685, "mp_exports": 579, "mp_seats": 1006, "mp_commands": 831, "mp_request": 584, "mpwb": 813,
 }  # fmt: skip
 SECONDS_OF_A_LINE = 0.17  # of other crates
 
