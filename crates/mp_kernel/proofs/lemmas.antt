@@ -1,4 +1,3 @@
-pub mod automata
 pub mod events
 pub mod timers
 pub mod datapath

@@ -1,24 +1,19 @@
 //! Modules with data, the levels that they read, and the levels to come.
 
 mod data_module;
-mod data_part;
 mod data_ports;
 mod firing;
-pub mod laws;
 mod level_change;
 mod level_scheduling;
 mod levels;
-mod output_levels;
 
 use crate::events::{Slot, Wheel};
 pub use data_module::DataModule;
-pub use data_part::DataPart;
 pub use data_ports::DataPorts;
 pub use firing::fire_data_modules;
 pub use level_change::LevelChange;
 pub use level_scheduling::{schedule_level_copies, schedule_level_if};
 pub use levels::{set_levels, toggle_levels};
-pub use output_levels::OutputLevels;
 
 /// The levels that wires with data get in one unit.
 pub type LevelSlot = Slot<LevelChange>;

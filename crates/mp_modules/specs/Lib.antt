@@ -18,3 +18,4 @@ pub mod Histories
 pub mod EventLaws
 pub mod Laws
 pub mod storage
+pub mod automata

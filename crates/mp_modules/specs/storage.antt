@@ -7,3 +7,4 @@ pub mod QuietFunctions
 pub mod AnyModules
 pub mod QuietAny
 pub mod Arithmetic
+pub mod DataParts

@@ -1,10 +1,12 @@
 //! The kinds of event module: what each kind holds, how an input event changes it, and which rules its environment can break.
 //!
 //! `CoreModule` has the kinds that join or steer events, a file for each kind with more than a table of answers. The folder `storage` has REG, the kinds
-//! that hold nothing (`Function`), and `AnyModule`, which is any kind at all. Begin with `kind.rt` and `event_module.rt`.
+//! that hold nothing (`Function`), and `AnyModule`, which is any kind at all. `automata` has the modules of width 1 as automata, which answer all events
+//! of a unit from one table. Begin with `kind.rt` and `event_module.rt`.
 #![tactic(auto)]
 
 mod arbiter;
+pub mod automata;
 mod call;
 mod core_module;
 mod event_module;
@@ -23,6 +25,10 @@ mod shape;
 pub mod storage;
 mod toggle;
 
+pub use automata::{
+    Automaton, AutomatonState, Events, Phase, PortLevels, Reaction, Toggles, Transition,
+    TransitionTable, event_bit,
+};
 pub use core_module::CoreModule;
 pub use event_module::EventModule;
 pub use finding_code::FindingCode;
@@ -34,4 +40,4 @@ pub use level::fits_width;
 pub use memory::{Client, MOST_INPUTS, MOST_OUTPUTS, Memory, Waiting, level_at};
 pub use rendezvous::Rendezvous;
 pub use shape::Shape;
-pub use storage::{AnyModule, FunctionModule, Reg};
+pub use storage::{AnyModule, DataPart, FunctionModule, OutputLevels, Reg};

@@ -3,7 +3,7 @@ use Rattle.std.specs.Prelude.{◌≡◌, ◌≢◌, ◌==◌, ℕ, ◌+◌, ◌-
 use Rattle.std.specs.List.{count_by}
 use Rattle.mp_wave.specs.Waveform.{Waveform, IsWaveform, level_of}
 use Rattle.mp_wave.specs.Faults.{pair_at}
-use Rattle.mp_kernel.specs.automata.Codes.{bit}
+use Rattle.mp_modules.specs.automata.Codes.{bit}
 use Rattle.mp_kernel.specs.events.Adding.{listed}
 use Rattle.mp_kernel.specs.timers.TimerWheels.{never, time_of, IsTimerWheel}
 use Rattle.mp_kernel.specs.declared.datapath.level_change.LevelChange.{LevelChange}

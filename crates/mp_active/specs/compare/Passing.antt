@@ -1,6 +1,6 @@
 -- The unit of a time begins: numbers come up, and wires are set.
 use Rattle.std.specs.Prelude.{◌≡◌, ◌==◌, ℕ, ◌+◌, ◌-◌, Bool, true, false, not, ◌&&◌, ◌||◌, List, [], ◌∷◌, ◌++◌, All, slice_index_or, if◌then◌else◌}
-use Rattle.mp_kernel.specs.automata.Codes.{bit}
+use Rattle.mp_modules.specs.automata.Codes.{bit}
 use Rattle.mp_kernel.specs.events.Adding.{listed}
 use Rattle.mp_kernel.specs.timers.TimerWheels.{time_of}
 use Rattle.mp_kernel.specs.declared.datapath.level_change.LevelChange.{LevelChange}

@@ -4,7 +4,7 @@ use Rattle.mp_records.specs.declared.module_record.ModuleRecord.{ModuleRecord}
 use Rattle.mp_records.specs.Outputs.{delay_of}
 use Rattle.mp_netlist.specs.Circuit.{Circuit, IsCircuit, Drives, module_at, module_width}
 use Rattle.mp_netlist.specs.Drivers.{driver}
-use Rattle.mp_kernel.specs.automata.Codes.{bit}
+use Rattle.mp_modules.specs.automata.Codes.{bit}
 use Rattle.mp_kernel.specs.events.Adding.{state_at, listed}
 use Rattle.mp_kernel.specs.events.Firing.{HaveSlots, ports_at}
 use Rattle.mp_kernel.specs.events.LevelFlips.{levels_at}

@@ -8,9 +8,9 @@ use Rattle.mp_netlist.specs.declared.driver.Driver.TheVariants.{Port}
 use Rattle.mp_netlist.specs.Circuit.{Circuit, IsCircuit, module_at}
 use Rattle.mp_netlist.specs.Drivers.{driver}
 use Rattle.mp_model.specs.Waves.{state}
-use Rattle.mp_kernel.specs.declared.automata.automaton.Automaton.TheVariants.{Sleep}
-use Rattle.mp_kernel.specs.automata.Codes.{no_events}
-use Rattle.mp_kernel.specs.automata.PortLevels.{levels_code}
+use Rattle.mp_modules.specs.declared.automata.automaton.Automaton.TheVariants.{Sleep}
+use Rattle.mp_modules.specs.automata.Codes.{no_events}
+use Rattle.mp_modules.specs.automata.PortLevels.{levels_code}
 use Rattle.mp_kernel.specs.events.Adding.{state_at}
 use Rattle.mp_kernel.specs.events.Toggling.{wave_at}
 use Rattle.mp_kernel.specs.events.Firing.{UnitState, HasSlot, number_of, ports_at}

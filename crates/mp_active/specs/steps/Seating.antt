@@ -2,10 +2,10 @@
 use Rattle.std.specs.Prelude.{◌≡◌, ℕ, ◌++◌, ◌∷◌, [], List, Option, Some, None, length, slice_set}
 use Rattle.mp_modules.specs.declared.memory.Memory.{Memory}
 use Rattle.mp_modules.specs.declared.storage.any_module.AnyModule.{AnyModule}
-use Rattle.mp_kernel.specs.automata.Automata.{automaton_of}
-use Rattle.mp_kernel.specs.automata.Phases.{phase_of}
-use Rattle.mp_kernel.specs.automata.Codes.{state_code, no_events}
-use Rattle.mp_kernel.specs.automata.PortLevels.{levels_code}
+use Rattle.mp_modules.specs.automata.Automata.{automaton_of}
+use Rattle.mp_modules.specs.automata.Phases.{phase_of}
+use Rattle.mp_modules.specs.automata.Codes.{state_code, no_events}
+use Rattle.mp_modules.specs.automata.PortLevels.{levels_code}
 use Rattle.mp_kernel.specs.declared.datapath.data_module.DataModule.{DataModule}
 use Rattle.mp_simulation.specs.declared.units.netlist_simulation.NetlistSimulation.{NetlistSimulation}
 

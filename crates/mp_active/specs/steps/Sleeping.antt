@@ -1,9 +1,9 @@
 -- The places of modules sleep.
 use Rattle.std.specs.Prelude.{◌≡◌, ℕ, ◌<◌, Bool, true, false, None, length, slice_set, ◌||◌, ◌==◌}
-use Rattle.mp_kernel.specs.declared.automata.automaton_state.AutomatonState.{AutomatonState}
-use Rattle.mp_kernel.specs.declared.automata.automaton.Automaton.TheVariants.{Sleep}
-use Rattle.mp_kernel.specs.automata.Codes.{state_code, no_events}
-use Rattle.mp_kernel.specs.automata.Phases.{unserved}
+use Rattle.mp_modules.specs.declared.automata.automaton_state.AutomatonState.{AutomatonState}
+use Rattle.mp_modules.specs.declared.automata.automaton.Automaton.TheVariants.{Sleep}
+use Rattle.mp_modules.specs.automata.Codes.{state_code, no_events}
+use Rattle.mp_modules.specs.automata.Phases.{unserved}
 use Rattle.mp_kernel.specs.events.Adding.{state_at}
 use Rattle.mp_kernel.specs.datapath.DataFiring.{place_at}
 use Rattle.mp_simulation.specs.declared.units.netlist_simulation.NetlistSimulation.{NetlistSimulation}

@@ -11,7 +11,7 @@ use std::alloc::AllocError;
 
 impl Comparison {
     ghost use Rattle.std.specs.Prelude.{◌≡◌, ℕ, ◌+◌, ◌-◌, ◌<◌, ◌^◌, ◌∷◌, ◌++◌, [], OnOk, length, nat_lt, ◌&&◌, if◌then◌else◌};
-    ghost use Rattle.mp_kernel.specs.automata.Codes.{bit};
+    ghost use Rattle.mp_modules.specs.automata.Codes.{bit};
     ghost use Rattle.mp_kernel.specs.timers.TimerWheels.{coming};
     ghost use Rattle.mp_kernel.specs.events.Adding.{listed};
     ghost use Rattle.mp_partition.specs.runs.Outcomes.{Outcome};

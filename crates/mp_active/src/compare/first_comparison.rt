@@ -21,7 +21,7 @@ const SPAN: u32 = 1024;
 impl Comparison {
     ghost use Rattle.std.specs.Prelude.{◌≡◌, ◌==◌, ℕ, ◌+◌, ◌<◌, ◌≤◌, ◌^◌, [], true, not, Some, None, is_some, IfOk, OnOk, length, slice_index_or, ◌&&◌, ◌||◌, if◌then◌else◌};
     ghost use Rattle.mp_netlist.specs.Circuit.{module_at};
-    ghost use Rattle.mp_kernel.specs.automata.Codes.{bit};
+    ghost use Rattle.mp_modules.specs.automata.Codes.{bit};
     ghost use Rattle.mp_partition.specs.runs.Marks.{is_marked};
     ghost use Rattle.mp_partition.specs.runs.Runs.{IsRun};
     ghost use Rattle.mp_active.specs.compare.Comparing.{asleep_at, source_at, wire_of, is_following, is_tracked, HasCursors, AreUnseen, IsListed, IsComplete};

@@ -2,8 +2,8 @@
 ghost use Rattle.std.specs.Prelude.{◌<◌, ◌-◌, ◌^◌, length, IfSome, IfOk};
 ghost use Rattle.mp_active.specs.steps.Seating.{IsBitSeated, HasTakenSeat};
 
-use mp_kernel::{Automaton, AutomatonState, DataModule, Phase, PortLevels};
-use mp_modules::{AnyModule, Memory};
+use mp_kernel::DataModule;
+use mp_modules::{AnyModule, Automaton, AutomatonState, Memory, Phase, PortLevels};
 use mp_simulation::NetlistSimulation;
 use std::alloc::AllocError;
 

@@ -2,7 +2,7 @@
 ghost use Rattle.std.specs.Prelude.{◌<◌, length};
 ghost use Rattle.mp_active.specs.steps.Sleeping.{IsPutToSleep};
 
-use mp_kernel::{Automaton, AutomatonState, Phase};
+use mp_modules::{Automaton, AutomatonState, Phase};
 use mp_simulation::NetlistSimulation;
 
 /// The place of a module sleeps: it does nothing whatever its inputs have.

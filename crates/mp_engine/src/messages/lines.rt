@@ -1,6 +1,6 @@
 //! The lines between all parts of a netlist.
 ghost use Rattle.std.specs.Prelude.{◌≡◌, ℕ, ◌<◌, ◌^◌, true, length, IfOk};
-ghost use Rattle.mp_kernel.specs.automata.Codes.{bit};
+ghost use Rattle.mp_modules.specs.automata.Codes.{bit};
 ghost use Rattle.mp_kernel.specs.events.Adding.{listed};
 ghost use Rattle.mp_partition.specs.runs.Marks.{is_marked};
 ghost use Rattle.mp_partition.specs.regions.Regions.{partition_of};

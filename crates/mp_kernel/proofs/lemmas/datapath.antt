@@ -1,5 +1,4 @@
 pub mod WheelLemmas
 pub mod LevelLemmas
-pub mod PartLemmas
 pub mod FiringLemmas
 pub mod NoDataLemmas

@@ -4,7 +4,7 @@ use Rattle.std.specs.List.{flat_map}
 use Rattle.mp_kernel.specs.events.Adding.{listed}
 use Rattle.mp_kernel.specs.events.Firing.{no_port}
 use Rattle.mp_kernel.specs.declared.datapath.level_change.LevelChange.{LevelChange}
-use Rattle.mp_kernel.specs.declared.datapath.data_part.DataPart.TheVariants.{Reg}
+use Rattle.mp_modules.specs.declared.storage.data_part.DataPart.TheVariants.{Reg}
 use Rattle.mp_kernel.specs.declared.datapath.data_module.DataModule.{DataModule}
 use Rattle.mp_kernel.specs.datapath.DataModules.{stepped, events_of, changes_of}
 

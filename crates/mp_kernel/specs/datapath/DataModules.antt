@@ -1,13 +1,13 @@
 -- A module with data goes on to the next unit.
 use Rattle.std.specs.Prelude.{◌≡◌, ℕ, ◌<◌, not, List, [], ◌∷◌, Option, Some, None, slice_index_or, ◌==◌}
 use Rattle.mp_modules.specs.declared.memory.Memory.{Memory}
-use Rattle.mp_kernel.specs.declared.automata.toggles.Toggles.{Toggles}
+use Rattle.mp_modules.specs.declared.automata.toggles.Toggles.{Toggles}
 use Rattle.mp_kernel.specs.events.Firing.{HasSlot, HaveSlots, fired_at}
 use Rattle.mp_kernel.specs.declared.datapath.level_change.LevelChange.{LevelChange}
-use Rattle.mp_kernel.specs.declared.datapath.output_levels.OutputLevels.{OutputLevels}
+use Rattle.mp_modules.specs.declared.storage.output_levels.OutputLevels.{OutputLevels}
 use Rattle.mp_kernel.specs.declared.datapath.data_module.DataModule.{DataModule}
 use Rattle.mp_kernel.specs.datapath.Levels.{level_at}
-use Rattle.mp_kernel.specs.datapath.DataParts.{next_outputs, memory_with}
+use Rattle.mp_modules.specs.storage.DataParts.{next_outputs, memory_with}
 use Rattle.mp_kernel.specs.datapath.LevelWheels.{entry_if}
 
 -- the number that an input reads, if there is such an input

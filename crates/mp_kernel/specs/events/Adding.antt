@@ -1,7 +1,7 @@
 -- Events are added to modules of width 1: a state within a unit is the state before it and the sum of the bits of its events.
 use Rattle.std.specs.Prelude.{◌≡◌, ℕ, ◌+◌, ◌%◌, ◌<◌, List, All, length, slice_index_or, ◌==◌, if◌then◌else◌}
 use Rattle.std.specs.List.{sum_by, count_by}
-use Rattle.mp_kernel.specs.declared.automata.automaton_state.AutomatonState.{AutomatonState}
+use Rattle.mp_modules.specs.declared.automata.automaton_state.AutomatonState.{AutomatonState}
 use Rattle.mp_kernel.specs.declared.events.fanout_entry.FanoutEntry.{FanoutEntry}
 
 abbrev pub state_at : List AutomatonState → ℕ → ℕ

@@ -1,14 +1,14 @@
 -- Modules of width 1 fire: their states go on, and the wires that they drive are scheduled.
 use Rattle.std.specs.Prelude.{◌≡◌, ◌≢◌, ℕ, ◌+◌, ◌-◌, ◌<◌, ◌≤◌, Bool, List, [], ◌∷◌, ◌++◌, Option, Some, None, length, slice_index_or, ◌==◌, ◌&&◌, if◌then◌else◌}
 use Rattle.std.specs.List.{flat_map, count_by}
-use Rattle.mp_kernel.specs.declared.automata.automaton.Automaton.{Automaton}
-use Rattle.mp_kernel.specs.declared.automata.phase.Phase.{Phase}
-use Rattle.mp_kernel.specs.declared.automata.events.Events.{Events}
-use Rattle.mp_kernel.specs.declared.automata.reaction.Reaction.{Reaction}
-use Rattle.mp_kernel.specs.declared.automata.toggles.Toggles.{Toggles}
-use Rattle.mp_kernel.specs.declared.automata.automaton_state.AutomatonState.{AutomatonState}
-use Rattle.mp_kernel.specs.automata.Reactions.{react}
-use Rattle.mp_kernel.specs.automata.Codes.{state_code, no_events}
+use Rattle.mp_modules.specs.declared.automata.automaton.Automaton.{Automaton}
+use Rattle.mp_modules.specs.declared.automata.phase.Phase.{Phase}
+use Rattle.mp_modules.specs.declared.automata.events.Events.{Events}
+use Rattle.mp_modules.specs.declared.automata.reaction.Reaction.{Reaction}
+use Rattle.mp_modules.specs.declared.automata.toggles.Toggles.{Toggles}
+use Rattle.mp_modules.specs.declared.automata.automaton_state.AutomatonState.{AutomatonState}
+use Rattle.mp_modules.specs.automata.Reactions.{react}
+use Rattle.mp_modules.specs.automata.Codes.{state_code, no_events}
 use Rattle.mp_kernel.specs.declared.events.output_port.OutputPort.{OutputPort}
 use Rattle.mp_kernel.specs.declared.events.output_ports.OutputPorts.{OutputPorts}
 use Rattle.mp_kernel.specs.events.EventWheels.{with_entry}

@@ -1,7 +1,7 @@
 -- The levels at the ports of modules of width 1 where these fire.
 use Rattle.std.specs.Prelude.{◌≡◌, ℕ, ◌<◌, List, length, slice_index_or, bit_xor, ◌==◌, if◌then◌else◌}
-use Rattle.mp_kernel.specs.declared.automata.port_levels.PortLevels.{PortLevels}
-use Rattle.mp_kernel.specs.automata.PortLevels.{ports_code}
+use Rattle.mp_modules.specs.declared.automata.port_levels.PortLevels.{PortLevels}
+use Rattle.mp_modules.specs.automata.PortLevels.{ports_code}
 use Rattle.mp_kernel.specs.events.Adding.{listed}
 use Rattle.mp_kernel.specs.events.Firing.{UnitState, reaction}
 

@@ -1,7 +1,7 @@
 -- Which events the input ports of a module of width 1 have where wires toggle.
 use Rattle.std.specs.Prelude.{◌≡◌, ℕ, ◌+◌, ◌*◌, ◌≤◌, List, [], ◌∷◌, length, ◌==◌, if◌then◌else◌, zero, suc}
-use Rattle.mp_kernel.specs.declared.automata.events.Events.{Events}
-use Rattle.mp_kernel.specs.automata.Codes.{bit, events_code}
+use Rattle.mp_modules.specs.declared.automata.events.Events.{Events}
+use Rattle.mp_modules.specs.automata.Codes.{bit, events_code}
 use Rattle.mp_kernel.specs.declared.events.fanout_entry.FanoutEntry.{FanoutEntry}
 use Rattle.mp_kernel.specs.events.Adding.{events_for, listed}
 use Rattle.mp_kernel.specs.events.Toggling.{row_at, entries_from}

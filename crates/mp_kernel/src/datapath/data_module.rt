@@ -2,10 +2,8 @@
 ghost use Rattle.std.specs.Prelude.{◌≡◌, ℕ, ◌<◌, Some, length};
 ghost use Rattle.mp_kernel.specs.datapath.Levels.{level_at};
 
-use crate::datapath::data_part::DataPart;
 use crate::datapath::data_ports::DataPorts;
-use crate::datapath::output_levels::OutputLevels;
-use mp_modules::{FunctionModule, MOST_INPUTS, Memory};
+use mp_modules::{DataPart, MOST_INPUTS, Memory, OutputLevels};
 
 /// A module with data: its part, the levels of its outputs, the numbers that its inputs read, and what it drives. The rest of its state is the levels
 /// of those numbers.
@@ -20,38 +18,17 @@ pub struct DataModule {
 impl DataModule {
     ghost use Rattle.std.specs.Prelude.{◌≡◌, ℕ, ◌<◌, length};
     ghost use Rattle.mp_kernel.specs.datapath.Levels.{level_at};
-    ghost use Rattle.mp_kernel.specs.datapath.DataModules.{ReadsBelow, input_of, stepped, memory_of};
+    ghost use Rattle.mp_kernel.specs.datapath.DataModules.{ReadsBelow, input_of, inputs_of, stepped, memory_of};
 
-    /// Steps to the next unit, in which numbers have these levels. It reads the inputs of its kind and writes the outputs.
+    /// Steps to the next unit, in which numbers have these levels.
     #[inline(always)]
     pub(crate) fn step(&mut self, levels: &[u64])
         requires { ReadsBelow (length levels.now) self.old }
         ensures { self.new ≡ stepped levels.now self.old }
     {
-        let level = self.input_level(levels, 0);
-        match self.part {
-            DataPart::Reg { .. } => {
-                let capture = self.input_level(levels, 1);
-                let pass = self.input_level(levels, 2);
-                self.outputs.first = latched(self.outputs.first, [level, capture, pass]);
-                self.outputs.second = capture;
-                self.outputs.third = pass;
-            }
-            DataPart::Function {
-                function,
-                width,
-                constant,
-            } => {
-                let part = FunctionModule {
-                    function,
-                    width,
-                    constant,
-                };
-                let second = self.input_level(levels, 1);
-                let third = self.input_level(levels, 2);
-                self.outputs.first = part.value(level, second, third);
-            }
-        }
+        self.outputs = self
+            .part
+            .next_outputs(self.outputs, self.input_levels(levels));
     }
 
     /// The module's state, if numbers have these levels.
@@ -59,18 +36,27 @@ impl DataModule {
         requires { ReadsBelow (length levels.now) self.now }
         ensures { result ≡ memory_of levels.now self.now }
     {
-        let inputs = [
-            self.input_level(levels, 0),
-            self.input_level(levels, 1),
-            self.input_level(levels, 2),
-            self.input_level(levels, 3),
-        ];
+        let inputs = self.input_levels(levels);
         let OutputLevels {
             first,
             second,
             third,
         } = self.outputs;
         Memory::with_outputs(&inputs, [first, second, third])
+    }
+
+    /// The levels at its inputs.
+    #[inline(always)]
+    fn input_levels(&self, levels: &[u64]) -> [u64; MOST_INPUTS]
+        requires { ReadsBelow (length levels.now) self.now }
+        ensures { result ≡ inputs_of levels.now self.now }
+    {
+        [
+            self.input_level(levels, 0),
+            self.input_level(levels, 1),
+            self.input_level(levels, 2),
+            self.input_level(levels, 3),
+        ]
     }
 
     /// The level at an input, 0 if the input reads no number.
@@ -93,19 +79,5 @@ fn level_of(levels: &[u64], number: Option<u32>) -> u64
     match number {
         Some(number) => levels[number as usize],
         None => 0,
-    }
-}
-
-ghost use Rattle.mp_modules.specs.storage.Reg.{latched};
-
-/// The output of a register that held this level, from the levels of its data, its capture and its pass.
-#[inline(always)]
-fn latched(held: u64, levels: [u64; 3]) -> u64
-    ensures { result ≡ latched held levels }
-{
-    if levels[1] == levels[2] {
-        levels[0]
-    } else {
-        held
     }
 }

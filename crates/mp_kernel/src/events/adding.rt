@@ -3,10 +3,10 @@ ghost use Rattle.std.specs.Prelude.{◌≡◌, ◌<◌, ◌∷◌, [], OnOk, All
 ghost use Rattle.mp_kernel.specs.events.Adding.{IsAdding, AreAdded};
 ghost use Rattle.mp_kernel.specs.events.Toggling.{entries_from};
 
-use crate::automata::AutomatonState;
 use crate::events::batches::{batch_end, is_large};
 use crate::events::fanout::Fanout;
 use crate::events::fanout_entry::FanoutEntry;
+use mp_modules::AutomatonState;
 use std::alloc::AllocError;
 
 /// Adds an event of an input that has had none in this unit. With its first event a module becomes due.

@@ -1,16 +1,16 @@
 //! Fires modules of width 1.
 ghost use Rattle.std.specs.Prelude.{◌≡◌, ℕ, ◌<◌, ◌≤◌, OnOk, All, length, slice_set};
-ghost use Rattle.mp_kernel.specs.declared.automata.toggles.Toggles.{Toggles as AnyToggles};
-ghost use Rattle.mp_kernel.specs.automata.Codes.{toggles_code};
+ghost use Rattle.mp_modules.specs.declared.automata.toggles.Toggles.{Toggles as AnyToggles};
+ghost use Rattle.mp_modules.specs.automata.Codes.{toggles_code};
 ghost use Rattle.mp_kernel.specs.events.Adding.{state_at, listed};
 ghost use Rattle.mp_kernel.specs.events.Firing.{UnitState, HasSlot, HaveSlots, scheduled, entry_if, fired_at, ports_at, number_of, next_state, events_of, AreNumbered, HaveFired, fired_by, copied_from, StayElse};
 ghost use Rattle.mp_kernel.specs.events.LevelFlips.{levels_at, flipped, HaveFlipped};
 
-use crate::automata::{AutomatonState, PortLevels, TransitionTable};
 use crate::events::EventWheel;
 use crate::events::batches::{batch_end, is_large};
 use crate::events::output_port::OutputPort;
 use crate::events::output_table::OutputTable;
+use mp_modules::{AutomatonState, PortLevels, TransitionTable};
 use std::alloc::AllocError;
 
 /// If an output toggles, schedules the toggle of its wire after the delay.

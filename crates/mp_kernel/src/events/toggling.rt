@@ -3,10 +3,10 @@ ghost use Rattle.std.specs.Prelude.{◌≡◌, ◌<◌, [], OnOk, All, length};
 ghost use Rattle.mp_kernel.specs.events.Adding.{IsAdding, AreAdded};
 ghost use Rattle.mp_kernel.specs.events.Toggling.{row_at, entries_from, CanToggle, AreToggled};
 
-use crate::automata::AutomatonState;
 use crate::events::adding::add_fanout_events;
 use crate::events::fanout::Fanout;
 use crate::events::wave_table::WaveTable;
+use mp_modules::AutomatonState;
 use std::alloc::AllocError;
 
 /// Toggles these wires at a time, each once, and adds events to the inputs that read them. A module with an event becomes due.

@@ -1,3 +1,4 @@
 pub mod KindLemmas
 pub mod RegLemmas
 pub mod WidthLemmas
+pub mod PartLemmas

@@ -1,6 +1,8 @@
 //! Laws of the definitions.
 
+ghost use Rattle.mp_modules.specs.declared.storage.data_part.DataPart.{DataPart};
 ghost use Rattle.mp_modules.specs.storage.AnyModules.{KeepsKind};
+ghost use Rattle.mp_modules.specs.storage.DataParts.{IsToldByOutputs};
 ghost use Rattle.mp_modules.specs.storage.RegLaws.{ChangesWhileOpen, FollowsWhileOpen};
 ghost use Rattle.mp_modules.specs.storage.Arithmetic.{ComputesModuloWidth};
 
@@ -18,4 +20,9 @@ pub fn register_changes_while_open()
 /// ADDC and SUM add, and SUB subtracts, modulo two to the power of their width. JOIN puts a bit below a number.
 pub fn computes_modulo_width()
     ensures { ComputesModuloWidth }
+{}
+
+/// The outputs of a module with data and the levels at its inputs determine its state.
+pub fn outputs_tell_states()
+    ensures { (part : DataPart) → IsToldByOutputs part }
 {}

@@ -1,7 +1,6 @@
 //! States of modules in four bytes.
 
-use mp_kernel::PortLevels;
-use mp_modules::{Client, Memory, Waiting};
+use mp_modules::{Client, Memory, PortLevels, Waiting};
 use std::marker::Model;
 
 /// The state of a module at whose ports all levels are 0 or 1, in four bytes in place of 64. Contracts see the state.
@@ -14,7 +13,7 @@ pub(crate) struct BitMemory {
 
 impl Model for BitMemory {
     ghost use Rattle.mp_modules.specs.declared.memory.Memory.{Memory};
-    ghost use Rattle.mp_kernel.specs.automata.PortLevels.{input_bits, output_bits};
+    ghost use Rattle.mp_modules.specs.automata.PortLevels.{input_bits, output_bits};
 
     ghost Value = { Memory };
 

@@ -10,7 +10,7 @@ use Rattle.mp_model.specs.Levels.{built}
 use Rattle.mp_model.specs.Waves.{level}
 use Rattle.mp_kernel.specs.declared.datapath.data_module.DataModule.{DataModule}
 use Rattle.mp_kernel.specs.declared.datapath.level_change.LevelChange.{LevelChange}
-use Rattle.mp_kernel.specs.datapath.DataParts.{data_part, outputs_in}
+use Rattle.mp_modules.specs.storage.DataParts.{data_part, outputs_in}
 use Rattle.mp_simulation.specs.units.DataLevels.{is_data}
 use Rattle.mp_simulation.specs.units.DataSeats.{bit_ports_of, level_port_of}
 use Rattle.mp_partition.specs.runs.Outcomes.{Outcome}

@@ -1,6 +1,6 @@
 //! The simulation with which a re-evaluation begins.
 ghost use Rattle.std.specs.Prelude.{◌≡◌, ℕ, Bool, true, IfOk};
-ghost use Rattle.mp_kernel.specs.automata.Codes.{bit};
+ghost use Rattle.mp_modules.specs.automata.Codes.{bit};
 ghost use Rattle.mp_netlist.specs.Circuit.{IsCircuit};
 ghost use Rattle.mp_netlist.specs.Drivers.{driver};
 ghost use Rattle.mp_partition.specs.runs.Marks.{is_marked};
@@ -9,7 +9,7 @@ ghost use Rattle.mp_active.specs.excerpt.Excerpts.{excerpt, is_followed};
 ghost use Rattle.mp_redo.specs.rerun.Starting.{IsFirst};
 
 use mp_depend::drivers_of;
-use mp_kernel::TransitionTable;
+use mp_modules::TransitionTable;
 use mp_netlist::{Driver, Netlist};
 use mp_partition::Region;
 use mp_simulation::{Layout, NetlistSimulation, WiredInputs, all_outputs};

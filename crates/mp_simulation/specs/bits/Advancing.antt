@@ -4,9 +4,9 @@ use Rattle.mp_records.specs.declared.module_record.ModuleRecord.{ModuleRecord}
 use Rattle.mp_netlist.specs.Circuit.{Circuit, IsCircuit, module_at}
 use Rattle.mp_model.specs.Levels.{built, inputs_by}
 use Rattle.mp_model.specs.Waves.{level, state}
-use Rattle.mp_kernel.specs.automata.Automata.{automaton_of}
-use Rattle.mp_kernel.specs.automata.Phases.{phase_of}
-use Rattle.mp_kernel.specs.automata.BitModules.{events_in, toggles_between, AreBits, IsOfBits, IsBitState}
+use Rattle.mp_modules.specs.automata.Automata.{automaton_of}
+use Rattle.mp_modules.specs.automata.Phases.{phase_of}
+use Rattle.mp_modules.specs.automata.BitModules.{events_in, toggles_between, AreBits, IsOfBits, IsBitState}
 use Rattle.mp_kernel.specs.events.Firing.{UnitState, reaction}
 
 -- the state of a module in the unit after t, once it has heard all events

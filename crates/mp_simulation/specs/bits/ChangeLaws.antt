@@ -14,11 +14,11 @@ use Rattle.mp_wave.specs.Waveform.{Waveform, wave_upto}
 use Rattle.mp_modules.specs.storage.AnyModules.{step}
 use Rattle.mp_model.specs.Levels.{initial_of, input_by, built}
 use Rattle.mp_model.specs.Waves.{level, state}
-use Rattle.mp_kernel.specs.automata.Automata.{automaton_of}
-use Rattle.mp_kernel.specs.automata.Phases.{phase_of}
-use Rattle.mp_kernel.specs.automata.BitModules.{IsOfBits, IsBitState}
-use Rattle.mp_kernel.specs.automata.Codes.{no_events}
-use Rattle.mp_kernel.specs.automata.Reactions.{react, quiet}
+use Rattle.mp_modules.specs.automata.Automata.{automaton_of}
+use Rattle.mp_modules.specs.automata.Phases.{phase_of}
+use Rattle.mp_modules.specs.automata.BitModules.{IsOfBits, IsBitState}
+use Rattle.mp_modules.specs.automata.Codes.{no_events}
+use Rattle.mp_modules.specs.automata.Reactions.{react, quiet}
 use Rattle.mp_wave.specs.ToggleWaves.{toggled_at}
 use Rattle.mp_simulation.specs.bits.Changes.{change_at, late_change}
 use Rattle.mp_simulation.specs.bits.Traces.{IsTrace}

@@ -5,8 +5,8 @@ use Rattle.mp_records.specs.declared.ports.Input.{Input}
 use Rattle.mp_netlist.specs.Circuit.{Circuit, IsCircuit, module_at}
 use Rattle.mp_model.specs.Levels.{inputs_by}
 use Rattle.mp_model.specs.Waves.{level, state}
-use Rattle.mp_kernel.specs.automata.BitModules.{events_in}
-use Rattle.mp_kernel.specs.automata.Codes.{bit}
+use Rattle.mp_modules.specs.automata.BitModules.{events_in}
+use Rattle.mp_modules.specs.automata.Codes.{bit}
 use Rattle.mp_kernel.specs.events.Adding.{listed}
 use Rattle.mp_kernel.specs.events.Ports.{AreEvents}
 use Rattle.mp_simulation.specs.bits.Changes.{late_change}

@@ -9,9 +9,9 @@ use Rattle.mp_netlist.specs.Circuit.{Circuit, IsCircuit, module_at, Drives}
 use Rattle.mp_netlist.specs.declared.driver.Driver.TheVariants.{Port}
 use Rattle.mp_netlist.specs.Drivers.{driver}
 use Rattle.mp_model.specs.Waves.{state}
-use Rattle.mp_kernel.specs.declared.automata.toggles.Toggles.{Toggles}
-use Rattle.mp_kernel.specs.automata.BitModules.{toggles_between}
-use Rattle.mp_kernel.specs.automata.Codes.{bit}
+use Rattle.mp_modules.specs.declared.automata.toggles.Toggles.{Toggles}
+use Rattle.mp_modules.specs.automata.BitModules.{toggles_between}
+use Rattle.mp_modules.specs.automata.Codes.{bit}
 use Rattle.mp_kernel.specs.declared.events.output_port.OutputPort.{OutputPort}
 use Rattle.mp_kernel.specs.declared.events.output_ports.OutputPorts.{OutputPorts}
 use Rattle.mp_kernel.specs.events.Adding.{listed}

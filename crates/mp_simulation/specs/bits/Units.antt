@@ -8,12 +8,12 @@ use Rattle.mp_netlist.specs.Circuit.{Circuit, module_at, Drives}
 use Rattle.mp_netlist.specs.Drivers.{driver}
 use Rattle.mp_model.specs.Levels.{built, inputs_by}
 use Rattle.mp_model.specs.Waves.{level, state}
-use Rattle.mp_kernel.specs.declared.automata.automaton.Automaton.TheVariants.{Sleep}
-use Rattle.mp_kernel.specs.automata.Automata.{automaton_of}
-use Rattle.mp_kernel.specs.automata.Phases.{phase_of}
-use Rattle.mp_kernel.specs.automata.BitModules.{AreBits, IsOfBits, IsBitState}
-use Rattle.mp_kernel.specs.automata.Codes.{bit, no_events}
-use Rattle.mp_kernel.specs.automata.PortLevels.{levels_code}
+use Rattle.mp_modules.specs.declared.automata.automaton.Automaton.TheVariants.{Sleep}
+use Rattle.mp_modules.specs.automata.Automata.{automaton_of}
+use Rattle.mp_modules.specs.automata.Phases.{phase_of}
+use Rattle.mp_modules.specs.automata.BitModules.{AreBits, IsOfBits, IsBitState}
+use Rattle.mp_modules.specs.automata.Codes.{bit, no_events}
+use Rattle.mp_modules.specs.automata.PortLevels.{levels_code}
 use Rattle.mp_kernel.specs.events.Adding.{listed}
 use Rattle.mp_kernel.specs.events.Toggling.{wave_at}
 use Rattle.mp_kernel.specs.events.Ports.{HasPorts}

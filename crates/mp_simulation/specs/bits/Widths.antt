@@ -4,7 +4,7 @@ use Rattle.mp_records.specs.declared.module_record.ModuleRecord.{ModuleRecord}
 use Rattle.mp_netlist.specs.Circuit.{Circuit, IsCircuit, module_at, module_width}
 use Rattle.mp_model.specs.Levels.{built, inputs_by}
 use Rattle.mp_model.specs.Waves.{level, state}
-use Rattle.mp_kernel.specs.automata.BitModules.{AreBits, IsOfBits, IsBitState}
+use Rattle.mp_modules.specs.automata.BitModules.{AreBits, IsOfBits, IsBitState}
 
 -- the module's ports have width 1, and so have its levels at all times
 pub record HasBits (n : Circuit) (m : ℕ) (r : ModuleRecord) : Type 0 where

@@ -8,14 +8,14 @@ use Rattle.mp_netlist.specs.Circuit.{Circuit, wire_at, module_at}
 use Rattle.mp_netlist.specs.Drivers.{driver}
 use Rattle.mp_model.specs.Levels.{initial_of, built}
 use Rattle.mp_model.specs.Waves.{level, state}
-use Rattle.mp_kernel.specs.automata.Codes.{bit}
+use Rattle.mp_modules.specs.automata.Codes.{bit}
 use Rattle.mp_kernel.specs.declared.events.output_port.OutputPort.{OutputPort}
 use Rattle.mp_kernel.specs.events.Firing.{no_port}
 use Rattle.mp_simulation.specs.bits.Schedules.{output_port_of}
 use Rattle.mp_simulation.specs.bits.Beginnings.{is_first}
 use Rattle.mp_kernel.specs.declared.datapath.level_change.LevelChange.{LevelChange}
 use Rattle.mp_kernel.specs.declared.datapath.data_module.DataModule.{DataModule}
-use Rattle.mp_kernel.specs.datapath.DataParts.{data_part, outputs_in}
+use Rattle.mp_modules.specs.storage.DataParts.{data_part, outputs_in}
 use Rattle.mp_kernel.specs.datapath.LevelWheels.{scheduled, entry_if}
 use Rattle.mp_kernel.specs.datapath.DataFiring.{place_at, module_at as data_module_at, ArePlaced}
 use Rattle.mp_simulation.specs.units.DataLevels.{is_data, changes_of}

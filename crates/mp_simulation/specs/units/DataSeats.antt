@@ -14,7 +14,7 @@ use Rattle.mp_simulation.specs.bits.PortEvents.{source_of}
 use Rattle.mp_simulation.specs.bits.Schedules.{output_port_of}
 use Rattle.mp_simulation.specs.bits.Scopes.{Scope}
 use Rattle.mp_kernel.specs.declared.datapath.data_module.DataModule.{DataModule}
-use Rattle.mp_kernel.specs.datapath.DataParts.{any_part, outputs_in}
+use Rattle.mp_modules.specs.storage.DataParts.{any_part, outputs_in}
 use Rattle.mp_kernel.specs.datapath.DataModules.{input_of, CanFire}
 use Rattle.mp_kernel.specs.datapath.DataFiring.{place_at, module_at as data_module_at, ArePlaced}
 use Rattle.mp_simulation.specs.declared.units.data_modules.DataModules.{DataModules}

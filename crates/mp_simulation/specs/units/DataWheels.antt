@@ -7,7 +7,7 @@ use Rattle.mp_netlist.specs.Circuit.{Circuit, module_at}
 use Rattle.mp_netlist.specs.Drivers.{driver}
 use Rattle.mp_model.specs.Evaluations.{delay_in}
 use Rattle.mp_model.specs.Waves.{level}
-use Rattle.mp_kernel.specs.automata.Codes.{bit}
+use Rattle.mp_modules.specs.automata.Codes.{bit}
 use Rattle.mp_kernel.specs.declared.events.output_port.OutputPort.{OutputPort}
 use Rattle.mp_kernel.specs.events.Firing.{HasSlot, copy_at}
 use Rattle.mp_simulation.specs.bits.Changes.{change_at, late_change}

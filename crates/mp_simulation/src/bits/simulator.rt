@@ -2,10 +2,10 @@
 ghost use Rattle.std.specs.Prelude.{◌≡◌};
 
 use mp_kernel::{
-    AutomatonState, EventSlot, EventWheel, Fanout, OutputTable, PortLevels, TransitionTable,
-    WaveTable, add_fanout_events, fire_modules, toggle_wires,
+    EventSlot, EventWheel, Fanout, OutputTable, WaveTable, add_fanout_events, fire_modules,
+    toggle_wires,
 };
-use mp_modules::Memory;
+use mp_modules::{AutomatonState, Memory, PortLevels, TransitionTable};
 use std::alloc::AllocError;
 
 /// The modules of width 1 of a netlist: each has a place, with its state, the levels at its ports, and its outputs. The fanout has the inputs that

@@ -9,7 +9,7 @@ use crate::bits::Simulation;
 use crate::run::layout::Layout;
 use crate::run::settling::all_outputs;
 use crate::units::NetlistSimulation;
-use mp_kernel::TransitionTable;
+use mp_modules::TransitionTable;
 use mp_partition::Region;
 use std::alloc::{AllocError, Global};
 

@@ -13,9 +13,9 @@ use crate::run::settling::{Settling, settle_all};
 use crate::run::wiring::{WiredInputs, Wiring, wiring_of};
 use crate::units::{DataWires, NetlistSimulation};
 use mp_kernel::{
-    EventSlot, EventWheel, Fanout, LevelSlot, LevelWheel, OutputPorts, OutputTable,
-    TransitionTable, WaveTable,
+    EventSlot, EventWheel, Fanout, LevelSlot, LevelWheel, OutputPorts, OutputTable, WaveTable,
 };
+use mp_modules::TransitionTable;
 use mp_partition::Region;
 use std::alloc::{AllocError, Global};
 

@@ -2,7 +2,7 @@
 ghost use Rattle.std.specs.Prelude.{◌≡◌, ◌<◌, IfOk, All, length};
 ghost use Rattle.mp_records.specs.Outputs.{output_in};
 ghost use Rattle.mp_netlist.specs.Circuit.{IsCircuit, IsModule};
-ghost use Rattle.mp_kernel.specs.datapath.DataParts.{data_part, outputs_in};
+ghost use Rattle.mp_modules.specs.storage.DataParts.{data_part, outputs_in};
 ghost use Rattle.mp_kernel.specs.events.Firing.{no_port};
 ghost use Rattle.mp_simulation.specs.units.DataSeats.{bit_port_of, bit_ports_of, level_port_of};
 ghost use Rattle.mp_simulation.specs.run.Settling.{IsShort};
@@ -11,11 +11,8 @@ ghost use Rattle.mp_simulation.specs.run.Seating.{has_data_at, level_departs, le
 use crate::run::settling::{output_port, settled};
 use crate::run::widths::{has_data, is_bit_module};
 use crate::units::DataModules;
-use mp_kernel::{
-    DataModule, DataPart, DataPorts, LevelWheel, OutputLevels, OutputPort, OutputPorts,
-    schedule_level_if,
-};
-use mp_modules::{AnyModule, EventModule, MOST_INPUTS, Memory};
+use mp_kernel::{DataModule, DataPorts, LevelWheel, OutputPort, OutputPorts, schedule_level_if};
+use mp_modules::{AnyModule, DataPart, EventModule, MOST_INPUTS, Memory, OutputLevels};
 use mp_netlist::{ModuleId, ModuleRecord, Output, WireId};
 use mp_partition::Region;
 use std::alloc::{AllocError, Global};

@@ -6,17 +6,17 @@ ghost use Rattle.mp_records.specs.Outputs.{output_in};
 ghost use Rattle.mp_netlist.specs.Circuit.{IsCircuit, wire_at, module_at};
 ghost use Rattle.mp_model.specs.Levels.{initial_of, built};
 ghost use Rattle.mp_model.specs.Waves.{state};
-ghost use Rattle.mp_kernel.specs.automata.PortLevels.{levels_code};
+ghost use Rattle.mp_modules.specs.automata.PortLevels.{levels_code};
 ghost use Rattle.mp_kernel.specs.events.Firing.{HaveSlots, scheduled, fired_at, number_of, ports_at};
 ghost use Rattle.mp_simulation.specs.bits.Schedules.{output_port_of, output_ports_of};
 ghost use Rattle.mp_simulation.specs.units.DataLevels.{is_data};
 ghost use Rattle.mp_simulation.specs.run.Settling.{IsShort, ports_of, departs, departing, no_unit, first_unit_of, first_unit, first_entries, IsSettled, AreFirstLevels};
 
 use crate::run::widths::{has_data, is_bit_module};
-use mp_kernel::{
-    Automaton, AutomatonState, EventWheel, OutputPort, OutputPorts, Phase, PortLevels, schedule_if,
+use mp_kernel::{EventWheel, OutputPort, OutputPorts, schedule_if};
+use mp_modules::{
+    AnyModule, Automaton, AutomatonState, EventModule, MOST_INPUTS, Memory, Phase, PortLevels,
 };
-use mp_modules::{AnyModule, EventModule, MOST_INPUTS, Memory};
 use mp_netlist::{Input, ModuleId, ModuleRecord, Output, WireId};
 use mp_partition::Region;
 use std::alloc::{AllocError, Global};

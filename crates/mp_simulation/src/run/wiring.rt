@@ -5,8 +5,8 @@ ghost use Rattle.mp_kernel.specs.events.Firing.{copy_at};
 ghost use Rattle.mp_simulation.specs.run.Numbers.{AreLinks, copy_within, behind, IsPlace, noted};
 ghost use Rattle.mp_simulation.specs.run.Wirings.{HaveRows, IsWiring, AreUnread, HasRead, inputs_in, AreWiredInputs};
 
-use mp_kernel::{FanoutEntry, FanoutRow, OutputPort, event_bit};
-use mp_modules::MOST_INPUTS;
+use mp_kernel::{FanoutEntry, FanoutRow, OutputPort};
+use mp_modules::{MOST_INPUTS, event_bit};
 use mp_netlist::{Input, ModuleId};
 use mp_partition::Region;
 use std::alloc::{AllocError, Global};

@@ -5,7 +5,7 @@ use Rattle.std.proofs.lemmas.Bool.{cases_lt, eq-eqb, ne_eqb, eqb-true, eqb-false
 use Rattle.std.proofs.lemmas.List.{get_or_past}
 use Rattle.std.proofs.lemmas.List.Elements.{All-append}
 use Rattle.std.proofs.lemmas.List.Sums.{sum_by-append}
-use Rattle.mp_kernel.specs.automata.Codes.{bit}
+use Rattle.mp_modules.specs.automata.Codes.{bit}
 use Rattle.mp_kernel.specs.events.Adding.{listed}
 use Rattle.mp_kernel.specs.timers.TimerWheels.{never, time_of, coming, ComesUp}
 use Rattle.mp_kernel.specs.declared.datapath.level_change.LevelChange.{LevelChange}

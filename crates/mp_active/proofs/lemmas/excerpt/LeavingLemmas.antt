@@ -8,8 +8,8 @@ use Rattle.mp_records.specs.declared.module_record.ModuleRecord.{ModuleRecord}
 use Rattle.mp_netlist.specs.declared.driver.Driver.{Driver}
 use Rattle.mp_netlist.specs.Circuit.{Circuit, IsCircuit, module_at}
 use Rattle.mp_netlist.specs.Drivers.{driver}
-use Rattle.mp_kernel.specs.declared.automata.automaton_state.AutomatonState.{AutomatonState}
-use Rattle.mp_kernel.specs.automata.Codes.{bit}
+use Rattle.mp_modules.specs.declared.automata.automaton_state.AutomatonState.{AutomatonState}
+use Rattle.mp_modules.specs.automata.Codes.{bit}
 use Rattle.mp_kernel.specs.declared.events.fanout_entry.FanoutEntry.{FanoutEntry}
 use Rattle.mp_kernel.specs.events.Adding.{listed, state_at}
 use Rattle.mp_kernel.specs.events.Firing.{HasSlot, HaveSlots}

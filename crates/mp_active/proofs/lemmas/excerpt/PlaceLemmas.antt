@@ -16,9 +16,9 @@ use Rattle.mp_netlist.specs.Circuit.{Circuit, IsCircuit, HasWidth, Drives, wire_
 use Rattle.mp_model.specs.Levels.{built}
 use Rattle.mp_model.specs.Waves.{state}
 use Rattle.mp_model.proofs.SlotLemmas.{slot_within}
-use Rattle.mp_kernel.specs.automata.Automata.{automaton_of}
-use Rattle.mp_kernel.specs.automata.Phases.{phase_of}
-use Rattle.mp_kernel.specs.automata.Codes.{no_events}
+use Rattle.mp_modules.specs.automata.Automata.{automaton_of}
+use Rattle.mp_modules.specs.automata.Phases.{phase_of}
+use Rattle.mp_modules.specs.automata.Codes.{no_events}
 use Rattle.mp_kernel.specs.declared.events.output_port.OutputPort.{OutputPort}
 use Rattle.mp_kernel.specs.declared.events.output_ports.OutputPorts.{OutputPorts}
 use Rattle.mp_kernel.specs.events.Firing.{UnitState, no_port}

@@ -12,8 +12,8 @@ use Rattle.mp_netlist.specs.Circuit.{Circuit, IsCircuit, module_at, module_width
 use Rattle.mp_netlist.specs.Drivers.{driver}
 use Rattle.mp_netlist.proofs.DriverLemmas.{finds_ports, finds_only_ports}
 use Rattle.mp_model.specs.Waves.{level}
-use Rattle.mp_kernel.specs.automata.PortLevels.{levels_code}
-use Rattle.mp_kernel.specs.automata.Codes.{bit}
+use Rattle.mp_modules.specs.automata.PortLevels.{levels_code}
+use Rattle.mp_modules.specs.automata.Codes.{bit}
 use Rattle.mp_kernel.specs.events.Adding.{state_at}
 use Rattle.mp_kernel.specs.events.Firing.{number_of}
 use Rattle.mp_kernel.specs.events.Toggling.{wave_at}
@@ -24,7 +24,7 @@ use Rattle.mp_simulation.specs.bits.Units.{Stands, rest_state_at}
 use Rattle.mp_simulation.specs.bits.WholeRuns.{is_number}
 use Rattle.mp_simulation.proofs.lemmas.bits.NumberLemmas.{no_events_when, events_part}
 use Rattle.mp_kernel.specs.declared.datapath.level_change.LevelChange.{LevelChange}
-use Rattle.mp_kernel.specs.datapath.DataParts.{outputs_in}
+use Rattle.mp_modules.specs.storage.DataParts.{outputs_in}
 use Rattle.mp_kernel.specs.datapath.DataFiring.{place_at}
 use Rattle.mp_simulation.specs.declared.units.netlist_simulation.NetlistSimulation.{NetlistSimulation}
 use Rattle.mp_simulation.specs.units.DataLevels.{is_data, is_bit_wire, changes_of, IsLevelAt}

@@ -13,8 +13,8 @@ use Rattle.mp_model.specs.Evaluations.{delay_in}
 use Rattle.mp_model.specs.Waves.{level, state}
 use Rattle.mp_model.proofs.EvaluationLemmas.{delay_positive}
 use Rattle.mp_model.proofs.SlotLemmas.{slot_within}
-use Rattle.mp_kernel.specs.automata.PortLevels.{levels_code}
-use Rattle.mp_kernel.specs.automata.Codes.{bit}
+use Rattle.mp_modules.specs.automata.PortLevels.{levels_code}
+use Rattle.mp_modules.specs.automata.Codes.{bit}
 use Rattle.mp_kernel.specs.events.Firing.{UnitState}
 use Rattle.mp_kernel.specs.events.LevelFlips.{levels_at}
 use Rattle.mp_kernel.specs.events.Toggling.{wave_at}
@@ -25,7 +25,7 @@ use Rattle.mp_simulation.specs.bits.Copies.{HaveCopies}
 use Rattle.mp_simulation.specs.bits.WholeRuns.{IsWhole}
 use Rattle.mp_simulation.proofs.lemmas.bits.WidthLemmas.{have_bits}
 use Rattle.mp_kernel.specs.declared.datapath.level_change.LevelChange.{LevelChange}
-use Rattle.mp_kernel.specs.datapath.DataParts.{outputs_in}
+use Rattle.mp_modules.specs.storage.DataParts.{outputs_in}
 use Rattle.mp_kernel.specs.datapath.DataFiring.{place_at, module_at as data_module_at}
 use Rattle.mp_simulation.specs.declared.units.netlist_simulation.NetlistSimulation.{NetlistSimulation}
 use Rattle.mp_simulation.specs.units.DataLevels.{is_data, is_bit_wire, IsLevelAt}

@@ -9,7 +9,7 @@ use Rattle.mp_netlist.specs.Drivers.{driver}
 use Rattle.mp_model.specs.Levels.{initial_of}
 use Rattle.mp_model.specs.Waves.{level}
 use Rattle.mp_model.proofs.EndsLemmas.{first_level}
-use Rattle.mp_kernel.specs.automata.Codes.{bit}
+use Rattle.mp_modules.specs.automata.Codes.{bit}
 use Rattle.mp_kernel.specs.events.Firing.{copy_at}
 use Rattle.mp_kernel.specs.events.Toggling.{wave_at}
 use Rattle.mp_simulation.specs.bits.Changes.{change_at, late_change}

@@ -2,8 +2,8 @@
 use Rattle.std.proofs.Common.{◌≡◌, ℕ, ◌%◌, ◌<◌, Bool, true, false, cond, List, [], length, refl, ap, sym, subst, ◌∙◌, arith, inl, inr, ◌⊎◌}
 use Rattle.std.specs.Prelude.{◌==◌}
 use Rattle.std.proofs.lemmas.Bool.{cases_Bool, eqb-true}
-use Rattle.mp_kernel.specs.declared.automata.automaton_state.AutomatonState.{AutomatonState}
-use Rattle.mp_kernel.specs.automata.Codes.{events_code, no_events}
+use Rattle.mp_modules.specs.declared.automata.automaton_state.AutomatonState.{AutomatonState}
+use Rattle.mp_modules.specs.automata.Codes.{events_code, no_events}
 use Rattle.mp_kernel.specs.events.Adding.{state_at, listed, IsAdding}
 use Rattle.mp_kernel.specs.events.Firing.{UnitState, number_of, AreNumbered}
 use Rattle.mp_simulation.proofs.lemmas.bits.NumberLemmas.{events_part, number_low}

@@ -5,8 +5,8 @@ use Rattle.std.proofs.lemmas.Option.{none-some}
 use Rattle.mp_modules.specs.declared.memory.Client.TheVariants.{Nobody}
 use Rattle.mp_records.specs.declared.module_record.ModuleRecord.{ModuleRecord}
 use Rattle.mp_netlist.specs.Circuit.{Circuit, module_at}
-use Rattle.mp_kernel.specs.declared.automata.automaton.Automaton.TheVariants.{Sleep}
-use Rattle.mp_kernel.specs.automata.Codes.{no_events}
+use Rattle.mp_modules.specs.declared.automata.automaton.Automaton.TheVariants.{Sleep}
+use Rattle.mp_modules.specs.automata.Codes.{no_events}
 use Rattle.mp_kernel.specs.events.Adding.{state_at}
 use Rattle.mp_kernel.specs.events.Firing.{UnitState, number_of}
 use Rattle.mp_simulation.specs.bits.Units.{rest_state_at}

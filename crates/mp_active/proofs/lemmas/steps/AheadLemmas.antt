@@ -8,7 +8,7 @@ use Rattle.mp_netlist.specs.Circuit.{Circuit, wire_at}
 use Rattle.mp_netlist.specs.Drivers.{driver}
 use Rattle.mp_model.specs.Levels.{initial_of}
 use Rattle.mp_model.specs.Waves.{level}
-use Rattle.mp_kernel.specs.automata.Codes.{bit}
+use Rattle.mp_modules.specs.automata.Codes.{bit}
 use Rattle.mp_simulation.specs.declared.bits.simulation.Simulation.{Simulation}
 use Rattle.mp_simulation.specs.bits.Changes.{change_at}
 use Rattle.mp_simulation.specs.bits.Simulators.{slot_at}

@@ -9,12 +9,12 @@ use Rattle.mp_netlist.specs.Drivers.{driver}
 use Rattle.mp_model.specs.Levels.{built}
 use Rattle.mp_model.specs.Waves.{state}
 use Rattle.mp_model.proofs.SlotLemmas.{slot_within}
-use Rattle.mp_kernel.specs.declared.automata.automaton_state.AutomatonState.{AutomatonState}
-use Rattle.mp_kernel.specs.declared.automata.port_levels.PortLevels.{PortLevels}
-use Rattle.mp_kernel.specs.automata.Automata.{automaton_of}
-use Rattle.mp_kernel.specs.automata.Phases.{phase_of}
-use Rattle.mp_kernel.specs.automata.Codes.{bit, state_code, no_events}
-use Rattle.mp_kernel.specs.automata.PortLevels.{levels_code}
+use Rattle.mp_modules.specs.declared.automata.automaton_state.AutomatonState.{AutomatonState}
+use Rattle.mp_modules.specs.declared.automata.port_levels.PortLevels.{PortLevels}
+use Rattle.mp_modules.specs.automata.Automata.{automaton_of}
+use Rattle.mp_modules.specs.automata.Phases.{phase_of}
+use Rattle.mp_modules.specs.automata.Codes.{bit, state_code, no_events}
+use Rattle.mp_modules.specs.automata.PortLevels.{levels_code}
 use Rattle.mp_simulation.specs.declared.bits.simulation.Simulation.{Simulation}
 use Rattle.mp_simulation.specs.declared.bits.simulator.Simulator.{Simulator}
 use Rattle.mp_simulation.specs.bits.Changes.{change_at}

@@ -8,7 +8,7 @@ use Rattle.mp_wave.specs.Waveform.{Waveform, IsWaveform, level_of, between, late
 use Rattle.mp_netlist.specs.Circuit.{Circuit, wire_at}
 use Rattle.mp_model.specs.Levels.{initial_of}
 use Rattle.mp_model.specs.Waves.{level}
-use Rattle.mp_kernel.specs.automata.Codes.{bit}
+use Rattle.mp_modules.specs.automata.Codes.{bit}
 use Rattle.mp_simulation.specs.bits.Changes.{change_at, late_change}
 use Rattle.mp_simulation.specs.units.DataLevels.{late_level, IsLevelAt}
 use Rattle.mp_simulation.proofs.lemmas.units.LevelWheelLemmas.{HoldsOf}

@@ -11,7 +11,7 @@ use Rattle.mp_netlist.specs.declared.driver.Driver.TheVariants.{Nothing, Stimulu
 use Rattle.mp_netlist.specs.Circuit.{Circuit, IsCircuit, module_at}
 use Rattle.mp_netlist.specs.Drivers.{driver}
 use Rattle.mp_model.specs.Evaluations.{delay_in}
-use Rattle.mp_kernel.specs.automata.Codes.{bit}
+use Rattle.mp_modules.specs.automata.Codes.{bit}
 use Rattle.mp_simulation.specs.declared.units.netlist_simulation.NetlistSimulation.{NetlistSimulation}
 use Rattle.mp_simulation.specs.units.DataLevels.{is_data, changes_of}
 use Rattle.mp_simulation.specs.units.DataWheels.{data_slot, driver_delay}

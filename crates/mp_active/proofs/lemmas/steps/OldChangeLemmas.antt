@@ -9,7 +9,7 @@ use Rattle.mp_wave.specs.Waveform.{Waveform, IsWaveform, AreChanges, level_of, l
 use Rattle.mp_netlist.specs.Circuit.{Circuit}
 use Rattle.mp_model.specs.Evaluations.{AreRising}
 use Rattle.mp_model.specs.Waves.{level}
-use Rattle.mp_kernel.specs.automata.Codes.{bit}
+use Rattle.mp_modules.specs.automata.Codes.{bit}
 use Rattle.mp_simulation.specs.bits.Changes.{change_at}
 use Rattle.mp_kernel.specs.declared.datapath.level_change.LevelChange.{LevelChange}
 use Rattle.mp_simulation.specs.run.Stimuli.{set_changes}

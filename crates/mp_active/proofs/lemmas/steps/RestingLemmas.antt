@@ -8,7 +8,7 @@ use Rattle.mp_netlist.specs.Circuit.{Circuit, IsCircuit, wire_at, module_at}
 use Rattle.mp_netlist.specs.Drivers.{driver}
 use Rattle.mp_netlist.proofs.DriverLemmas.{finds_only_ports, driven_stands}
 use Rattle.mp_model.specs.Evaluations.{delay_in}
-use Rattle.mp_kernel.specs.automata.Codes.{bit}
+use Rattle.mp_modules.specs.automata.Codes.{bit}
 use Rattle.mp_simulation.specs.bits.Changes.{change_at}
 use Rattle.mp_simulation.specs.declared.units.netlist_simulation.NetlistSimulation.{NetlistSimulation}
 use Rattle.mp_simulation.specs.units.DataLevels.{is_data, is_bit_wire, changes_of}

@@ -4,10 +4,10 @@ use Rattle.std.specs.Prelude.{◌&&◌, slice_index_or}
 use Rattle.std.proofs.lemmas.Bool.{cases_lt}
 use Rattle.mp_netlist.specs.Circuit.{Circuit, IsCircuit}
 use Rattle.mp_netlist.specs.Drivers.{driver}
-use Rattle.mp_kernel.specs.declared.automata.automaton_state.AutomatonState.{AutomatonState}
-use Rattle.mp_kernel.specs.declared.automata.automaton.Automaton.TheVariants.{Sleep}
-use Rattle.mp_kernel.specs.automata.Codes.{no_events}
-use Rattle.mp_kernel.specs.automata.Phases.{unserved}
+use Rattle.mp_modules.specs.declared.automata.automaton_state.AutomatonState.{AutomatonState}
+use Rattle.mp_modules.specs.declared.automata.automaton.Automaton.TheVariants.{Sleep}
+use Rattle.mp_modules.specs.automata.Codes.{no_events}
+use Rattle.mp_modules.specs.automata.Phases.{unserved}
 use Rattle.mp_simulation.specs.declared.bits.simulation.Simulation.{Simulation}
 use Rattle.mp_simulation.specs.declared.bits.simulator.Simulator.{Simulator}
 use Rattle.mp_simulation.specs.bits.Changes.{change_at}

@@ -4,7 +4,7 @@ use Rattle.std.specs.Prelude.{◌==◌, slice_set, slice_index_or}
 use Rattle.std.proofs.lemmas.Bool.{eqb-true, eqb-false, cases_eq}
 use Rattle.std.proofs.lemmas.Grind.{flat_map-append}
 use Rattle.std.proofs.lemmas.List.{take_more, length-set, get_or_default}
-use Rattle.mp_kernel.specs.automata.Codes.{bit}
+use Rattle.mp_modules.specs.automata.Codes.{bit}
 use Rattle.mp_kernel.specs.events.Adding.{listed}
 use Rattle.mp_kernel.specs.events.Firing.{HasSlot, HaveSlots, scheduled}
 use Rattle.mp_kernel.proofs.lemmas.events.FiringLemmas.{scheduled_append}

@@ -4,7 +4,7 @@ use Rattle.std.specs.Prelude.{◌==◌, slice_set, slice_index_or}
 use Rattle.std.proofs.lemmas.Bool.{eqb-true, eqb-false}
 use Rattle.std.proofs.lemmas.List.{get_or_default, get_or_append_left, get_or-append-add, length-append}
 use Rattle.std.proofs.lemmas.List.Sums.{sum_by-append}
-use Rattle.mp_kernel.specs.declared.automata.automaton_state.AutomatonState.{AutomatonState}
+use Rattle.mp_modules.specs.declared.automata.automaton_state.AutomatonState.{AutomatonState}
 use Rattle.mp_kernel.specs.declared.events.fanout_entry.FanoutEntry.{FanoutEntry}
 use Rattle.mp_kernel.specs.events.Adding.{state_at, event_for, events_for, AreAdded, listed, IsAdding}
 

@@ -4,10 +4,10 @@ use Rattle.std.specs.Prelude.{◌==◌, slice_set, slice_index_or, bit_xor}
 use Rattle.std.proofs.lemmas.Bool.{eqb-true, eqb-false}
 use Rattle.std.proofs.lemmas.Grind.{flat_map-append}
 use Rattle.std.proofs.lemmas.List.{take_more, get_or_default}
-use Rattle.mp_kernel.specs.declared.automata.automaton_state.AutomatonState.{AutomatonState}
-use Rattle.mp_kernel.specs.declared.automata.port_levels.PortLevels.{PortLevels}
-use Rattle.mp_kernel.specs.automata.Codes.{bit}
-use Rattle.mp_kernel.specs.automata.PortLevels.{ports_code}
+use Rattle.mp_modules.specs.declared.automata.automaton_state.AutomatonState.{AutomatonState}
+use Rattle.mp_modules.specs.declared.automata.port_levels.PortLevels.{PortLevels}
+use Rattle.mp_modules.specs.automata.Codes.{bit}
+use Rattle.mp_modules.specs.automata.PortLevels.{ports_code}
 use Rattle.mp_kernel.specs.events.EventWheels.{with_entry}
 use Rattle.mp_kernel.specs.events.Adding.{state_at, listed}
 use Rattle.mp_kernel.specs.declared.events.output_ports.OutputPorts.{OutputPorts}

@@ -16,7 +16,7 @@ use Rattle.mp_netlist.specs.Circuit.{Circuit, module_at}
 use Rattle.mp_netlist.specs.Drivers.{driver}
 use Rattle.mp_netlist.proofs.DriverLemmas.{finds_only_ports}
 use Rattle.mp_model.specs.Evaluations.{delay_in}
-use Rattle.mp_kernel.specs.automata.Codes.{bit}
+use Rattle.mp_modules.specs.automata.Codes.{bit}
 use Rattle.mp_simulation.specs.bits.Changes.{change_at}
 use Rattle.mp_simulation.specs.units.DataWheels.{driver_delay}
 use Rattle.mp_simulation.specs.declared.run.stimuli.StimulusChange.{StimulusChange}

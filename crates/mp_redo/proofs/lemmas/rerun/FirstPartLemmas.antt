@@ -9,7 +9,7 @@ use Rattle.mp_netlist.specs.Circuit.{Circuit, IsCircuit, Drives}
 use Rattle.mp_netlist.specs.Drivers.{driver}
 use Rattle.mp_netlist.proofs.DriverLemmas.{finds_ports}
 use Rattle.mp_model.specs.Waves.{level}
-use Rattle.mp_kernel.specs.automata.Codes.{bit}
+use Rattle.mp_modules.specs.automata.Codes.{bit}
 use Rattle.mp_partition.specs.runs.Marks.{is_marked}
 use Rattle.mp_partition.specs.regions.Regions.{partition_of, region, set_on_slot}
 use Rattle.mp_active.specs.excerpt.Excerpts.{excerpt, is_followed, active_slots, slots_on, unset_slot}

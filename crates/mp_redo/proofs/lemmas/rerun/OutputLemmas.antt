@@ -17,7 +17,7 @@ use Rattle.mp_netlist.proofs.DriverLemmas.{finds_ports}
 use Rattle.mp_model.specs.Evaluations.{delay_in}
 use Rattle.mp_model.specs.Waves.{level}
 use Rattle.mp_model.proofs.SlotLemmas.{some_within}
-use Rattle.mp_kernel.specs.automata.Codes.{bit}
+use Rattle.mp_modules.specs.automata.Codes.{bit}
 use Rattle.mp_simulation.specs.bits.Changes.{change_at}
 use Rattle.mp_kernel.specs.declared.datapath.level_change.LevelChange.{LevelChange}
 use Rattle.mp_simulation.specs.declared.units.netlist_simulation.NetlistSimulation.{NetlistSimulation}

@@ -14,7 +14,7 @@ use Rattle.mp_kernel.specs.declared.events.output_port.OutputPort.{OutputPort}
 use Rattle.mp_kernel.specs.events.Firing.{no_port, HasSlot, HaveSlots}
 use Rattle.mp_simulation.specs.bits.Schedules.{output_port_of}
 use Rattle.mp_kernel.specs.declared.datapath.data_module.DataModule.{DataModule}
-use Rattle.mp_kernel.specs.datapath.DataParts.{any_part, outputs_in}
+use Rattle.mp_modules.specs.storage.DataParts.{any_part, outputs_in}
 use Rattle.mp_simulation.specs.units.DataSeats.{IsDataSeat, drives_data, bit_port_of, number_at}
 use Rattle.mp_simulation.specs.run.Seating.{AreOutputsWithin}
 use Rattle.mp_simulation.specs.run.Wirings.{AreByPort}

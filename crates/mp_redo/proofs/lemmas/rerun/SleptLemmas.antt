@@ -13,7 +13,7 @@ use Rattle.mp_netlist.specs.declared.driver.Driver.TheVariants.{Nothing, Stimulu
 use Rattle.mp_netlist.specs.Circuit.{Circuit, IsCircuit}
 use Rattle.mp_netlist.specs.Drivers.{driver, is_port}
 use Rattle.mp_netlist.proofs.DriverLemmas.{finds_only_ports}
-use Rattle.mp_kernel.specs.automata.Codes.{bit}
+use Rattle.mp_modules.specs.automata.Codes.{bit}
 use Rattle.mp_kernel.specs.timers.TimerWheels.{never}
 use Rattle.mp_simulation.specs.declared.bits.simulation.Simulation.{Simulation}
 use Rattle.mp_simulation.specs.bits.Changes.{change_at}

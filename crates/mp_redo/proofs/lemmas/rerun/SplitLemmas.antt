@@ -9,7 +9,7 @@ use Rattle.mp_netlist.specs.Circuit.{Circuit, IsCircuit, module_at}
 use Rattle.mp_netlist.specs.Drivers.{driver, is_port}
 use Rattle.mp_model.specs.Evaluations.{delay_in}
 use Rattle.mp_model.proofs.EvaluationLemmas.{delay_positive}
-use Rattle.mp_kernel.specs.automata.Codes.{bit}
+use Rattle.mp_modules.specs.automata.Codes.{bit}
 use Rattle.mp_kernel.specs.timers.TimerWheels.{never}
 use Rattle.mp_simulation.specs.bits.Changes.{change_at}
 use Rattle.mp_simulation.specs.bits.WholeRuns.{is_stimulus}

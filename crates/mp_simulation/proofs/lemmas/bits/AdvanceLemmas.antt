@@ -7,12 +7,12 @@ use Rattle.mp_netlist.specs.Circuit.{Circuit, IsCircuit, module_at}
 use Rattle.mp_model.specs.Levels.{built, inputs_by}
 use Rattle.mp_model.specs.Waves.{level, state}
 use Rattle.mp_model.proofs.BehaviourLemmas.{satisfies}
-use Rattle.mp_kernel.specs.declared.automata.reaction.Reaction.{Reaction}
-use Rattle.mp_kernel.specs.automata.Phases.{phase_of}
-use Rattle.mp_kernel.specs.automata.BitModules.{toggles_between, AreBits, IsOfBits, IsBitState}
-use Rattle.mp_kernel.specs.automata.PortLevels.{ports_code, levels_code}
-use Rattle.mp_kernel.proofs.lemmas.automata.ReactionLemmas.{reacts_as_module}
-use Rattle.mp_kernel.proofs.lemmas.automata.LevelLemmas.{levels_follow}
+use Rattle.mp_modules.specs.declared.automata.reaction.Reaction.{Reaction}
+use Rattle.mp_modules.specs.automata.Phases.{phase_of}
+use Rattle.mp_modules.specs.automata.BitModules.{toggles_between, AreBits, IsOfBits, IsBitState}
+use Rattle.mp_modules.specs.automata.PortLevels.{ports_code, levels_code}
+use Rattle.mp_modules.proofs.lemmas.automata.ReactionLemmas.{reacts_as_module}
+use Rattle.mp_modules.proofs.lemmas.automata.LevelLemmas.{levels_follow}
 use Rattle.mp_kernel.specs.events.Firing.{reaction}
 use Rattle.mp_simulation.specs.bits.Advancing.{unit_state_at, StatesAdvance}
 

@@ -17,14 +17,14 @@ use Rattle.mp_netlist.proofs.DriverLemmas.{finds_only_ports}
 use Rattle.mp_model.specs.Evaluations.{delay_in}
 use Rattle.mp_model.specs.Levels.{built, inputs_by}
 use Rattle.mp_model.specs.Waves.{level, state}
-use Rattle.mp_kernel.specs.declared.automata.automaton_state.AutomatonState.{AutomatonState}
-use Rattle.mp_kernel.specs.declared.automata.port_levels.PortLevels.{PortLevels}
-use Rattle.mp_kernel.specs.declared.automata.events.Events.{Events}
-use Rattle.mp_kernel.specs.automata.Automata.{automaton_of}
-use Rattle.mp_kernel.specs.automata.Phases.{phase_of}
-use Rattle.mp_kernel.specs.automata.BitModules.{events_in}
-use Rattle.mp_kernel.specs.automata.Codes.{bit, events_code}
-use Rattle.mp_kernel.proofs.lemmas.automata.CodeLemmas.{events_low}
+use Rattle.mp_modules.specs.declared.automata.automaton_state.AutomatonState.{AutomatonState}
+use Rattle.mp_modules.specs.declared.automata.port_levels.PortLevels.{PortLevels}
+use Rattle.mp_modules.specs.declared.automata.events.Events.{Events}
+use Rattle.mp_modules.specs.automata.Automata.{automaton_of}
+use Rattle.mp_modules.specs.automata.Phases.{phase_of}
+use Rattle.mp_modules.specs.automata.BitModules.{events_in}
+use Rattle.mp_modules.specs.automata.Codes.{bit, events_code}
+use Rattle.mp_modules.proofs.lemmas.automata.CodeLemmas.{events_low}
 use Rattle.mp_kernel.specs.declared.events.fanout_entry.FanoutEntry.{FanoutEntry}
 use Rattle.mp_kernel.specs.declared.events.output_ports.OutputPorts.{OutputPorts}
 use Rattle.mp_kernel.specs.events.Adding.{state_at, events_for, listed, AreAdded, IsAdding}

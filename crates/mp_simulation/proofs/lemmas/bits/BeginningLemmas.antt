@@ -17,7 +17,7 @@ use Rattle.mp_netlist.proofs.DriverLemmas.{finds_only_ports}
 use Rattle.mp_model.specs.Evaluations.{delay_in}
 use Rattle.mp_model.specs.Levels.{initial_of}
 use Rattle.mp_model.specs.Waves.{state}
-use Rattle.mp_kernel.specs.automata.Codes.{bit}
+use Rattle.mp_modules.specs.automata.Codes.{bit}
 use Rattle.mp_kernel.specs.declared.events.output_port.OutputPort.{OutputPort}
 use Rattle.mp_kernel.specs.events.Adding.{listed}
 use Rattle.mp_simulation.specs.bits.Changes.{change_at, late_change, is_decided}

@@ -19,14 +19,14 @@ use Rattle.mp_model.specs.Levels.{initial_of, driven_level, port_level}
 use Rattle.mp_model.specs.Waves.{level, state}
 use Rattle.mp_model.proofs.BehaviourLemmas.{satisfies}
 use Rattle.mp_model.proofs.InputLemmas.{input_is}
-use Rattle.mp_kernel.specs.declared.automata.reaction.Reaction.{Reaction}
-use Rattle.mp_kernel.specs.automata.Automata.{automaton_of}
-use Rattle.mp_kernel.specs.automata.Phases.{phase_of}
-use Rattle.mp_kernel.specs.automata.BitModules.{events_in, toggles_between}
-use Rattle.mp_kernel.specs.automata.Codes.{no_events}
-use Rattle.mp_kernel.specs.automata.Reactions.{react, quiet}
-use Rattle.mp_kernel.specs.automata.AutomatonLaws.{reaction_of}
-use Rattle.mp_kernel.proofs.lemmas.automata.ReactionLemmas.{reacts_as_module}
+use Rattle.mp_modules.specs.declared.automata.reaction.Reaction.{Reaction}
+use Rattle.mp_modules.specs.automata.Automata.{automaton_of}
+use Rattle.mp_modules.specs.automata.Phases.{phase_of}
+use Rattle.mp_modules.specs.automata.BitModules.{events_in, toggles_between}
+use Rattle.mp_modules.specs.automata.Codes.{no_events}
+use Rattle.mp_modules.specs.automata.Reactions.{react, quiet}
+use Rattle.mp_modules.specs.automata.AutomatonLaws.{reaction_of}
+use Rattle.mp_modules.proofs.lemmas.automata.ReactionLemmas.{reacts_as_module}
 use Rattle.mp_wave.specs.ToggleWaves.{toggled_at}
 use Rattle.mp_simulation.specs.bits.Changes.{change_at}
 use Rattle.mp_simulation.specs.bits.ChangeLaws.{PortsChange, PortsBegin, PortsWait, InputsChange, RestsWithoutEvents, WavesGrow}

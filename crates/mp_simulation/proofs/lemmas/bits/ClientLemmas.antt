@@ -18,9 +18,9 @@ use Rattle.mp_model.specs.Levels.{built, inputs_by}
 use Rattle.mp_model.specs.Waves.{level, state}
 use Rattle.mp_model.proofs.BehaviourLemmas.{satisfies}
 use Rattle.mp_model.proofs.StepLemmas.{settle_steps}
-use Rattle.mp_kernel.specs.automata.Automata.{automaton_of, function_automaton}
-use Rattle.mp_kernel.specs.automata.Phases.{unserved, phase_of, phase_at, clients_in}
-use Rattle.mp_kernel.specs.automata.BitModules.{clients_of}
+use Rattle.mp_modules.specs.automata.Automata.{automaton_of, function_automaton}
+use Rattle.mp_modules.specs.automata.Phases.{unserved, phase_of, phase_at, clients_in}
+use Rattle.mp_modules.specs.automata.BitModules.{clients_of}
 
 abbrev HasClients : AnyModule → Memory → Type 0
 HasClients part m = clients_of m ≡ clients_in (automaton_of part) (phase_of part m)

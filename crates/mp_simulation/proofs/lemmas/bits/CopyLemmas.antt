@@ -7,7 +7,7 @@ use Rattle.std.proofs.lemmas.Bool.Decides.{nat_tests}
 use Rattle.std.proofs.lemmas.Grind.{flat_map-append}
 use Rattle.std.proofs.Math.ListN.{get_or-eq_default}
 use Rattle.mp_netlist.specs.Circuit.{Circuit}
-use Rattle.mp_kernel.specs.automata.Codes.{bit}
+use Rattle.mp_modules.specs.automata.Codes.{bit}
 use Rattle.mp_kernel.specs.declared.events.output_port.OutputPort.{OutputPort}
 use Rattle.mp_kernel.specs.events.Adding.{listed}
 use Rattle.mp_kernel.specs.events.Firing.{HasSlot, no_port, copy_at, entry_of, copied_from, scheduled, is_entry}

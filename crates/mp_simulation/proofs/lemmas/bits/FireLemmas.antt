@@ -6,9 +6,9 @@ use Rattle.std.proofs.lemmas.Bool.{eqb-true}
 use Rattle.std.proofs.lemmas.Bool.Decides.{nat_tests}
 use Rattle.std.proofs.Math.ListN.{get_or-eq_default}
 use Rattle.mp_wave.specs.Waveform.{Waveform}
-use Rattle.mp_kernel.specs.declared.automata.automaton_state.AutomatonState.{AutomatonState}
-use Rattle.mp_kernel.specs.declared.automata.toggles.Toggles.{Toggles}
-use Rattle.mp_kernel.specs.automata.Codes.{no_events}
+use Rattle.mp_modules.specs.declared.automata.automaton_state.AutomatonState.{AutomatonState}
+use Rattle.mp_modules.specs.declared.automata.toggles.Toggles.{Toggles}
+use Rattle.mp_modules.specs.automata.Codes.{no_events}
 use Rattle.mp_kernel.specs.declared.events.fanout_entry.FanoutEntry.{FanoutEntry}
 use Rattle.mp_kernel.specs.declared.events.output_ports.OutputPorts.{OutputPorts}
 use Rattle.mp_kernel.specs.events.Adding.{state_at, listed, IsAdding}

@@ -15,12 +15,12 @@ use Rattle.mp_netlist.proofs.DriverLemmas.{finds_ports, finds_only_ports, portle
 use Rattle.mp_model.specs.Evaluations.{delay_in}
 use Rattle.mp_model.specs.Levels.{built}
 use Rattle.mp_model.specs.Waves.{level, state}
-use Rattle.mp_kernel.specs.declared.automata.events.Events.{Events}
-use Rattle.mp_kernel.specs.declared.automata.phase.Phase.{Phase}
-use Rattle.mp_kernel.specs.declared.automata.reaction.Reaction.{Reaction}
-use Rattle.mp_kernel.specs.automata.Automata.{automaton_of}
-use Rattle.mp_kernel.specs.automata.Codes.{bit, no_events}
-use Rattle.mp_kernel.specs.automata.PortLevels.{ports_code, levels_code}
+use Rattle.mp_modules.specs.declared.automata.events.Events.{Events}
+use Rattle.mp_modules.specs.declared.automata.phase.Phase.{Phase}
+use Rattle.mp_modules.specs.declared.automata.reaction.Reaction.{Reaction}
+use Rattle.mp_modules.specs.automata.Automata.{automaton_of}
+use Rattle.mp_modules.specs.automata.Codes.{bit, no_events}
+use Rattle.mp_modules.specs.automata.PortLevels.{ports_code, levels_code}
 use Rattle.mp_kernel.specs.declared.events.fanout_entry.FanoutEntry.{FanoutEntry}
 use Rattle.mp_kernel.specs.declared.events.output_port.OutputPort.{OutputPort}
 use Rattle.mp_kernel.specs.declared.events.output_ports.OutputPorts.{OutputPorts}

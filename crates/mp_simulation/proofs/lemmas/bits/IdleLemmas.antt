@@ -7,16 +7,16 @@ use Rattle.mp_records.specs.declared.module_record.ModuleRecord.{ModuleRecord}
 use Rattle.mp_netlist.specs.Circuit.{Circuit, IsCircuit}
 use Rattle.mp_model.specs.Levels.{built}
 use Rattle.mp_model.specs.Waves.{state}
-use Rattle.mp_kernel.specs.declared.automata.automaton.Automaton.{Automaton}
-use Rattle.mp_kernel.specs.declared.automata.automaton.Automaton.TheVariants.{Sleep}
-use Rattle.mp_kernel.specs.declared.automata.events.Events.{Events}
-use Rattle.mp_kernel.specs.declared.automata.phase.Phase.{Phase}
-use Rattle.mp_kernel.specs.declared.automata.reaction.Reaction.{Reaction}
-use Rattle.mp_kernel.specs.automata.Automata.{automaton_of}
-use Rattle.mp_kernel.specs.automata.Phases.{phase_of}
-use Rattle.mp_kernel.specs.automata.Reactions.{react, quiet}
-use Rattle.mp_kernel.specs.automata.Codes.{no_events}
-use Rattle.mp_kernel.specs.automata.PortLevels.{ports_code}
+use Rattle.mp_modules.specs.declared.automata.automaton.Automaton.{Automaton}
+use Rattle.mp_modules.specs.declared.automata.automaton.Automaton.TheVariants.{Sleep}
+use Rattle.mp_modules.specs.declared.automata.events.Events.{Events}
+use Rattle.mp_modules.specs.declared.automata.phase.Phase.{Phase}
+use Rattle.mp_modules.specs.declared.automata.reaction.Reaction.{Reaction}
+use Rattle.mp_modules.specs.automata.Automata.{automaton_of}
+use Rattle.mp_modules.specs.automata.Phases.{phase_of}
+use Rattle.mp_modules.specs.automata.Reactions.{react, quiet}
+use Rattle.mp_modules.specs.automata.Codes.{no_events}
+use Rattle.mp_modules.specs.automata.PortLevels.{ports_code}
 use Rattle.mp_kernel.specs.events.Adding.{state_at, listed}
 use Rattle.mp_kernel.specs.events.Firing.{UnitState, reaction}
 use Rattle.mp_kernel.specs.events.LevelFlips.{flipped}

@@ -1,9 +1,9 @@
 -- The numbers of states within a unit.
 use Rattle.std.proofs.Common.{◌≡◌, ℕ, ◌+◌, ◌*◌, ◌/◌, ◌%◌, ◌<◌, ◌≤◌, Bool, true, false, refl, sym, ap, ◌∙◌, arith}
 use Rattle.std.specs.Prelude.{◌==◌}
-use Rattle.mp_kernel.specs.declared.automata.events.Events.{Events}
-use Rattle.mp_kernel.specs.automata.Codes.{bit, automaton_code, phase_code, events_code, no_events}
-use Rattle.mp_kernel.proofs.lemmas.automata.CodeLemmas.{phase_low, events_low, events_back, state_low}
+use Rattle.mp_modules.specs.declared.automata.events.Events.{Events}
+use Rattle.mp_modules.specs.automata.Codes.{bit, automaton_code, phase_code, events_code, no_events}
+use Rattle.mp_modules.proofs.lemmas.automata.CodeLemmas.{phase_low, events_low, events_back, state_low}
 use Rattle.mp_kernel.specs.events.Firing.{UnitState, number_of}
 
 -- the events whose bits make up a number

@@ -11,12 +11,12 @@ use Rattle.mp_model.specs.Levels.{built, input_by, inputs_by}
 use Rattle.mp_model.specs.Waves.{level, state}
 use Rattle.mp_model.proofs.BehaviourLemmas.{satisfies}
 use Rattle.mp_model.proofs.StepLemmas.{settle_steps}
-use Rattle.mp_kernel.specs.automata.Codes.{bit}
+use Rattle.mp_modules.specs.automata.Codes.{bit}
 use Rattle.mp_kernel.specs.events.Ports.{listed_at}
 use Rattle.mp_simulation.specs.bits.Changes.{late_change}
 use Rattle.mp_simulation.specs.bits.PortEvents.{source_of, AreHeard, PortsHaveEvents}
 use Rattle.mp_simulation.proofs.lemmas.bits.ChangeLemmas.{inputs_change}
-use Rattle.mp_kernel.proofs.lemmas.automata.LevelLemmas.{step_inputs}
+use Rattle.mp_modules.proofs.lemmas.automata.LevelLemmas.{step_inputs}
 
 -- a state holds the levels at its inputs
 pub held : (n : Circuit) → IsCircuit n → (m t : ℕ) (r : ModuleRecord) → module_at n m ≡ Some r → (state n m t).inputs ≡ input_levels (inputs_by n (level n) r t)

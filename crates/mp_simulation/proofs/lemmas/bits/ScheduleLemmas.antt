@@ -20,9 +20,9 @@ use Rattle.mp_records.specs.declared.ports.Output.{Output}
 use Rattle.mp_modules.specs.declared.memory.Memory.{Memory}
 use Rattle.mp_modules.specs.Memories.{output_of}
 use Rattle.mp_model.specs.Waves.{state}
-use Rattle.mp_kernel.specs.declared.automata.toggles.Toggles.{Toggles}
-use Rattle.mp_kernel.specs.automata.BitModules.{toggles_between}
-use Rattle.mp_kernel.specs.automata.Codes.{bit}
+use Rattle.mp_modules.specs.declared.automata.toggles.Toggles.{Toggles}
+use Rattle.mp_modules.specs.automata.BitModules.{toggles_between}
+use Rattle.mp_modules.specs.automata.Codes.{bit}
 use Rattle.mp_kernel.specs.declared.events.output_ports.OutputPorts.{OutputPorts}
 use Rattle.mp_kernel.specs.events.Adding.{listed}
 use Rattle.mp_kernel.specs.events.Firing.{UnitState, reaction, entry_at, entry_if, fired_at, ports_at, events_of, fired_by, is_entry, scheduled}

@@ -5,7 +5,7 @@ use Rattle.mp_modules.specs.Memories.{seen}
 use Rattle.mp_modules.specs.declared.storage.any_module.AnyModule.{AnyModule}
 use Rattle.mp_modules.specs.storage.AnyModules.{step, start}
 use Rattle.mp_modules.specs.storage.QuietAny.{stepped_stays}
-use Rattle.mp_kernel.proofs.lemmas.automata.LevelLemmas.{step_inputs}
+use Rattle.mp_modules.proofs.lemmas.automata.LevelLemmas.{step_inputs}
 use Rattle.mp_model.specs.Levels.{built, inputs_by}
 use Rattle.mp_model.specs.Waves.{level, state}
 use Rattle.mp_model.proofs.BehaviourLemmas.{satisfies}

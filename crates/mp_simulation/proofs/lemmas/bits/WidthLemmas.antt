@@ -28,7 +28,7 @@ use Rattle.mp_model.proofs.InputLemmas.{input_is}
 use Rattle.mp_model.proofs.LevelFitLemmas.{level_fits}
 use Rattle.mp_model.proofs.ModuleFitLemmas.{InputsFit, OutputsFit, param_below, step_fits, settle_fits}
 use Rattle.mp_model.proofs.StepLemmas.{settle_steps, by_toggle, by_select, by_call, by_arbiter}
-use Rattle.mp_kernel.specs.automata.BitModules.{AreBits, IsOfBits, IsBitState}
+use Rattle.mp_modules.specs.automata.BitModules.{AreBits, IsOfBits, IsBitState}
 use Rattle.mp_simulation.specs.bits.Widths.{HasBits, HaveBits}
 use Rattle.mp_simulation.proofs.lemmas.bits.StayLemmas.{states_stay}
 use Rattle.mp_simulation.proofs.lemmas.bits.PortEventLemmas.{held}

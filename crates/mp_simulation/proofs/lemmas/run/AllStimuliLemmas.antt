@@ -15,7 +15,7 @@ use Rattle.mp_netlist.proofs.DriverLemmas.{stimulus_drives}
 use Rattle.mp_model.specs.Levels.{initial_of, stimulus_level, driven_level}
 use Rattle.mp_model.specs.Waves.{level, state}
 use Rattle.mp_model.proofs.BehaviourLemmas.{satisfies}
-use Rattle.mp_kernel.specs.automata.Codes.{bit}
+use Rattle.mp_modules.specs.automata.Codes.{bit}
 use Rattle.mp_simulation.specs.bits.Changes.{change_at}
 use Rattle.mp_simulation.specs.bits.WholeRuns.{is_stimulus}
 use Rattle.mp_simulation.specs.units.DataLevels.{is_data}

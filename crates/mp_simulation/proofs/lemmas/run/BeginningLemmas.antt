@@ -21,9 +21,9 @@ use Rattle.mp_model.specs.Levels.{initial_of}
 use Rattle.mp_model.specs.Waves.{level, state}
 use Rattle.mp_model.proofs.EndsLemmas.{first_level}
 use Rattle.mp_model.proofs.SlotLemmas.{slot_within}
-use Rattle.mp_kernel.specs.declared.automata.automaton.Automaton.TheVariants.{Sleep}
-use Rattle.mp_kernel.specs.automata.Codes.{bit}
-use Rattle.mp_kernel.specs.automata.PortLevels.{levels_code}
+use Rattle.mp_modules.specs.declared.automata.automaton.Automaton.TheVariants.{Sleep}
+use Rattle.mp_modules.specs.automata.Codes.{bit}
+use Rattle.mp_modules.specs.automata.PortLevels.{levels_code}
 use Rattle.mp_kernel.specs.declared.events.output_port.OutputPort.{OutputPort}
 use Rattle.mp_kernel.specs.declared.events.output_ports.OutputPorts.{OutputPorts}
 use Rattle.mp_kernel.specs.declared.events.fanout_entry.FanoutEntry.{FanoutEntry}

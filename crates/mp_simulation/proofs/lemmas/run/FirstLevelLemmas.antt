@@ -5,8 +5,8 @@ use Rattle.std.proofs.lemmas.List.{get_or_append_left, get_or_push, length_push}
 use Rattle.mp_records.specs.declared.module_record.ModuleRecord.{ModuleRecord}
 use Rattle.mp_netlist.specs.Circuit.{Circuit, module_at}
 use Rattle.mp_model.specs.Waves.{state}
-use Rattle.mp_kernel.specs.declared.automata.port_levels.PortLevels.{PortLevels}
-use Rattle.mp_kernel.specs.automata.PortLevels.{levels_code}
+use Rattle.mp_modules.specs.declared.automata.port_levels.PortLevels.{PortLevels}
+use Rattle.mp_modules.specs.automata.PortLevels.{levels_code}
 use Rattle.mp_kernel.specs.events.LevelFlips.{levels_at}
 use Rattle.mp_simulation.specs.run.Settling.{AreFirstLevels}
 

@@ -9,7 +9,7 @@ use Rattle.mp_records.specs.declared.module_record.ModuleRecord.{ModuleRecord}
 use Rattle.mp_records.specs.Inputs.{input_at}
 use Rattle.mp_netlist.specs.Circuit.{Circuit, wire_at, width_of, module_width}
 use Rattle.mp_model.specs.Levels.{built}
-use Rattle.mp_kernel.specs.datapath.DataParts.{data_part, any_part}
+use Rattle.mp_modules.specs.storage.DataParts.{data_part, any_part}
 use Rattle.mp_simulation.specs.run.Widths.{is_bit_module}
 
 by_kind : (kind : Kind) (params : List ℕ) (width first : ℕ) → (width_from kind first == 1) ≡ false → any_part (data_part (any_part_of kind params width)) ≡ any_part_of kind params width

@@ -20,7 +20,7 @@ use Rattle.mp_model.specs.Levels.{initial_of, driven_level, port_level}
 use Rattle.mp_model.specs.Evaluations.{delay_in}
 use Rattle.mp_model.specs.Waves.{level, state}
 use Rattle.mp_model.proofs.BehaviourLemmas.{satisfies}
-use Rattle.mp_kernel.specs.automata.Codes.{bit}
+use Rattle.mp_modules.specs.automata.Codes.{bit}
 use Rattle.mp_kernel.specs.declared.events.output_port.OutputPort.{OutputPort}
 use Rattle.mp_kernel.specs.events.Firing.{HasSlot, HaveSlots, no_port}
 use Rattle.mp_simulation.specs.bits.Schedules.{output_port_of, number_of as wire_number}

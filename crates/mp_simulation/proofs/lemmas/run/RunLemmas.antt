@@ -11,7 +11,7 @@ use Rattle.mp_netlist.specs.Circuit.{Circuit, IsCircuit, wire_at}
 use Rattle.mp_netlist.specs.Drivers.{driver}
 use Rattle.mp_netlist.proofs.DriverLemmas.{leaves_no_driver}
 use Rattle.mp_model.specs.Waves.{level, slot_wave, AreWavesOf}
-use Rattle.mp_kernel.specs.automata.Codes.{bit}
+use Rattle.mp_modules.specs.automata.Codes.{bit}
 use Rattle.mp_kernel.specs.events.Adding.{listed}
 use Rattle.mp_kernel.specs.events.Toggling.{wave_at}
 use Rattle.mp_simulation.specs.declared.bits.simulation.Simulation.{Simulation}

@@ -14,15 +14,15 @@ use Rattle.mp_netlist.specs.Circuit.{Circuit, IsCircuit, module_at}
 use Rattle.mp_netlist.specs.Drivers.{driver}
 use Rattle.mp_model.specs.Levels.{built}
 use Rattle.mp_model.specs.Waves.{state}
-use Rattle.mp_kernel.specs.automata.Codes.{bit}
+use Rattle.mp_modules.specs.automata.Codes.{bit}
 use Rattle.mp_kernel.specs.declared.events.output_port.OutputPort.{OutputPort}
 use Rattle.mp_kernel.specs.declared.events.output_ports.OutputPorts.{OutputPorts}
 use Rattle.mp_simulation.specs.bits.Beginnings.{is_first}
 use Rattle.mp_kernel.specs.declared.datapath.level_change.LevelChange.{LevelChange}
-use Rattle.mp_kernel.specs.declared.datapath.data_part.DataPart.{DataPart}
+use Rattle.mp_modules.specs.declared.storage.data_part.DataPart.{DataPart}
 use Rattle.mp_kernel.specs.declared.datapath.data_module.DataModule.{DataModule}
-use Rattle.mp_kernel.specs.declared.datapath.output_levels.OutputLevels.{OutputLevels}
-use Rattle.mp_kernel.specs.datapath.DataParts.{data_part, outputs_in}
+use Rattle.mp_modules.specs.declared.storage.output_levels.OutputLevels.{OutputLevels}
+use Rattle.mp_modules.specs.storage.DataParts.{data_part, outputs_in}
 use Rattle.mp_kernel.specs.datapath.LevelWheels.{scheduled, entry_if}
 use Rattle.mp_kernel.specs.datapath.DataFiring.{place_at, module_at as data_module_at, no_module}
 use Rattle.mp_simulation.specs.units.DataLevels.{is_data, changes_of}

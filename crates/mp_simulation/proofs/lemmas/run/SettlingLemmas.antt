@@ -30,8 +30,8 @@ use Rattle.mp_model.proofs.EndsLemmas.{first_level}
 use Rattle.mp_model.specs.Evaluations.{delay_in}
 use Rattle.mp_model.specs.Waves.{level, state}
 use Rattle.mp_model.proofs.SlotLemmas.{some_within}
-use Rattle.mp_kernel.specs.declared.automata.automaton_state.AutomatonState.{AutomatonState}
-use Rattle.mp_kernel.specs.automata.Codes.{bit}
+use Rattle.mp_modules.specs.declared.automata.automaton_state.AutomatonState.{AutomatonState}
+use Rattle.mp_modules.specs.automata.Codes.{bit}
 use Rattle.mp_kernel.specs.events.Adding.{state_at, listed}
 use Rattle.mp_kernel.specs.events.Firing.{HasSlot, HaveSlots, no_port, is_entry, scheduled, number_of}
 use Rattle.mp_kernel.proofs.lemmas.events.EntryLemmas.{schedules_each}

@@ -24,14 +24,14 @@ use Rattle.mp_model.specs.Waves.{level, state}
 use Rattle.mp_model.proofs.EndsLemmas.{first_level}
 use Rattle.mp_model.proofs.InputLemmas.{input_is}
 use Rattle.mp_model.proofs.SlotLemmas.{slot_within}
-use Rattle.mp_kernel.specs.automata.Codes.{bit}
+use Rattle.mp_modules.specs.automata.Codes.{bit}
 use Rattle.mp_kernel.specs.events.Firing.{HasSlot, HaveSlots, copy_at}
 use Rattle.mp_simulation.specs.bits.Changes.{change_at, late_change}
 use Rattle.mp_simulation.specs.bits.Copies.{AreChained}
 use Rattle.mp_simulation.specs.bits.Beginnings.{is_first}
 use Rattle.mp_simulation.proofs.lemmas.bits.ChangeLemmas.{ports_begin, ports_wait}
 use Rattle.mp_kernel.specs.declared.datapath.data_module.DataModule.{DataModule}
-use Rattle.mp_kernel.specs.datapath.DataParts.{any_part}
+use Rattle.mp_modules.specs.storage.DataParts.{any_part}
 use Rattle.mp_kernel.specs.datapath.DataModules.{CanFire}
 use Rattle.mp_kernel.specs.datapath.DataFiring.{place_at, module_at as data_module_at, no_module}
 use Rattle.mp_simulation.specs.declared.units.netlist_simulation.NetlistSimulation.{NetlistSimulation}

@@ -17,7 +17,7 @@ use Rattle.mp_model.specs.Evaluations.{AreRising}
 use Rattle.mp_model.specs.Waves.{level, state}
 use Rattle.mp_model.proofs.BehaviourLemmas.{satisfies}
 use Rattle.mp_model.proofs.TrackLemmas.{level_from-now}
-use Rattle.mp_kernel.specs.automata.Codes.{bit}
+use Rattle.mp_modules.specs.automata.Codes.{bit}
 use Rattle.mp_simulation.specs.bits.Changes.{change_at}
 use Rattle.mp_simulation.specs.bits.WholeRuns.{is_stimulus}
 use Rattle.mp_simulation.specs.run.Stimuli.{set_changes}

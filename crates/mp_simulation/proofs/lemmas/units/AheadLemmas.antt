@@ -6,7 +6,7 @@ use Rattle.std.proofs.lemmas.Bool.{eqb-true, eqb-false}
 use Rattle.std.proofs.lemmas.Bool.Decides.{nat_tests}
 use Rattle.std.proofs.Math.ListN.{get_or-eq_default}
 use Rattle.mp_netlist.specs.Circuit.{Circuit}
-use Rattle.mp_kernel.specs.automata.Codes.{bit}
+use Rattle.mp_modules.specs.automata.Codes.{bit}
 use Rattle.mp_kernel.specs.declared.events.output_port.OutputPort.{OutputPort}
 use Rattle.mp_simulation.specs.bits.Changes.{late_change}
 use Rattle.mp_kernel.specs.declared.datapath.level_change.LevelChange.{LevelChange}

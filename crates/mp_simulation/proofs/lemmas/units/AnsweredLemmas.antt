@@ -13,7 +13,7 @@ use Rattle.mp_netlist.specs.Drivers.{driver}
 use Rattle.mp_netlist.proofs.DriverLemmas.{finds_only_ports}
 use Rattle.mp_model.specs.Evaluations.{delay_in}
 use Rattle.mp_model.proofs.EvaluationLemmas.{delay_positive}
-use Rattle.mp_kernel.specs.automata.Codes.{bit}
+use Rattle.mp_modules.specs.automata.Codes.{bit}
 use Rattle.mp_kernel.specs.declared.events.output_port.OutputPort.{OutputPort}
 use Rattle.mp_kernel.proofs.lemmas.events.EntryLemmas.{schedules_each}
 use Rattle.mp_kernel.specs.events.Adding.{listed}

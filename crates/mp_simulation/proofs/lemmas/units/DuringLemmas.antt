@@ -15,7 +15,7 @@ use Rattle.mp_netlist.specs.Circuit.{Circuit, IsCircuit, module_at, Drives}
 use Rattle.mp_netlist.specs.Drivers.{driver, is_port}
 use Rattle.mp_netlist.proofs.DriverLemmas.{finds_only_ports, portless_is_undriven, driven_stands}
 use Rattle.mp_model.specs.Evaluations.{delay_in}
-use Rattle.mp_kernel.specs.automata.Codes.{bit}
+use Rattle.mp_modules.specs.automata.Codes.{bit}
 use Rattle.mp_kernel.specs.events.Adding.{listed}
 use Rattle.mp_kernel.specs.events.Firing.{is_entry, scheduled}
 use Rattle.mp_kernel.proofs.lemmas.events.EntryLemmas.{schedules_each}

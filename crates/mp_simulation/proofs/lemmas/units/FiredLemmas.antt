@@ -7,8 +7,8 @@ use Rattle.mp_records.specs.declared.ports.Output.{Output}
 use Rattle.mp_records.specs.declared.module_record.ModuleRecord.{ModuleRecord}
 use Rattle.mp_records.specs.Outputs.{output_at, delay_of}
 use Rattle.mp_netlist.specs.Circuit.{Circuit}
-use Rattle.mp_kernel.specs.declared.automata.toggles.Toggles.{Toggles}
-use Rattle.mp_kernel.specs.automata.Codes.{bit}
+use Rattle.mp_modules.specs.declared.automata.toggles.Toggles.{Toggles}
+use Rattle.mp_modules.specs.automata.Codes.{bit}
 use Rattle.mp_kernel.specs.events.Adding.{listed}
 use Rattle.mp_kernel.specs.events.Firing.{entry_at, entry_if, fired_at, no_port, is_entry}
 use Rattle.mp_simulation.specs.bits.Schedules.{number_of, output_port_of}

@@ -17,8 +17,8 @@ use Rattle.mp_netlist.specs.Circuit.{Circuit, IsCircuit, module_at, Drives}
 use Rattle.mp_netlist.specs.Drivers.{driver}
 use Rattle.mp_netlist.proofs.DriverLemmas.{finds_ports, finds_only_ports}
 use Rattle.mp_model.specs.Waves.{state}
-use Rattle.mp_kernel.specs.automata.BitModules.{toggles_between}
-use Rattle.mp_kernel.specs.automata.Codes.{bit}
+use Rattle.mp_modules.specs.automata.BitModules.{toggles_between}
+use Rattle.mp_modules.specs.automata.Codes.{bit}
 use Rattle.mp_kernel.specs.declared.events.fanout_entry.FanoutEntry.{FanoutEntry}
 use Rattle.mp_kernel.specs.declared.events.output_port.OutputPort.{OutputPort}
 use Rattle.mp_kernel.specs.declared.events.output_ports.OutputPorts.{OutputPorts}
@@ -35,8 +35,8 @@ use Rattle.mp_simulation.proofs.lemmas.bits.ScheduleLemmas.{few_ports, same_part
 use Rattle.mp_kernel.specs.declared.datapath.level_change.LevelChange.{LevelChange}
 use Rattle.mp_kernel.specs.declared.datapath.data_ports.DataPorts.{DataPorts}
 use Rattle.mp_kernel.specs.declared.datapath.data_module.DataModule.{DataModule}
-use Rattle.mp_kernel.specs.declared.datapath.output_levels.OutputLevels.{OutputLevels}
-use Rattle.mp_kernel.specs.datapath.DataParts.{any_part, outputs_in}
+use Rattle.mp_modules.specs.declared.storage.output_levels.OutputLevels.{OutputLevels}
+use Rattle.mp_modules.specs.storage.DataParts.{any_part, outputs_in}
 use Rattle.mp_kernel.specs.datapath.LevelWheels.{entry_at as level_entry_at, entry_if as level_entry_if}
 use Rattle.mp_kernel.specs.datapath.DataModules.{CanFire, stepped, outputs_after, differing}
 use Rattle.mp_kernel.specs.datapath.DataFiring.{place_at, module_at as data_module_at, no_module, ArePlaced, HasKept, HaveStepped, events_in, changes_in, fired_by, changed_by}

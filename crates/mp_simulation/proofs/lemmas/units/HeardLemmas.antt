@@ -8,7 +8,7 @@ use Rattle.mp_netlist.specs.declared.driver.Driver.TheVariants.{Port}
 use Rattle.mp_netlist.specs.Circuit.{Circuit, IsCircuit}
 use Rattle.mp_netlist.specs.Drivers.{driver}
 use Rattle.mp_model.proofs.EvaluationLemmas.{delay_positive}
-use Rattle.mp_kernel.specs.automata.Codes.{bit}
+use Rattle.mp_modules.specs.automata.Codes.{bit}
 use Rattle.mp_kernel.specs.events.Adding.{listed}
 use Rattle.mp_simulation.specs.bits.Changes.{change_at, late_change}
 use Rattle.mp_simulation.specs.bits.Simulators.{next_slot, CanApply}

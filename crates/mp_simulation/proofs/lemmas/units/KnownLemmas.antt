@@ -11,7 +11,7 @@ use Rattle.mp_netlist.proofs.DriverLemmas.{finds_only_ports}
 use Rattle.mp_model.specs.Evaluations.{delay_in}
 use Rattle.mp_model.specs.Levels.{initial_of}
 use Rattle.mp_model.specs.Waves.{level}
-use Rattle.mp_kernel.specs.automata.Codes.{bit}
+use Rattle.mp_modules.specs.automata.Codes.{bit}
 use Rattle.mp_kernel.specs.events.Adding.{listed}
 use Rattle.mp_simulation.specs.bits.Changes.{change_at, is_decided, late_change}
 use Rattle.mp_simulation.specs.bits.Simulators.{slot_at}

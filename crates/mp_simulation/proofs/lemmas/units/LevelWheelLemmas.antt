@@ -7,7 +7,7 @@ use Rattle.std.proofs.lemmas.Bool.Decides.{nat_tests}
 use Rattle.std.proofs.lemmas.List.{length-set, set_past}
 use Rattle.std.proofs.lemmas.List.Elements.{All-head, All-tail, All-push}
 use Rattle.std.proofs.lemmas.List.Sums.{sum_by-append, sum_by-cons}
-use Rattle.mp_kernel.specs.automata.Codes.{bit}
+use Rattle.mp_modules.specs.automata.Codes.{bit}
 use Rattle.mp_kernel.specs.declared.datapath.level_change.LevelChange.{LevelChange}
 use Rattle.mp_kernel.specs.datapath.LevelWheels.{with_entry, scheduled}
 use Rattle.mp_simulation.specs.units.DataLevels.{changes_of}

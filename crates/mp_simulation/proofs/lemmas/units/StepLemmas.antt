@@ -14,9 +14,9 @@ use Rattle.mp_model.specs.Levels.{built, input_by, inputs_by}
 use Rattle.mp_model.specs.Waves.{level, state}
 use Rattle.mp_model.proofs.BehaviourLemmas.{satisfies}
 use Rattle.mp_model.proofs.StepLemmas.{step_padded}
-use Rattle.mp_kernel.specs.declared.automata.events.Events.{Events}
-use Rattle.mp_kernel.specs.automata.BitModules.{events_in}
-use Rattle.mp_kernel.specs.automata.Codes.{no_events}
+use Rattle.mp_modules.specs.declared.automata.events.Events.{Events}
+use Rattle.mp_modules.specs.automata.BitModules.{events_in}
+use Rattle.mp_modules.specs.automata.Codes.{no_events}
 use Rattle.mp_kernel.specs.declared.events.fanout_entry.FanoutEntry.{FanoutEntry}
 use Rattle.mp_kernel.specs.events.Adding.{listed}
 use Rattle.mp_kernel.specs.events.Ports.{HasPorts}
@@ -28,11 +28,11 @@ use Rattle.mp_simulation.proofs.lemmas.bits.PortEventLemmas.{held, same_head, sa
 use Rattle.mp_simulation.proofs.lemmas.bits.NumberLemmas.{no_events_when}
 use Rattle.mp_kernel.specs.declared.datapath.data_module.DataModule.{DataModule}
 use Rattle.mp_kernel.specs.datapath.Levels.{level_at}
-use Rattle.mp_kernel.specs.declared.datapath.data_part.DataPart.{DataPart}
-use Rattle.mp_kernel.specs.declared.datapath.output_levels.OutputLevels.{OutputLevels}
-use Rattle.mp_kernel.specs.datapath.DataParts.{any_part, outputs_in, next_outputs, memory_with}
+use Rattle.mp_modules.specs.declared.storage.data_part.DataPart.{DataPart}
+use Rattle.mp_modules.specs.declared.storage.output_levels.OutputLevels.{OutputLevels}
+use Rattle.mp_modules.specs.storage.DataParts.{any_part, outputs_in, next_outputs, memory_with}
 use Rattle.mp_kernel.specs.datapath.DataModules.{input_of, inputs_of, outputs_after, memory_of}
-use Rattle.mp_kernel.proofs.lemmas.datapath.PartLemmas.{first_step, later_step, told_by_outputs}
+use Rattle.mp_modules.proofs.lemmas.storage.PartLemmas.{first_step, later_step, told_by_outputs}
 use Rattle.mp_simulation.specs.units.DataLevels.{late_level}
 use Rattle.mp_simulation.specs.units.DataSeats.{number_at}
 

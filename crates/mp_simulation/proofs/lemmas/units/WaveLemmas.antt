@@ -8,7 +8,7 @@ use Rattle.std.proofs.lemmas.List.Elements.{All-head, All-tail}
 use Rattle.std.proofs.lemmas.List.Sums.{sum_by-cons, sum_by_more_le}
 use Rattle.mp_wave.specs.Waveform.{Waveform, held_from, changes_after, wave_upto}
 use Rattle.mp_wave.specs.Building.{Building}
-use Rattle.mp_kernel.specs.automata.Codes.{bit}
+use Rattle.mp_modules.specs.automata.Codes.{bit}
 use Rattle.mp_simulation.proofs.lemmas.bits.ChangeLemmas.{last_is}
 use Rattle.mp_kernel.specs.declared.datapath.level_change.LevelChange.{LevelChange}
 use Rattle.mp_simulation.specs.units.DataLevels.{changes_of}

@@ -1,6 +1,6 @@
 use Rattle.std.proofs.Common.{◌≡◌, ℕ, nat_lt}
 use Rattle.std.specs.Prelude.{◌&&◌}
-use Rattle.mp_kernel.specs.automata.Codes.{bit}
+use Rattle.mp_modules.specs.automata.Codes.{bit}
 use Rattle.mp_kernel.specs.events.Adding.{listed}
 use Rattle.mp_partition.specs.runs.Marks.{is_marked}
 use Rattle.mp_engine.specs.messages.Lines.{parts_of}

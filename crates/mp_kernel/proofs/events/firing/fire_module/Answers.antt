@@ -1,5 +1,5 @@
 use Rattle.std.proofs.Common.{Result, Ok, Err, OnOk, ap, ◌∙◌}
-use Rattle.mp_kernel.specs.declared.automata.transition.Transition.{Transition}
+use Rattle.mp_modules.specs.declared.automata.transition.Transition.{Transition}
 use Rattle.mp_kernel.proofs.lemmas.events.AddingLemmas.{found}
 use Rattle.mp_kernel.proofs.lemmas.events.FiringLemmas.{flips_one}
 use Rattle.mp_kernel.proofs.events.firing.fire_module.Goals as goal

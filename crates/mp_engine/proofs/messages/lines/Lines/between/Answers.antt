@@ -1,7 +1,7 @@
 use Rattle.std.proofs.Common.{◌≡◌, ◌+◌, ◌<◌, true, List, ℕ, Bool, sym, ap, ◌∙◌, subst, length}
 use Rattle.std.proofs.lemmas.List.{length_push}
 use Rattle.mp_netlist.specs.Circuit.{Circuit}
-use Rattle.mp_kernel.specs.automata.Codes.{bit}
+use Rattle.mp_modules.specs.automata.Codes.{bit}
 use Rattle.mp_partition.specs.runs.Marks.{is_marked}
 use Rattle.mp_partition.specs.regions.Regions.{partition_of}
 use Rattle.mp_partition.specs.regions.Divisions.{heard_by}

@@ -3,7 +3,7 @@ use Rattle.std.proofs.lemmas.Bool.{eq-eqb, eqb-true, true≢false}
 use Rattle.std.proofs.lemmas.List.{get_or_default}
 use Rattle.mp_modules.specs.declared.storage.any_module.AnyModule.{AnyModule}
 use Rattle.mp_netlist.specs.Circuit.{Circuit, IsCircuit, IsModule}
-use Rattle.mp_kernel.specs.datapath.DataParts.{data_part}
+use Rattle.mp_modules.specs.storage.DataParts.{data_part}
 use Rattle.mp_simulation.specs.units.DataSeats.{bit_ports_of, level_port_of}
 use Rattle.mp_active.specs.steps.Seating.{IsBitSeated, HasTakenSeat}
 use Rattle.mp_redo.specs.rerun.Numbered.{ports_at}

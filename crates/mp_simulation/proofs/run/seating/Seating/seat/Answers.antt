@@ -1,7 +1,7 @@
 use Rattle.std.proofs.Common.{◌≡◌, length, rules, ◌++◌, ◌∷◌, [], Some, sym, ap, ◌∙◌}
 use Rattle.mp_model.proofs.BuiltLemmas.{width_of_module}
-use Rattle.mp_kernel.specs.declared.datapath.output_levels.OutputLevels.{OutputLevels}
-use Rattle.mp_kernel.specs.datapath.DataParts.{data_part, outputs_in}
+use Rattle.mp_modules.specs.declared.storage.output_levels.OutputLevels.{OutputLevels}
+use Rattle.mp_modules.specs.storage.DataParts.{data_part, outputs_in}
 use Rattle.mp_kernel.specs.datapath.LevelWheels.{scheduled, entry_if}
 use Rattle.mp_simulation.proofs.lemmas.run.SeatingLemmas.{seats_data}
 use Rattle.mp_simulation.proofs.run.seating.Seating.seat.Goals as goal
