@@ -1,5 +1,5 @@
 -- A netlist without where it lies in memory.
-use Rattle.std.specs.Prelude.{◌≡◌, ℕ, ◌<◌, ◌≤◌, List, [], Option, Some, None, true, All, IsSome, IfSome, IsTrue, length, slice_index_or, if◌then◌else◌, option_and_then}
+use Rattle.std.specs.Prelude.{◌≡◌, ℕ, ◌<◌, ◌≤◌, List, [], Option, Some, None, true, All, IsSome, IfSome, IsTrue, length, slice_index_or, option_and_then}
 use Rattle.mp_modules.specs.Kinds.{input_count, output_count, width_from, input_width, output_width, are_params}
 use Rattle.mp_records.specs.declared.ports.Input.{Input}
 use Rattle.mp_records.specs.declared.wire_record.WireRecord.{WireRecord}

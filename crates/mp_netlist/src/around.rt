@@ -21,7 +21,7 @@ impl Model for Around {
 }
 
 impl Around {
-    ghost use Rattle.std.specs.Prelude.{◌≡◌, ◌==◌, ◌<◌, ◌^◌, ◌+◌, ◌++◌, ◌∷◌, [], ℕ, true, false, None, OnOk, OnErr, IfOk, IfSome, length};
+    ghost use Rattle.std.specs.Prelude.{◌≡◌, ◌==◌, ◌<◌, ◌+◌, ◌++◌, ◌∷◌, [], ℕ, true, false, None, OnOk, OnErr, IfOk, length};
     ghost use Rattle.std.specs.List.{slice_get, list_any};
     ghost use Rattle.std.specs.Option.{option_copied};
     ghost use Rattle.mp_records.specs.declared.ports.Input.{Input as InputPort};

@@ -55,7 +55,7 @@ impl Model for Netlist {
 }
 
 impl Netlist {
-    ghost use Rattle.std.specs.Prelude.{◌≡◌, ◌≤◌, ◌<◌, ℕ, length, option_map, IfSome, IfOk, IfErr, IsOk, ◌↔◌};
+    ghost use Rattle.std.specs.Prelude.{◌≡◌, ◌≤◌, ◌<◌, length, option_map, IfSome, IfOk, IfErr, IsOk, ◌↔◌};
     ghost use Rattle.std.specs.Option.{option_copied};
     ghost use Rattle.mp_netlist.specs.declared.new_error.NewError.TheVariants.{BadHorizon};
     ghost use Rattle.mp_netlist.specs.Limits.{max_horizon, max_wires, max_modules, max_bundles, horizon_limit};

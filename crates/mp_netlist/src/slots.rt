@@ -1,5 +1,5 @@
 //! Slots of things.
-ghost use Rattle.std.specs.Prelude.{◌≡◌, ◌<◌, ◌^◌, ◌++◌, ◌∷◌, [], Option, None, Some, IfOk, OnOk, OnErr, length, slice_set, vec_len};
+ghost use Rattle.std.specs.Prelude.{◌≡◌, ◌<◌, ◌^◌, ◌++◌, ◌∷◌, [], Option, None, Some, IfOk, OnOk, OnErr, length, slice_set};
 ghost use Rattle.std.specs.Option.{option_copied};
 ghost use Rattle.mp_netlist.specs.Slots.{slot_at, thing_in};
 

@@ -66,7 +66,7 @@ impl<R: Named> Model for Table<R> {
 }
 
 impl<R: Named> Table<R> {
-    ghost use Rattle.std.specs.Prelude.{◌≡◌, ◌<◌, ◌≤◌, ◌^◌, ◌++◌, ◌∷◌, [], None, Some, OnOk, OnErr, IfOk, length, slice_set, option_map, string_bytes};
+    ghost use Rattle.std.specs.Prelude.{◌≡◌, ◌<◌, ◌≤◌, ◌^◌, ◌++◌, ◌∷◌, [], None, Some, OnOk, OnErr, IfOk, length, slice_set, option_map};
     ghost use Rattle.std.specs.Option.{option_copied};
     ghost use Rattle.mp_netlist.specs.Slots.{slot_at, number_named};
     ghost use Rattle.mp_netlist.specs.Tables.{KeepsNames};

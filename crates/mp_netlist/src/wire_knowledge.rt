@@ -6,7 +6,7 @@ ghost use Rattle.mp_netlist.specs.DrivenWires.{may_be_driven};
 
 use crate::around::Around;
 use mp_records::{ModuleRecord, Output, WireId};
-use std::alloc::{AllocError, Global};
+use std::alloc::AllocError;
 
 /// What is known of the wires that modules are at.
 #[derive(Drop)]
@@ -18,7 +18,7 @@ pub enum WireKnowledge {
 }
 
 impl WireKnowledge {
-    ghost use Rattle.std.specs.Prelude.{◌≡◌, ◌<◌, ◌^◌, ◌⊎◌, ℕ, true, false, None, IsTrue, IfSome, OnOk, length};
+    ghost use Rattle.std.specs.Prelude.{◌≡◌, ◌<◌, ◌⊎◌, ℕ, true, false, None, IfSome, OnOk, length};
     ghost use Rattle.mp_records.specs.declared.module_record.ModuleRecord.{ModuleRecord as Record};
     ghost use Rattle.mp_records.specs.NamedWires.{module_names};
     ghost use Rattle.mp_netlist.specs.Drivers.{port_from};

@@ -11,7 +11,7 @@ use mp_records::{
 use std::alloc::AllocError;
 
 impl Netlist {
-    ghost use Rattle.std.specs.Prelude.{◌≡◌, ◌<◌, ◌^◌, [], ◌∷◌, ◌++◌, Ok, None, Some, length, IfOk, IfErr, OnOk, OnErr, All, map, option_map, ℕ};
+    ghost use Rattle.std.specs.Prelude.{◌≡◌, ◌<◌, ◌^◌, Ok, None, IfErr, OnOk, OnErr, All, map, option_map, ℕ};
     ghost use Rattle.mp_records.specs.declared.edit.Edit.TheVariants.{Single};
     ghost use Rattle.mp_records.specs.declared.single_edit.SingleEdit.TheVariants.{AddModule};
     ghost use Rattle.mp_netlist.specs.Circuit.{Circuit, IsCircuit, wire_at, module_at, wire_named, module_named, bundle_named};

@@ -4,7 +4,7 @@ use crate::netlist::check::check_batch;
 use mp_records::{Batch, Edit, EditError, SingleEdit};
 
 impl Netlist {
-    ghost use Rattle.std.specs.Prelude.{◌≡◌, ◌⊎◌, ◌≤◌, Ok, Err, None, length, IfOk, IfErr, OnOk};
+    ghost use Rattle.std.specs.Prelude.{◌≡◌, ◌⊎◌, ◌≤◌, Ok, Err, length, IfOk, IfErr, OnOk};
     ghost use Rattle.mp_records.specs.declared.edit_error.EditError.TheVariants.{OutOfMemory};
     ghost use Rattle.mp_records.specs.declared.edit.Edit.TheVariants.{Single, Batch as Together};
     ghost use Rattle.mp_netlist.specs.Limits.{max_batch};

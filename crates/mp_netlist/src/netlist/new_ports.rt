@@ -19,7 +19,7 @@ pub(crate) struct NewPorts {
 }
 
 impl Netlist {
-    ghost use Rattle.std.specs.Prelude.{◌≡◌, ◌≤◌, ◌&&◌, is_some, length, map, IfSome, if◌then◌else◌};
+    ghost use Rattle.std.specs.Prelude.{◌≡◌, ◌≤◌, ◌&&◌, is_some, length, map, IfSome};
     ghost use Rattle.std.specs.List.{list_all};
     ghost use Rattle.mp_modules.specs.Kinds.{width_from};
     ghost use Rattle.mp_netlist.specs.Edits.{are_distinct, stands, wire_id, inputs_stand, inputs_fit, outputs_fit, is_undriven, driven_names, new_width};
