@@ -29,6 +29,8 @@ impl<'a> Work for LonePart<'a> {
 
     ghost enters = { λ part m from to. Unit {0} };
 
+    ghost passes = { λ part m from to. ⊥ };
+
     fn weight(&self) -> usize {
         self.size
     }

@@ -1,4 +1,4 @@
--- Who may enter a gate.
+-- Who may enter a gate, and who has passed it.
 use Rattle.std.specs.Prelude.{◌≡◌, ℕ, Bool, true, List, All}
 
 -- those who enter may do so
@@ -12,3 +12,7 @@ AreAllowed enters may tasks = All (λ task. IsAllowed (enters task) may) tasks
 -- any module may enter, for any units
 abbrev pub IsOpen : (ℕ → ℕ → ℕ → Bool) → Type 0
 IsOpen may = (m from to : ℕ) → may m from to ≡ true
+
+-- each of these has passed
+abbrev pub HavePassed : (ℕ → ℕ → ℕ → Type 0) → (ℕ → ℕ → ℕ → Bool) → Type 0
+HavePassed passes passed = (m from to : ℕ) → passes m from to → passed m from to ≡ true

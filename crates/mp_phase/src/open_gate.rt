@@ -13,5 +13,7 @@ impl Gate for OpenGate {
 
     ghost may = { λ gate m from to. true };
 
+    ghost passed = { λ gate m from to. true };
+
     fn enter<R: Wait>(&self, _rt: &R, _module: ModuleId, _from: u32, _to: u32) {}
 }

@@ -1,7 +1,7 @@
 //! What a crew can be given to do.
 
-ghost use Rattle.std.specs.Prelude.{IfOk};
-ghost use Rattle.mp_phase.specs.Allowed.{IsAllowed};
+ghost use Rattle.std.specs.Prelude.{IfOk, OnOk};
+ghost use Rattle.mp_phase.specs.Allowed.{IsAllowed, HavePassed};
 
 use crate::gate::Gate;
 use std::alloc::{AllocError, Global};
@@ -20,6 +20,9 @@ pub trait Work: Drop {
     /// The task lets the module of a number enter, for the units from one time to before another.
     ghost enters: { Self → ℕ → ℕ → ℕ → Type 0 };
 
+    /// If the task has been done, the module of a number has passed the gate, for the units from one time to before another.
+    ghost passes: { Self → ℕ → ℕ → ℕ → Type 0 };
+
     /// How much work it is, in modules.
     fn weight(&self) -> usize {
         1
@@ -33,5 +36,6 @@ pub trait Work: Drop {
         gate: &G,
     ) -> Result<Self::Done, AllocError>
         requires allowed { IsAllowed (enters self) (G.may gate.now) }
-        ensures { IfOk result (λ done. gives self done) };
+        ensures done { IfOk result (λ done. gives self done) }
+        ensures passed { OnOk result (HavePassed (passes self) (G.passed gate.now)) };
 }

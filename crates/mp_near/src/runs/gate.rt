@@ -4,7 +4,7 @@ use mp_netlist::ModuleId;
 use mp_phase::Gate;
 use std::sync::Wait;
 
-/// A gate that each module of a region passes by its number in the netlist.
+/// A gate that each module of a region passes by its number in the netlist. One has passed it when it has passed the netlist's gate.
 #[derive(Drop)]
 pub(crate) struct RegionGate<'a, G> {
     pub gate: &'a G,
@@ -15,6 +15,8 @@ impl<G: Gate> Gate for RegionGate<'_, G> {
     ghost use Rattle.std.specs.Prelude.{slice_index_or};
 
     ghost may = { λ gate m from to. G.may gate.gate.now (slice_index_or gate.modules.now m 0) from to };
+
+    ghost passed = { λ gate m from to. G.passed gate.gate.now (slice_index_or gate.modules.now m 0) from to };
 
     fn enter<R: Wait>(&self, rt: &R, module: ModuleId, from: u32, to: u32) {
         let number = number_of(self.modules, module);

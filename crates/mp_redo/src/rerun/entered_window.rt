@@ -15,9 +15,10 @@ pub(crate) struct EnteredWindow {
 
 impl Rerun {
     ghost use Rattle.std.specs.Prelude.{◌≡◌};
-    ghost use Rattle.mp_depend.specs.recording.Live.{AreAtWork};
+    ghost use Rattle.mp_depend.specs.recording.Live.{AreAtWork, IsListed};
     ghost use Rattle.mp_depend.specs.work.Work.{block_of, IsEntry, IsWindow};
     ghost use Rattle.mp_phase.specs.Allowed.{IsAllowed};
+    ghost use Rattle.mp_redo.specs.rerun.Entering.{ActiveHavePassed};
     ghost use Rattle.mp_redo.specs.rerun.Reruns.{active_of};
 
     /// The active modules, which are at work before a window that begins at a time, pass the gate for it.
@@ -31,7 +32,9 @@ impl Rerun {
         requires allowed { IsAllowed (IsEntry change.now.old.now change.now.new.now) (G.may gate.now) }
         requires window { IsWindow change.now.new.now time self.now.window_end }
         requires work { AreAtWork change.now.old.now change.now.new.now (block_of change.now.new.now.horizon time) time (active_of self.now) }
-        ensures { result.end ≡ self.now.window_end }
+        requires listed { IsListed change.now.new.now (active_of self.now) self.now.recorder.live.items }
+        ensures end { result.end ≡ self.now.window_end }
+        ensures passed { ActiveHavePassed change.now.new.now (active_of self.now) (G.passed gate.now) time self.now.window_end }
     {
         for id in self.recorder.live() {
             if self.is_at_work(change, *id) {

@@ -28,7 +28,7 @@ pub(crate) struct Join {
 }
 
 /// The state in which a module becomes active, and its entry of the work. The module has passed the gate for the entry, and has come to the state from
-/// the entry's beginning on: only this file makes such a state, since the entry is private to it.
+/// the entry's beginning on. Only `work` of its task and `of_kept` make such a state, whose contracts say so: the entry is private to this file.
 #[derive(Drop)]
 pub(crate) struct JoiningState {
     entry: WorkEntry,
@@ -44,6 +44,8 @@ impl Work for Join {
     ghost gives = { λ join state. HasCome join.«module» join.part (levels_at join.inputs.items) join.memory join.from join.to join.window_end state.entry state.memory };
 
     ghost enters = { λ join. IsOnly join.«module».0 join.from join.window_end };
+
+    ghost passes = { λ join. IsOnly join.«module».0 join.from join.window_end };
 
     fn work<R: Wait, G: Gate>(
         self,
@@ -72,7 +74,7 @@ impl Work for Join {
 }
 
 impl JoiningState {
-    ghost use Rattle.std.specs.Prelude.{◌≡◌};
+    ghost use Rattle.std.specs.Prelude.{◌≡◌, true};
     ghost use Rattle.mp_netlist.specs.Circuit.{Circuit};
     ghost use Rattle.mp_netlist.specs.Slots.{slot_at};
     ghost use Rattle.mp_phase.specs.Allowed.{IsAllowed};
@@ -82,6 +84,7 @@ impl JoiningState {
     /// The state that the old run kept for the beginning of an entry of the work. The module of the entry passes the gate, which allows it to.
     pub(crate) fn of_kept<R: Wait, G: Gate>(rt: &R, gate: &G, run: &Run, entry: WorkEntry) -> Self
         requires { (old : Circuit) × (new : Circuit) × IsAllowed (IsEntry old new) (G.may gate.now) × IsEntry old new entry.«module».0 entry.from entry.to }
+        ensures passed { G.passed gate.now entry.«module».0 entry.from entry.to ≡ true }
         ensures entry { result.entry ≡ entry }
         ensures memory { result.memory ≡ state_in (slot_at run.now.kept entry.«module».0) entry.from }
     {

@@ -16,7 +16,8 @@ use std::thread::Threads;
 impl Rerun {
     ghost use Rattle.std.specs.Prelude.{◌≡◌, ◌-◌, ◌<◌, ◌≤◌, IfOk, OnOk};
     ghost use Rattle.mp_phase.specs.Allowed.{IsAllowed};
-    ghost use Rattle.mp_redo.specs.rerun.Reruns.{IsChange};
+    ghost use Rattle.mp_redo.specs.rerun.Entering.{ActiveHavePassed};
+    ghost use Rattle.mp_redo.specs.rerun.Reruns.{IsChange, active_of};
     ghost use Rattle.mp_redo.specs.rerun.Settling.{HasEnded, IsAhead};
     ghost use Rattle.mp_redo.specs.rerun.Windows.{IsUnderWay, IsAtWindow};
     ghost use Rattle.mp_depend.specs.work.Work.{block_of, window_of, IsEntry};
@@ -125,6 +126,7 @@ impl Rerun {
         requires before { IsAtWindow change.now.old.now change.now.new.now change.now.run.now (block_of change.now.new.now.horizon (time - 1)) (time - 1) self.old }
         ensures end { OnOk result (time < self.new.window_end) }
         ensures entered { IfOk result (λ window. window.end ≡ self.new.window_end) }
+        ensures passed { OnOk result (ActiveHavePassed change.now.new.now (active_of self.new) (G.passed gate.now) time self.new.window_end) }
         ensures after { OnOk result (IsUnderWay change.now.old.now change.now.new.now change.now.run.now (time - 1) self.new) }
     {
         self.begin_block(change, time)?;

@@ -19,6 +19,8 @@ impl Work for Number {
 
     ghost enters = { λ number m from to. Unit {0} };
 
+    ghost passes = { λ number m from to. ⊥ };
+
     fn work<R: Wait, G: Gate>(self, rt: &R, _alloc: Global, gate: &G) -> Result<u32, AllocError> {
         gate.enter(rt, ModuleId(self.value), 0, 1);
         if self.value == 13 {

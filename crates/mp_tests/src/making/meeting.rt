@@ -21,6 +21,8 @@ impl Gate for Meeting {
 
     ghost may = { λ gate m from to. true };
 
+    ghost passed = { λ gate m from to. true };
+
     fn enter<R: Wait>(&self, _rt: &R, _module: ModuleId, from: u32, _to: u32) {
         if from != self.time {
             return;
@@ -62,6 +64,8 @@ impl Gate for LentMeeting<'_> {
     ghost use Rattle.std.specs.Prelude.{true};
 
     ghost may = { λ gate m from to. true };
+
+    ghost passed = { λ gate m from to. true };
 
     fn enter<R: Wait>(&self, rt: &R, module: ModuleId, from: u32, to: u32) {
         self.meeting.enter(rt, module, from, to);

@@ -30,6 +30,8 @@ impl Gate for PassageCounter<'_> {
 
     ghost may = { λ gate m from to. true };
 
+    ghost passed = { λ gate m from to. true };
+
     fn enter<R: Wait>(&self, _rt: &R, module: ModuleId, from: u32, to: u32) {
         let entry = WorkEntry { module, from, to };
         if let Some(count) = self.counts.get(self.place_of(&entry)) {

@@ -20,6 +20,9 @@ enter_window-requires-clause-work g c =
     let next : c.args.time - 1 + 1 ≡ c.args.time = omega (arith, some) in
     subst (λ (t : ℕ). AreAtWork change.old.now change.new.now (block_of change.new.now.horizon c.args.time) t (active_of c.begin_block.new.self)) next c.in_ok-begin_block.ensures.work
 
+pub enter_window-requires-clause-listed : goal.enter_window-requires-clause-listed
+enter_window-requires-clause-listed g c = c.in_ok-begin_block.ensures.recorder.listed
+
 pub returns-clause-end : goal.returns-clause-end
 returns-clause-end g c =
     let new = c.args.change.now.new.now in

@@ -68,4 +68,4 @@ work-requires g c =
     record { allowed = task_allowed change.old.now change.new.now (g.G.Gate.may c.args.context.now.gate.now) c.requires.allowed c.in_ok-join.join c.in_ok-join.ensures.works }
 
 pub returns : goal.returns
-returns g c = IfOk-weaker c.work.result _ _ (λ state done. c.in_ok-join.ensures.is state done) c.work.ensures
+returns g c = IfOk-weaker c.work.result _ _ (λ state done. c.in_ok-join.ensures.is state done) c.work.ensures.done
