@@ -1,4 +1,4 @@
-//! The state in which a module becomes active, whose inputs have mostly rested.
+//! The state in which a module becomes active: the one that the old run has kept, if the inputs of the module have rested since.
 ghost use Rattle.std.specs.Prelude.{◌≡◌};
 
 use crate::rerun::join::JoiningState;
