@@ -1,10 +1,6 @@
 //! Reading an input's levels by rising time.
 
-ghost use Rattle.std.specs.Prelude.{◌≡◌, ℕ, ◌<◌, ◌≤◌, slice_index};
-ghost use Rattle.mp_wave.specs.Waveform.{level_from};
-ghost use Rattle.mp_model.specs.response.Pieces.{levels_at};
-
-use crate::response::in_piece::InPiece;
+ghost use Rattle.std.specs.Prelude.{◌≡◌, ℕ, ◌<◌, ◌≤◌};
 
 /// A present level, and the changes to come.
 #[derive(Clone, Copy)]

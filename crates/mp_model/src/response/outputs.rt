@@ -23,7 +23,7 @@ impl Model for Outputs {
 }
 
 impl Outputs {
-    ghost use Rattle.std.specs.Prelude.{◌≡◌, ℕ, ◌<◌, ◌≤◌, ◌∷◌, [], OnOk, length, slice_index_or};
+    ghost use Rattle.std.specs.Prelude.{◌≡◌, ℕ, ◌<◌, ◌≤◌, [], OnOk, length, slice_index_or};
     ghost use Rattle.mp_modules.specs.Memories.{output_of};
     ghost use Rattle.mp_model.specs.response.Span.{extended};
 
