@@ -93,8 +93,8 @@ last_time_written() { tail -c 4096 "/dev/fd/$answer" 2>/dev/null | sed -n '1d; $
 
 wait_for() { read -r -t "$1" -u "$nothing" || true; }
 
-# ends what says it, and takes its line away; where that is done, does nothing (a process below the script isn't the one that can wait for it, so it
-# looks until the number is gone: before that the script would end it once more, and take the line away behind the answer)
+# Ends what says it, and takes its line away. Where that is done already, it does nothing. Only the script can wait for the end. A process below the
+# script looks until the number is gone: if the answer came earlier, the script would end it once more, and take a line away behind the answer.
 end_telling() {
     if ! kill "$teller" 2>/dev/null; then return; fi
     wait "$teller" 2>/dev/null || while kill -0 "$teller" 2>/dev/null; do sleep 0.01; done
